@@ -1,7 +1,7 @@
 -- Refusal 3: the bracket count over the raw bytes of a query, before the grammar.
 use Prim.Native.Nat.{ℕ, suc, _-_}
 use mathlib.Core.List.{List, [], _∷_}
-use mathlib.Core.Bool.{Bool, true, false, cond, _||_}
+use mathlib.Core.Bool.{Bool, cond, _||_}
 use lib.Dec.{eqb, ltb}
 use Rattle.definition.specs.Limits.{maxBrackets}
 

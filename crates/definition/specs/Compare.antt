@@ -1,6 +1,6 @@
 -- The values of a filter, their equality and order. Numbers compare as whole numbers, by multiplying fractions out; no arithmetic on floats takes place.
 use Prim.Native.Nat.{ℕ, _*_, compare, Ordering, Ordering·lt, Ordering·eq, Ordering·gt}
-use mathlib.Core.List.{List, [], _∷_}
+use mathlib.Core.List.{List}
 use mathlib.Core.Bool.{Bool, true, false, not, Bool·beq, _&&_, _||_}
 use mathlib.Core.Option.{Option, none, some}
 use lib.Dec.{eqb, isEq}
@@ -9,7 +9,7 @@ use lib.Ieee.{Float, nan, inf, fin, up, down}
 use Rattle.definition.specs.Bytes.{sameBytes, orderBytes}
 use Rattle.definition.specs.Values.{Json, Kids, many, lookup}
 use Rattle.definition.specs.Values.Kids.{nil, more}
-use Rattle.definition.specs.Forms.{Operator, Literal}
+use Rattle.definition.specs.Forms.{Operator}
 use Rattle.definition.specs.Forms.Operator.{eq, ne, lt, le, gt, ge}
 
 -- "A value is null, a boolean, an integer, a float, a text or a node's value", which may also be a list or a map; an empty query has none.
@@ -43,7 +43,7 @@ abbrev pub signed : Bool → ℕ → ℤ
 signed false n = pos n
 signed true n = negℤ (pos n)
 
--- A finite float is m times two to e, negative where s is true. Tables and forms hold no other; what they stood for would be 0.
+-- A finite float is m times two to e, negative where s is true. NaN and the infinities, which no accepted table and no query form holds, are given 0.
 unfoldable pub floatFraction : Float → Fraction
 floatFraction nan = record { num = pos 0; den = 1 }
 floatFraction (inf s) = record { num = pos 0; den = 1 }

@@ -4,12 +4,12 @@ use mathlib.Core.List.{List, [], _∷_, _++_, map}
 use mathlib.Core.Bool.{Bool, true, false, cond, not, _&&_, _||_}
 use mathlib.Core.Option.{Option, none, some}
 use lib.Dec.{eqb}
-use lib.IntN.{ℤ, pos, natAbs}
+use lib.IntN.{pos, natAbs}
 use lib.Ieee.{binary64, ofBits}
 use lib.ListN.{length, take, drop}
 use Rattle.definition.specs.Limits.{maxInt}
 use Rattle.definition.specs.Slices.{indexPlaces, slicePlaces}
-use Rattle.definition.specs.Values.{Json, Kids, idOf, many, lookup, children, elements, members, descend}
+use Rattle.definition.specs.Values.{Json, idOf, many, lookup, children, elements, members, descend}
 use Rattle.definition.specs.Compare.{Value, nodeValue, floatFraction, compareValues}
 use Rattle.definition.specs.Compare.Value.{nothing}
 use Rattle.definition.specs.Forms.{Literal, Start, Query, Segments, Selectors, Selector, Test, Argument, Function}

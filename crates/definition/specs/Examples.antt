@@ -3,7 +3,7 @@ use Prim.Native.Nat.{ℕ}
 use mathlib.Core.Path.{_≡_, refl}
 use mathlib.Core.List.{List, [], _∷_}
 use mathlib.Core.Bool.{true}
-use lib.IntN.{ℤ, pos}
+use lib.IntN.{pos}
 use lib.Ieee.{binary64, ofBits}
 use lib.ListN.{length, replicate}
 use Rattle.definition.specs.Lexical.Int.{zeroInt, plainInt}
@@ -130,7 +130,7 @@ greaterQuery =
 
 pub greaterInTable : Gives (0x24 ∷ 0x5B ∷ 0x3F ∷ 0x39 ∷ 0x30 ∷ 0x30 ∷ 0x37 ∷ 0x31 ∷ 0x39 ∷ 0x39 ∷ 0x32 ∷ 0x35 ∷ 0x34 ∷ 0x37 ∷ 0x34 ∷ 0x30 ∷ 0x39 ∷ 0x39 ∷ 0x33 ∷ 0x20 ∷ 0x3E ∷ 0x20 ∷ 0x40 ∷ 0x5D ∷ []) floatTable [] (1 ∷ [])
 unfolding computes
-greaterInTable = record { allowed = refl; written = greaterQuery; spelled = refl; query = formOf (judge (walk greaterQuery)); means = refl; table = refl; selects = refl }
+greaterInTable = gives _ _ _ _ greaterQuery refl refl refl refl refl
 
 -- ---- "`$['a','a']` is 1 1"
 
@@ -140,7 +140,7 @@ repeatsQuery =
 
 pub repeatsKept : Gives (0x24 ∷ 0x5B ∷ 0x27 ∷ 0x61 ∷ 0x27 ∷ 0x2C ∷ 0x27 ∷ 0x61 ∷ 0x27 ∷ 0x5D ∷ []) sampleTable sampleText (1 ∷ 1 ∷ [])
 unfolding computes
-repeatsKept = gives _ _ repeatsQuery refl refl refl refl
+repeatsKept = gives _ _ _ _ repeatsQuery refl refl refl refl refl
 
 -- ---- the sample rows with length: `$[?length(@) == 0]` and `$[?length('é') == 2]` are 1 2
 
@@ -150,7 +150,7 @@ lengthQuery =
 
 pub lengthOfQuery : Gives (0x24 ∷ 0x5B ∷ 0x3F ∷ 0x6C ∷ 0x65 ∷ 0x6E ∷ 0x67 ∷ 0x74 ∷ 0x68 ∷ 0x28 ∷ 0x40 ∷ 0x29 ∷ 0x20 ∷ 0x3D ∷ 0x3D ∷ 0x20 ∷ 0x30 ∷ 0x5D ∷ []) sampleTable sampleText (1 ∷ 2 ∷ [])
 unfolding computes
-lengthOfQuery = gives _ _ lengthQuery refl refl refl refl
+lengthOfQuery = gives _ _ _ _ lengthQuery refl refl refl refl refl
 
 abbrev lengthTextQuery : G.Query
 lengthTextQuery =
@@ -158,7 +158,7 @@ lengthTextQuery =
 
 pub lengthInBytes : Gives (0x24 ∷ 0x5B ∷ 0x3F ∷ 0x6C ∷ 0x65 ∷ 0x6E ∷ 0x67 ∷ 0x74 ∷ 0x68 ∷ 0x28 ∷ 0x27 ∷ 0xC3 ∷ 0xA9 ∷ 0x27 ∷ 0x29 ∷ 0x20 ∷ 0x3D ∷ 0x3D ∷ 0x20 ∷ 0x32 ∷ 0x5D ∷ []) sampleTable sampleText (1 ∷ 2 ∷ [])
 unfolding computes
-lengthInBytes = gives _ _ lengthTextQuery refl refl refl refl
+lengthInBytes = gives _ _ _ _ lengthTextQuery refl refl refl refl refl
 
 -- the tree of the sample table has 6 nodes
 pub sixNodes : length (descend (tree sampleTable sampleText)) ≡ 6

@@ -1,15 +1,9 @@
--- Query forms: the trees that plans spell. They have no parentheses, blanks or spellings. What document 01 asks of a query form besides its shape is the predicate `isForm`.
-use Prim.Native.Nat.{ℕ, suc, max}
-use mathlib.Core.List.{List, [], _∷_}
+-- The forms of queries: trees without parentheses, blanks or spellings, over which evaluation is defined.
+use Prim.Native.Nat.{ℕ, suc}
+use mathlib.Core.List.{List}
 use mathlib.Core.Bool.{Bool, true, false, _&&_}
-use mathlib.Core.Option.{Option, none, some}
-use lib.Dec.{leb, ltb}
+use mathlib.Core.Option.{Option}
 use lib.IntN.{ℤ}
-use lib.Signed.{mag}
-use Rattle.definition.specs.Limits.{maxNesting}
-use Rattle.definition.specs.Utf8.{isUtf8}
-use Rattle.definition.specs.Literals.{inRange}
-use Rattle.definition.specs.Tables.{isFinite}
 
 -- a literal; a float is given by its bits
 pub data Literal : Type 0 where
@@ -100,105 +94,3 @@ isSingularSegments (descendant ss q) = false
 
 unfoldable pub isSingular : Query → Bool
 isSingular (query s q) = isSingularSegments q
-
--- ---- what a query form keeps to
-
--- an integer inside i64, "finite floats and UTF-8 texts"; byte strings hold bytes
-unfoldable pub literalRight : Literal → Bool
-literalRight null = true
-literalRight (boolean b) = true
-literalRight (integer z) = ltb (mag z) 0x8000000000000000
-literalRight (float b) = ltb b 0x10000000000000000 && isFinite b
-literalRight (text s) = isUtf8 s
-
--- "indices, bounds and steps in refusal 4's range"
-unfoldable pub boundRight : Option ℤ → Bool
-boundRight none = true
-boundRight (some z) = inRange z
-
-unfoldable mutual
-  pub queryRight : Query → Bool
-  queryRight (query s q) = segmentsRight q
-
-  pub segmentsRight : Segments → Bool
-  segmentsRight end = true
-  segmentsRight (child ss q) = selectorsRight ss && segmentsRight q
-  segmentsRight (descendant ss q) = selectorsRight ss && segmentsRight q
-
-  pub selectorsRight : Selectors → Bool
-  selectorsRight (one s) = selectorRight s
-  selectorsRight (and s ss) = selectorRight s && selectorsRight ss
-
-  pub selectorRight : Selector → Bool
-  selectorRight (name s) = isUtf8 s
-  selectorRight (index z) = inRange z
-  selectorRight (slice a b c) = boundRight a && (boundRight b && boundRight c)
-  selectorRight wildcard = true
-  selectorRight (filter t) = testRight t
-
-  pub testRight : Test → Bool
-  testRight (exists q) = queryRight q
-  testRight (compare o a b) = argumentRight a && argumentRight b
-  testRight (not t) = testRight t
-  testRight (notValue f) = functionRight f
-  testRight (both a b) = testRight a && testRight b
-  testRight (either a b) = testRight a && testRight b
-
-  pub argumentRight : Argument → Bool
-  argumentRight (literal l) = literalRight l
-  argumentRight (singular q) = isSingular q && queryRight q
-  argumentRight (value f) = functionRight f
-
-  pub functionRight : Function → Bool
-  functionRight (countOf q) = queryRight q
-  functionRight (lengthOf a) = argumentRight a
-  functionRight (valueOf q) = queryRight q
-
--- how many "filters, functions, nots and right operands of 16 or 17" stand around the innermost item; a left operand adds nothing
-unfoldable mutual
-  pub nesting : Query → ℕ
-  nesting (query s q) = nestingSegments q
-
-  pub nestingSegments : Segments → ℕ
-  nestingSegments end = 0
-  nestingSegments (child ss q) = max (nestingSelectors ss) (nestingSegments q)
-  nestingSegments (descendant ss q) = max (nestingSelectors ss) (nestingSegments q)
-
-  pub nestingSelectors : Selectors → ℕ
-  nestingSelectors (one s) = nestingSelector s
-  nestingSelectors (and s ss) = max (nestingSelector s) (nestingSelectors ss)
-
-  pub nestingSelector : Selector → ℕ
-  nestingSelector (name s) = 0
-  nestingSelector (index z) = 0
-  nestingSelector (slice a b c) = 0
-  nestingSelector wildcard = 0
-  nestingSelector (filter t) = suc (nestingTest t)
-
-  pub nestingTest : Test → ℕ
-  nestingTest (exists q) = nesting q
-  nestingTest (compare o a b) = max (nestingArgument a) (nestingArgument b)
-  nestingTest (not t) = suc (nestingTest t)
-  nestingTest (notValue f) = suc (nestingFunction f)
-  nestingTest (both a b) = max (nestingTest a) (suc (nestingTest b))
-  nestingTest (either a b) = max (nestingTest a) (suc (nestingTest b))
-
-  pub nestingArgument : Argument → ℕ
-  nestingArgument (literal l) = 0
-  nestingArgument (singular q) = nesting q
-  nestingArgument (value f) = nestingFunction f
-
-  pub nestingFunction : Function → ℕ
-  nestingFunction (countOf q) = suc (nesting q)
-  nestingFunction (lengthOf a) = suc (nestingArgument a)
-  nestingFunction (valueOf q) = suc (nesting q)
-
--- a whole query begins at `$`
-unfoldable pub startsAtRoot : Query → Bool
-startsAtRoot (query root q) = true
-startsAtRoot (query current q) = false
-
--- "A query form is a tree that the RFC's grammar (parentheses aside) and the typing rules allow, with indices, bounds and steps in refusal 4's range,
--- finite floats and UTF-8 texts, and no item inside more than 128 filters, functions, nots and right operands of 16 or 17 together."
-unfoldable pub isForm : Query → Bool
-isForm q = startsAtRoot q && (queryRight q && leb (nesting q) maxNesting)

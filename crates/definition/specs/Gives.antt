@@ -1,6 +1,6 @@
 -- What a row claims: that a query, given by its bytes, selects certain nodes from a table.
 use Prim.Native.Nat.{ℕ}
-use mathlib.Core.Path.{_≡_, refl}
+use mathlib.Core.Path.{_≡_, refl, subst}
 use mathlib.Core.List.{List, [], _∷_}
 use Rattle.definition.specs.Lexical.{Blanks}
 use Rattle.definition.specs.Grammar as G
@@ -12,18 +12,13 @@ use Rattle.definition.specs.Walk.{walk}
 use Rattle.definition.specs.Tables.{checkTable, tree}
 use Rattle.definition.specs.Tables.Checked.{accepted}
 use Rattle.definition.specs.Evaluation.{selected}
-use Rattle.definition.specs.Outcomes.{Reading, early, judge}
+use Rattle.definition.specs.Outcomes.{Reading, Reads, early, judge, hasTree}
 use Rattle.definition.specs.Outcomes.Reading.{form, refused}
-use Rattle.definition.specs.Sample.{sampleTable, sampleText}
-use Rattle.definition.specs.Computes.{computes}
 
--- The query s is in the grammar, has a form, and the form selects the nodes ns from the table T with the text X, which is accepted.
+-- The query s has a form, and the form selects the nodes ns from the table T with the text X, which is accepted.
 pub record Gives (s T X ns : List ℕ) : Type 0 where
-  pub allowed : early s ≡ 0
-  pub written : G.Query
-  pub spelled : spell written ≡ s
   pub query : Query
-  pub means : judge (walk written) ≡ form query
+  pub reads : Reads s (form query)
   pub table : checkTable T X ≡ accepted
   pub selects : selected query (tree T X) ≡ ns
 
@@ -39,8 +34,7 @@ abbrev pub formOf : Reading → Query
 formOf (refused n) = Query.query root end
 formOf (form q) = q
 
--- a row over the sample table, from the tree that spells its query
-pub gives : (s ns : List ℕ) (t : G.Query) → early s ≡ 0 → spell t ≡ s → judge (walk t) ≡ form (formOf (judge (walk t))) → selected (formOf (judge (walk t))) (tree sampleTable sampleText) ≡ ns
-    → Gives s sampleTable sampleText ns
-unfolding computes
-gives s ns t a b c d = record { allowed = a; written = t; spelled = b; query = formOf (judge (walk t)); means = c; table = refl; selects = d }
+-- a row, from a tree that spells its query
+pub gives : (s T X ns : List ℕ) (t : G.Query) → early s ≡ 0 → spell t ≡ s → judge (walk t) ≡ form (formOf (judge (walk t))) → checkTable T X ≡ accepted
+    → selected (formOf (judge (walk t))) (tree T X) ≡ ns → Gives s T X ns
+gives s T X ns t a b c d e = record { query = formOf (judge (walk t)); reads = subst (Reads s) c (hasTree a t b); table = d; selects = e }

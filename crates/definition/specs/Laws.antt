@@ -8,7 +8,7 @@ use lib.IntN.{ℤ, pos, negsuc, _+ℤ_}
 use lib.Dec.{ltb}
 use Rattle.definition.specs.Bytes.{every}
 use Rattle.definition.specs.Utf8.{encode, encodeAll}
-use Rattle.definition.specs.Lexical.{Name, Char, Quote, Text, isUnescaped, nameBytes, spellChars, spellText, ownByte}
+use Rattle.definition.specs.Lexical.{Name, Char, Quote, isUnescaped, nameBytes, spellChars, spellText, ownByte}
 use Rattle.definition.specs.Lexical.Char.{plain}
 use Rattle.definition.specs.Literals.{charBytes, charsBytes, textBytes}
 use Rattle.definition.specs.Slices.{elementAt, goesOn, walkPlaces, sliceStart, sliceStop, sliceStep, slicePlaces}
@@ -22,7 +22,7 @@ use Rattle.definition.specs.Grammar.Basic.{testBasic}
 use Rattle.definition.specs.Grammar.Test.{queryTest, functionTest}
 use Rattle.definition.specs.Grammar.Argument.{queryArgument, logicalArgument, functionArgument}
 use Rattle.definition.specs.Forms as F
-use Rattle.definition.specs.Walk.{Walked, Expression, Operand, also, next, fine, compared, walkFilterQuery, walkFunction, walkArgument, walkOr, walkMoreOr, walkAnd, walkMoreAnd, walkBasic, walkTest}
+use Rattle.definition.specs.Walk.{Walked, Expression, Operand, also, next, fine, compared, walkFilterQuery, walkFunction, walkArgument}
 use Rattle.definition.specs.Walk.Walked.{refused, walked}
 use Rattle.definition.specs.Walk.Expression.{nodes, valued, logical}
 use Rattle.definition.specs.Walk.Operand.{expression}

@@ -5,9 +5,9 @@ use Prim.Native.Nat.{ℕ, _+_, _*_, _-_}
 use mathlib.Core.Path.{_≡_}
 use mathlib.Core.List.{List, [], _∷_, _++_}
 use mathlib.Core.Bool.{Bool, true, false, cond, not, _&&_, _||_}
-use lib.Dec.{eqb, leb, ltb}
+use lib.Dec.{eqb, leb}
 use Rattle.definition.specs.Bytes.{every, within}
-use Rattle.definition.specs.Utf8.{isScalar, encode, encodeAll}
+use Rattle.definition.specs.Utf8.{encode, encodeAll}
 
 -- ---- classes of characters
 

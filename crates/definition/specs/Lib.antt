@@ -10,6 +10,7 @@ pub mod Tables
 pub mod TableOutcomes
 pub mod Grammar
 pub mod Forms
+pub mod QueryForms
 pub mod Walk
 pub mod Compare
 pub mod Evaluation
@@ -21,3 +22,5 @@ pub mod Gives
 pub mod Rows
 pub mod Examples
 pub mod Laws
+pub mod Points
+pub mod Cases

@@ -1,5 +1,5 @@
 -- The numbers that document 01 names as limits, each stated once.
-use Prim.Native.Nat.{ℕ, _^_, _-_}
+use Prim.Native.Nat.{ℕ}
 
 -- refusal 1: "query over 4,096 bytes"
 abbrev pub maxQuery : ℕ

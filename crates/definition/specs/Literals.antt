@@ -1,16 +1,14 @@
 -- What the literals of a query stand for: quoted texts, whole numbers with their range, number literals.
 use Prim.Native.Nat.{ℕ, _+_, _-_, _*_, _^_}
 use mathlib.Core.List.{List, [], _∷_, _++_}
-use mathlib.Core.Bool.{Bool, true, false, cond, _&&_, _||_}
-use mathlib.Core.Option.{Option, none, some}
+use mathlib.Core.Bool.{Bool, true, false, cond, _&&_}
 use lib.Dec.{eqb, leb, ltb}
 use lib.IntN.{ℤ, pos, negsuc, negℤ, _-ℤ_, natAbs}
 use lib.Ieee.{binary64, round, toBits}
 use lib.ListN.{length}
-use lib.Signed.{mag}
 use Rattle.definition.specs.Limits.{maxInt, maxPower}
 use Rattle.definition.specs.Utf8.{encode}
-use Rattle.definition.specs.Lexical.{Natural, Digits, Int, Whole, Fraction, Sign, Exponent, Number, Hex4, Escape, Char, Quote, Text, hex4Value, ownByte, otherByte}
+use Rattle.definition.specs.Lexical.{Natural, Digits, Int, Whole, Fraction, Sign, Exponent, Number, Escape, Char, Quote, Text, hex4Value, ownByte, otherByte}
 use Rattle.definition.specs.Lexical.Int.{zeroInt, plainInt, minusInt}
 use Rattle.definition.specs.Lexical.Whole.{intWhole, minusZero}
 use Rattle.definition.specs.Lexical.Fraction.{noFraction, fraction}
@@ -98,17 +96,14 @@ isMinus (intWhole (plainInt n)) = false
 isMinus (intWhole (minusInt n)) = true
 isMinus minusZero = true
 
-unfoldable pub fractionDigits : Fraction → List ℕ
-fractionDigits noFraction = []
-fractionDigits (fraction d) = digitsOf d
-
 unfoldable pub exponentValue : Exponent → ℤ
 exponentValue noExponent = pos 0
 exponentValue (exponent e h noSign d) = pos (decimal (digitsOf d))
 exponentValue (exponent e h plusSign d) = pos (decimal (digitsOf d))
 exponentValue (exponent e h minusSign d) = negℤ (pos (decimal (digitsOf d)))
 
--- the float nearest to N times ten to E, ties to even: one rounding of an exact fraction
+-- the float nearest to N times ten to E, ties to even: one rounding of an exact fraction, by the toolchain's `round`.
+-- That this is the nearest float over whole numbers, and the even one at a tie, is a law of the crate `rounding`.
 unfoldable pub nearest : Bool → ℕ → ℤ → ℕ
 nearest s n (pos e) = toBits binary64 (round binary64 s (n * 10 ^ e) 1)
 nearest s n (negsuc e) = toBits binary64 (round binary64 s n (10 ^ (e + 1)))

@@ -1,9 +1,9 @@
 -- The outcomes of compile, select, run and plan check: for an input, the answer's numbers and what every lent place holds afterwards.
 -- Whether some tree spells a query, and whether some form spells a plan, are not computed here. So these outcomes are relations between inputs and outcomes.
--- That two outcomes of one input coincide is proved where the reader and the plan check are.
+-- That two outcomes of one input coincide is to be proved where the reader and the plan check are.
 use Prim.Native.Nat.{ℕ, _-_, _≤_}
 use mathlib.Core.Path.{_≡_}
-use mathlib.Core.List.{List, [], _∷_}
+use mathlib.Core.List.{List}
 use mathlib.Core.Bool.{Bool, true, false, cond, not, _&&_}
 use lib.Dec.{leb, ltb}
 use lib.ListN.{length, take}
@@ -15,7 +15,8 @@ use Rattle.definition.specs.Grammar as G
 use Rattle.definition.specs.Grammar.{spell}
 use Rattle.definition.specs.Walk.{Walked, walk}
 use Rattle.definition.specs.Walk.Walked.{walked}
-use Rattle.definition.specs.Forms.{Query, isForm}
+use Rattle.definition.specs.Forms.{Query}
+use Rattle.definition.specs.QueryForms.{isForm}
 use Rattle.definition.specs.Tables.{Checked, checkTable, tree}
 use Rattle.definition.specs.Tables.Checked.{accepted, sized, wrongAt}
 use Rattle.definition.specs.Evaluation.{selected}
@@ -89,7 +90,7 @@ pub record Compiles (s P L : List ℕ) (o : CompileOutcome) : Type 0 where
 
 -- ---- run and select
 
--- the refusal, 0 for none; the number of places written; the least wrong node where 10 names one; what the lent list holds afterwards
+-- the refusal, 0 for none; the number of nodes selected, 0 with every refusal; the least wrong node where 10 names one; what the lent list holds afterwards
 pub record RunOutcome : Type 0 where
   pub refusal : ℕ
   pub count : ℕ
@@ -136,6 +137,7 @@ pub record ChecksPlan (plan pool : List ℕ) (n : ℕ) : Type 0 where
   pub reads : Spells plan pool reading
   pub is : n ≡ refusalOf reading
 
--- "All that compiles keeps to it": a query that has a form has a query form. This is a statement about the definitions above, and it is proved with the reader.
+-- "All that compiles keeps to it": what compiles is a query form, and its plan and pool are within 65,535 bytes, so plan check and run take them.
+-- This is a statement about the definitions above, to be proved with the reader.
 abbrev pub CompiledKeeps : Type 0
-CompiledKeeps = (s : List ℕ) (q : Query) → Reads s (form q) → isForm q ≡ true
+CompiledKeeps = (s : List ℕ) (q : Query) → Reads s (form q) → Translates q (planOf q) (poolOf q)

@@ -1,8 +1,7 @@
 -- Document 01's starred sample rows, from the query's bytes and the table's records to the node numbers, as one table under one theorem.
 use Prim.Native.Nat.{ℕ}
-use mathlib.Core.Path.{_≡_, refl}
+use mathlib.Core.Path.{refl}
 use mathlib.Core.List.{List, [], _∷_}
-use mathlib.Core.Bool.{true}
 use Rattle.definition.specs.Lexical.Int.{zeroInt, plainInt, minusInt}
 use Rattle.definition.specs.Lexical.Whole.{intWhole}
 use Rattle.definition.specs.Lexical.Fraction.{noFraction}
@@ -142,29 +141,29 @@ tree12 =
 pub starred : AllGive starredRows
 unfolding computes
 starred = (
-  gives _ _ tree1 refl refl refl refl,
+  gives _ _ _ _ tree1 refl refl refl refl refl,
   (
-    gives _ _ tree2 refl refl refl refl,
+    gives _ _ _ _ tree2 refl refl refl refl refl,
     (
-      gives _ _ tree3 refl refl refl refl,
+      gives _ _ _ _ tree3 refl refl refl refl refl,
       (
-        gives _ _ tree4 refl refl refl refl,
+        gives _ _ _ _ tree4 refl refl refl refl refl,
         (
-          gives _ _ tree5 refl refl refl refl,
+          gives _ _ _ _ tree5 refl refl refl refl refl,
           (
-            gives _ _ tree6 refl refl refl refl,
+            gives _ _ _ _ tree6 refl refl refl refl refl,
             (
-              gives _ _ tree7 refl refl refl refl,
+              gives _ _ _ _ tree7 refl refl refl refl refl,
               (
-                gives _ _ tree8 refl refl refl refl,
+                gives _ _ _ _ tree8 refl refl refl refl refl,
                 (
-                  gives _ _ tree9 refl refl refl refl,
+                  gives _ _ _ _ tree9 refl refl refl refl refl,
                   (
-                    gives _ _ tree10 refl refl refl refl,
+                    gives _ _ _ _ tree10 refl refl refl refl refl,
                     (
-                      gives _ _ tree11 refl refl refl refl,
+                      gives _ _ _ _ tree11 refl refl refl refl refl,
                       (
-                        gives _ _ tree12 refl refl refl refl,
+                        gives _ _ _ _ tree12 refl refl refl refl refl,
                         tt,
                       ),
                     ),

@@ -1,11 +1,11 @@
 -- Which elements of a list of n an index and a slice select, over whole numbers.
 use Prim.Native.Nat.{ℕ, zero, suc}
 use mathlib.Core.List.{List, [], _∷_, _++_}
-use mathlib.Core.Bool.{Bool, true, false, cond}
+use mathlib.Core.Bool.{Bool, false, cond}
 use mathlib.Core.Option.{Option, none, some}
 use lib.Dec.{ltb}
 use lib.IntN.{ℤ, pos, negsuc, negℤ, _+ℤ_, _-ℤ_}
-use lib.Signed.{ltZ, leZ}
+use lib.Signed.{ltZ}
 
 -- "Negative bounds have n added once", and a negative index has "the length"
 unfoldable pub addOnce : ℕ → ℤ → ℤ

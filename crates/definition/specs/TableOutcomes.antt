@@ -1,8 +1,8 @@
 -- The outcomes of table check, text of a node and key of a node: the answer's numbers, and what the lent number holds afterwards.
 -- Each is a function of the input, so it leaves one outcome.
 use Prim.Native.Nat.{ℕ}
-use mathlib.Core.List.{List, [], _∷_}
-use mathlib.Core.Bool.{Bool, true, false, cond, _&&_}
+use mathlib.Core.List.{List, []}
+use mathlib.Core.Bool.{Bool, true, false, _&&_}
 use mathlib.Core.Option.{Option, none, some}
 use lib.Dec.{eqb, ltb}
 use Rattle.definition.specs.Tables.{Checked, checkTable, nodeCount, kindAt, kindText, kindMap, keyBytes, textBytesAt, parentOf}

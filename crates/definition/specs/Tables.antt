@@ -1,7 +1,7 @@
 -- The table of values: its records, each rule for a node, the least node at which a rule fails, and the tree of values that a table holds.
 -- T is the table's bytes, X the text's, i a node number.
 use Prim.Native.Nat.{ℕ, zero, suc, _+_, _-_, _*_, _/_, _%_}
-use mathlib.Core.List.{List, [], _∷_}
+use mathlib.Core.List.{List}
 use mathlib.Core.Bool.{Bool, true, false, cond, not, _&&_, _||_}
 use mathlib.Core.Option.{Option, none, some}
 use lib.Dec.{eqb, leb, ltb}
@@ -65,15 +65,16 @@ isContainer T i = eqb (kindAt T i) kindList || eqb (kindAt T i) kindMap
 unfoldable pub childCount : List ℕ → ℕ → ℕ
 childCount T i = cond (isContainer T i) (highWord T i) 0
 
--- "1 plus the child counts of all nodes before i"
+-- "the child counts of all nodes before i"
 unfoldable pub countsBefore : List ℕ → ℕ → ℕ
 countsBefore T zero = 0
 countsBefore T (suc i) = countsBefore T i + childCount T i
 
+-- where the children of node i are due to begin: "1 plus the child counts of all nodes before i". An empty container has none, and its field is 0.
 abbrev pub firstChild : List ℕ → ℕ → ℕ
 firstChild T i = 1 + countsBefore T i
 
--- the part of the text that a start and a length name, and whether it lies inside the text and is UTF-8
+-- the parts of the text that a key and a text name
 abbrev pub keyBytes : List ℕ → List ℕ → ℕ → List ℕ
 keyBytes T X i = part X (keyStart T i) (keyLength T i)
 
@@ -195,7 +196,7 @@ unfoldable pub treeAt : ℕ → List ℕ → List ℕ → ℕ → Json
 treeAt zero T X i = null i
 treeAt (suc f) T X i = valueBy T X i (row (treeAt f T X) (keyBytes T X) (firstChild T i) (childCount T i))
 
--- the value of node i, wherever it stands
+-- the value of node i of an accepted table, wherever it stands
 unfoldable pub nodeAt : List ℕ → List ℕ → ℕ → Json
 nodeAt T X i = treeAt (suc maxDepth - depthAt T i) T X i
 

@@ -55,6 +55,6 @@ isUtf8From (tail lo hi n) [] = false
 isUtf8From bad [] = false
 isUtf8From w (b ∷ s) = isUtf8From (afterByte w b) s
 
--- refusal 2 is that this fails; "Texts and keys .. are UTF-8"
+-- refusal 2 is that this fails; "Texts and keys .. are UTF-8". The crate `utf8` proves that these are the texts that `encodeAll` gives for scalar values.
 unfoldable pub isUtf8 : List ℕ → Bool
 isUtf8 s = isUtf8From ready s

@@ -1,7 +1,7 @@
 -- Values as trees. Every value carries the number of its node, and the children of a list or a map stand in table order, each with its key.
 use Prim.Native.Nat.{ℕ, suc}
 use mathlib.Core.List.{List, [], _∷_, _++_}
-use mathlib.Core.Bool.{Bool, true, false, cond}
+use mathlib.Core.Bool.{Bool, cond}
 use mathlib.Core.Option.{Option, none, some}
 use lib.IntN.{ℤ}
 use lib.Ieee.{Float}

@@ -1,13 +1,12 @@
 -- The walk over a query's tree in the Rust's order (parser.rs): the first of refusals 4, 5 and 6, or the form of the query.
 -- The form has no parentheses, blanks or spellings. Besides it the walk tells whether match or search is called and whether a float literal is beyond the exact range, for refusals 7 and 8.
 use Prim.Native.Nat.{ℕ}
-use mathlib.Core.Path.{_≡_, refl}
 use mathlib.Core.List.{List, [], _∷_}
 use mathlib.Core.Bool.{Bool, true, false, cond, _||_}
 use mathlib.Core.Option.{Option, none, some}
 use lib.IntN.{ℤ}
 use Rattle.definition.specs.Bytes.{sameBytes}
-use Rattle.definition.specs.Lexical.{Int, FunctionName, Bound, Step, Slice, nameBytes, functionBytes}
+use Rattle.definition.specs.Lexical.{Int, Bound, Step, Slice, nameBytes, functionBytes}
 use Rattle.definition.specs.Lexical.Bound.{noBound, bound}
 use Rattle.definition.specs.Lexical.Step.{noStep, colon, step}
 use Rattle.definition.specs.Literals.{textBytes, intValue, inRange, Numeral, numeral}
@@ -188,9 +187,9 @@ named s =
     (cond (sameBytes s (0x6D ∷ 0x61 ∷ 0x74 ∷ 0x63 ∷ 0x68 ∷ [])) match
     (cond (sameBytes s (0x73 ∷ 0x65 ∷ 0x61 ∷ 0x72 ∷ 0x63 ∷ 0x68 ∷ [])) search unknown))))
 
--- A call of match or search has no form. This test stands in its place, in a query that refusal 7 keeps from having a form.
-unfoldable pub unformed : F.Test
-unformed = exists (query current end)
+-- A call of match or search has no form. A comparison of its arguments stands in its place, in a query that refusal 7 keeps from having a form.
+unfoldable pub unformed : F.Argument → F.Argument → F.Test
+unformed a b = compare eq a b
 
 -- the one argument of a function that has one, and the two of one that has two
 unfoldable pub only : {A : Type 0} → List Operand → (Operand → Walked A) → Walked A
@@ -201,7 +200,7 @@ only (x ∷ y ∷ xs) f = refused 5
 unfoldable pub asRegex : List Operand → Walked Expression
 asRegex [] = refused 5
 asRegex (x ∷ []) = refused 5
-asRegex (x ∷ y ∷ []) = next (asValue x) (λ a. next (asValue y) (λ b. walked true false (logical unformed)))
+asRegex (x ∷ y ∷ []) = next (asValue x) (λ a. next (asValue y) (λ b. walked true false (logical (unformed a b))))
 asRegex (x ∷ y ∷ z ∷ xs) = refused 5
 
 unfoldable pub call : Named → List Operand → Walked Expression
@@ -243,7 +242,7 @@ unfoldable mutual
   walkSelector (indexSelector i) = next (walkInt i) (λ z. fine (index z))
   walkSelector (filterSelector b e) = next (walkOr e true) (λ x. fine (filter (asTest x)))
 
-  -- a says whether a value function may not stand alone. "Chains of `&&` or of `||` group from the left"
+  -- a says whether a value function alone is refused. "Chains of `&&` or of `||` group from the left"
   pub walkOr : G.LogicalOr → Bool → Walked Expression
   walkOr (logicalOr x xs) a = next (walkAnd x a) (λ e. walkMoreOr xs a e)
 
