@@ -1,0 +1,36 @@
+-- What may follow a tree of the grammar: the byte after blanks, by what it begins.
+use mathlib.Core.Bool.{Bool, cond, _||_}
+use mathlib.Core.List.{List, [], _∷_}
+use Prim.Native.Nat.{ℕ, _<_}
+use lib.Dec.{eqb, leb}
+use Rattle.definition.specs.Lexical.{isBlank, isAlpha, isDigit}
+
+-- the first byte, or 256 at the end
+abbrev pub hd : List ℕ → ℕ
+hd [] = 256
+hd (c ∷ s) = c
+
+-- without the blanks that it begins with
+abbrev pub unblank : List ℕ → List ℕ
+unblank [] = []
+unblank (c ∷ s) = cond (isBlank c) (unblank s) (c ∷ s)
+
+-- the bytes of name-char in UTF-8
+abbrev pub isNameByte : ℕ → Bool
+isNameByte c = isAlpha c || (eqb c 0x5F || (isDigit c || leb 0x80 c))
+
+-- A tree of level k is followed by a byte of a higher rank.
+-- `.` `[` 1; `=` `!` `<` `>` 2; `&` 3; `|` 4; `,` 5; `]` and the end 6; `)` 7; any other byte 0.
+
+abbrev pub rank : ℕ → ℕ
+rank c =
+    cond (eqb c 0x2E || eqb c 0x5B) 1
+    (cond (eqb c 0x3D || (eqb c 0x21 || (eqb c 0x3C || eqb c 0x3E))) 2
+    (cond (eqb c 0x26) 3
+    (cond (eqb c 0x7C) 4
+    (cond (eqb c 0x2C) 5
+    (cond (eqb c 0x5D || eqb c 256) 6
+    (cond (eqb c 0x29) 7 0))))))
+
+pub record After (k : ℕ) (r : List ℕ) : Type 0 where
+  pub above : k < rank (hd (unblank r))

@@ -1,0 +1,4 @@
+pub mod Follow
+pub mod Numbers
+pub mod Leaves
+pub mod Pieces

@@ -1,0 +1,6 @@
+pub mod Bytes
+pub mod Encode
+pub mod Decode
+pub mod Scan
+pub mod Unique
+pub mod Names

@@ -1,0 +1,13 @@
+pub mod Effects
+pub mod Sorts
+pub mod Writes
+pub mod Laws
+pub mod Agreement
+pub mod Codes
+pub mod Parts
+pub mod Expressions
+pub mod Segments
+pub mod Agrees
+pub mod Singular
+pub mod Spellings
+pub mod Sizes
