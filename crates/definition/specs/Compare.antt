@@ -44,22 +44,22 @@ signed false n = pos n
 signed true n = negℤ (pos n)
 
 -- A finite float is m times two to e, negative where s is true. NaN and the infinities, which no accepted table and no query form holds, are given 0.
-unfoldable pub floatFraction : Float → Fraction
+abbrev pub floatFraction : Float → Fraction
 floatFraction nan = record { num = pos 0; den = 1 }
 floatFraction (inf s) = record { num = pos 0; den = 1 }
 floatFraction (fin s m e) = record { num = signed s (m * up e); den = down e }
 
-unfoldable pub wholeFraction : ℤ → Fraction
+abbrev pub wholeFraction : ℤ → Fraction
 wholeFraction z = record { num = z; den = 1 }
 
 -- the order of two whole numbers
-unfoldable pub orderZ : ℤ → ℤ → Ordering
+abbrev pub orderZ : ℤ → ℤ → Ordering
 orderZ (pos a) (pos b) = compare a b
 orderZ (pos a) (negsuc b) = Ordering·gt
 orderZ (negsuc a) (pos b) = Ordering·lt
 orderZ (negsuc a) (negsuc b) = compare b a
 
-unfoldable pub orderFractions : Fraction → Fraction → Ordering
+abbrev pub orderFractions : Fraction → Fraction → Ordering
 orderFractions a b = orderZ (a .num *ℤ pos (b .den)) (b .num *ℤ pos (a .den))
 
 unfoldable pub numberOf : Value → Option Fraction

@@ -1,0 +1,5 @@
+pub mod Orders
+pub mod Signs
+pub mod Patterns
+pub mod Shifts
+pub mod Mixed

@@ -1,0 +1,5 @@
+pub mod Places
+pub mod Loops
+pub mod Unique
+pub mod Shapes
+pub mod Bits

@@ -1,0 +1,35 @@
+-- A byte at a place of a text. Assumes nothing.
+use mathlib.Core.Path.{_≡_, refl, sym, ap, _∙_}
+use mathlib.Core.Bool.{Bool, true, false}
+use mathlib.Core.List.{List, [], _∷_}
+use Prim.Native.Nat.{ℕ, _+_, _≤_, _<_}
+use native.Mathlib.Numerals.{add-one}
+use native.Mathlib.Omega.{arith}
+use borrow.Author.Tests.{eqb-true, eqb-false}
+use lib.Dec.{eqb}
+use lib.ListN.{length, drop, getD, drop-of-length-le}
+use lib.Seq.{drop-cons}
+use Rattle.digits.specs.Runs.{Is}
+
+-- The text from a place on begins with the byte there.
+pub drop-at : (s : List ℕ) (i : ℕ) → i < length s → drop i s ≡ getD s i 0 ∷ drop (i + 1) s
+drop-at s i h = rw (add-one, drop-cons s i 0)
+
+-- An empty text is no other.
+pub empty-not : {x : ℕ} {r : List ℕ} → [] ≡ x ∷ r → ⊥
+empty-not e = let z : _≡_ {A = ℕ} 0 1 = cc in omega arith
+
+-- A test of the byte at a place says whether it stands there.
+pub is-tested : (s : List ℕ) (at x : ℕ) → at < length s → Is s at x (eqb (getD s at 0) x)
+is-tested s at x h = go (eqb (getD s at 0) x) refl
+  where
+    go : (t : Bool) → eqb (getD s at 0) x ≡ t → Is s at x t
+    go true e = (omega arith, drop-at s at h ∙ ap (λ (c : ℕ). c ∷ drop (at + 1) s) (eqb-true (getD s at 0) x e))
+    go false e = λ r f.
+        let d = drop-at s at h in
+        let g : getD s at 0 ≡ x = cc in
+        eqb-false (getD s at 0) x e g
+
+-- Past the end no byte stands.
+pub is-past : (s : List ℕ) (at x : ℕ) → length s ≤ at → Is s at x false
+is-past s at x h = λ r f. empty-not (sym (drop-of-length-le s h) ∙ f)

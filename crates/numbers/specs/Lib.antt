@@ -1,0 +1,4 @@
+pub mod Ints
+pub mod Parts
+pub mod Numbers
+pub mod Outcomes

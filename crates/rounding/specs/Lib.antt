@@ -1,0 +1,4 @@
+pub mod Near
+pub mod Round
+pub mod Unique
+pub mod Decimal
