@@ -9,7 +9,7 @@ use native.Mathlib.Omega.{arith}
 use borrow.Author.Tests.{lt-ltb, le-ltb, le-leb, lt-leb, ne-eqb, eqb-true, eqb-false, leb-true, leb-false, ltb-true, ltb-false}
 use lib.Dec.{eqb, leb, ltb}
 use Rattle.definition.specs.Bytes.{within}
-use Rattle.definition.specs.Utf8.{Wait, afterFirst, afterByte, moreTails, isUtf8From}
+use Rattle.definition.specs.Utf8.{afterFirst, afterByte, moreTails, isUtf8From}
 use Rattle.definition.specs.Utf8.Wait.{ready, tail, bad}
 
 -- a proof by the two outcomes of a test
@@ -110,11 +110,6 @@ lead b =
     by-test (leb b 0xF4) (λ t. four (leb-false b 0xEF e) (leb-true b 0xF4 t)) (λ f. wrong (after-high b (leb-false b 0xF4 f)))))))
 
 -- ---- a text behind a state
-
--- one byte goes from a state to the next
-pub step : (w : Wait) (b : ℕ) (s : List ℕ) → isUtf8From w (b ∷ s) ≡ isUtf8From (afterByte w b) s
-unfolding isUtf8From
-step w b s = refl
 
 -- a wrong byte stays wrong
 pub stays-bad : (s : List ℕ) → isUtf8From bad s ≡ false

@@ -1,0 +1,10 @@
+pub mod Places
+pub mod Hexes
+pub mod Lows
+pub mod Surrogates
+pub mod Letters
+pub mod Chars
+pub mod Escaping
+pub mod Storing
+pub mod Texts
+pub mod Parts

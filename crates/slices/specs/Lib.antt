@@ -1,0 +1,4 @@
+pub mod Walks
+pub mod Laws
+pub mod Walking
+pub mod Meaning

@@ -1,0 +1,110 @@
+-- Equality of texts: what the test says of the texts, and a comparison piece by piece.
+-- Assumes nothing.
+use Prim.Native.Nat.{ℕ, _+_, _≤_, _<_}
+use native.Mathlib.Nat.{suc-inj, suc-ne-zero}
+use native.Mathlib.Omega.{arith}
+use mathlib.Core.Path.{_≡_, refl, sym, ap, _∙_}
+use mathlib.Core.Bool.{true, false, and-eq-true-iff, false≢true}
+use mathlib.Core.List.{List, [], _∷_, _++_}
+use borrow.Author.Tests.{eq-eqb, eqb-true, ltb-true}
+use lib.Dec.{eqb}
+use lib.ListN.{length, take, drop, getD, take-append-drop, drop-of-length-le}
+use lib.Seq.{drop-drop}
+use Rattle.definition.specs.Bytes.{every, part, number, sameBytes}
+use Rattle.utf8.specs.Bytes.{by-test}
+use Rattle.text.specs.Words.{Word}
+use Rattle.text.proofs.Numbers.{length-part, part-one}
+use Rattle.text.proofs.Ascii.{isByte, are-bytes, every-part}
+
+-- ---- what the test says
+
+-- a text is the same as itself
+pub same-self : (s : List ℕ) → sameBytes s s ≡ true
+unfolding sameBytes
+same-self [] = refl
+same-self (x ∷ s) = rw (eq-eqb x x refl) (same-self s)
+
+-- texts that pass the test are equal
+pub same-true : (s t : List ℕ) → sameBytes s t ≡ true → s ≡ t
+unfolding sameBytes
+same-true [] [] e = refl
+same-true [] (y ∷ t) e = absurd (false≢true e)
+same-true (x ∷ s) [] e = absurd (false≢true e)
+same-true (x ∷ s) (y ∷ t) e =
+    let b = and-eq-true-iff (eqb x y) (sameBytes s t) .0 e in
+    rw (eqb-true x y (b .0), same-true s t (b .1))
+
+-- equal texts pass the test
+pub same-equal : (s t : List ℕ) → s ≡ t → sameBytes s t ≡ true
+same-equal s t e = rw (← e) (same-self s)
+
+-- texts that are not equal fail it
+pub same-unlike : (s t : List ℕ) → (s ≡ t → ⊥) → sameBytes s t ≡ false
+same-unlike s t n = by-test (sameBytes s t) (λ e. absurd (n (same-true s t e))) (λ e. e)
+
+-- texts of unlike lengths fail it
+pub same-lengths : (s t : List ℕ) → (length s ≡ length t → ⊥) → sameBytes s t ≡ false
+same-lengths s t n = same-unlike s t (λ e. n (ap length e))
+
+-- a common front makes no difference
+pub same-append : (p s t : List ℕ) → sameBytes (p ++ s) (p ++ t) ≡ sameBytes s t
+unfolding sameBytes
+same-append [] s t = refl
+same-append (x ∷ p) s t = rw (eq-eqb x x refl) (same-append p s t)
+
+-- ---- piece by piece
+
+-- a part and what lies behind it
+pub part-rest : (s : List ℕ) (i n : ℕ) → part s i n ++ drop (i + n) s ≡ drop i s
+part-rest s i n = rw (← drop-drop n i s) (take-append-drop n (drop i s))
+
+-- behind equal parts the test goes on
+pub same-on : (s t : List ℕ) (i n : ℕ) → part s i n ≡ part t i n → sameBytes (drop i s) (drop i t) ≡ sameBytes (drop (i + n) s) (drop (i + n) t)
+same-on s t i n e = rw (← part-rest s i n, ← part-rest t i n, e) (same-append (part t i n) (drop (i + n) s) (drop (i + n) t))
+
+-- at unlike parts the test fails
+pub same-stop : (s t : List ℕ) (i n : ℕ) → (part s i n ≡ part t i n → ⊥) → sameBytes (drop i s) (drop i t) ≡ false
+same-stop s t i n d = same-unlike (drop i s) (drop i t) (λ e. d (ap (take n) e))
+
+-- behind the ends of both texts there is nothing to compare
+pub same-ends : (s t : List ℕ) (i : ℕ) → length s ≤ i → length t ≤ i → sameBytes (drop i s) (drop i t) ≡ true
+same-ends s t i h k = rw (drop-of-length-le s h, drop-of-length-le t k) (same-self [])
+
+-- ---- parts by their numbers
+
+-- bytes are equal if their numbers are
+pub number-injective : (s t : List ℕ) → every isByte s ≡ true → every isByte t ≡ true → length s ≡ length t → number s ≡ number t → s ≡ t
+unfolding number
+number-injective [] [] p q l e = refl
+number-injective [] (y ∷ t) p q l e = absurd (suc-ne-zero (length t) (sym l))
+number-injective (x ∷ s) [] p q l e = absurd (suc-ne-zero (length s) l)
+number-injective (x ∷ s) (y ∷ t) p q l e =
+    let a = and-eq-true-iff (isByte x) (every isByte s) .0 p in
+    let b = and-eq-true-iff (isByte y) (every isByte t) .0 q in
+    let xb = ltb-true x 256 (a .0) in
+    let yb = ltb-true y 256 (b .0) in
+    let h : x ≡ y = omega arith in
+    let n : number s ≡ number t = omega arith in
+    rw (h, number-injective s t (a .1) (b .1) (suc-inj l) n)
+
+module _ {s t : List ℕ} {i n x y : ℕ} (hs : i + n ≤ length s) (ht : i + n ≤ length t) (bs : (k : ℕ) → getD s k 0 < 256) (bt : (k : ℕ) → getD t k 0 < 256) (ws : Word n s i x) (wt : Word n t i y) where
+  -- parts of equal numbers are equal
+  pub words-equal : x ≡ y → part s i n ≡ part t i n
+  words-equal e =
+      number-injective (part s i n) (part t i n) (every-part isByte s i n (are-bytes s bs)) (every-part isByte t i n (are-bytes t bt))
+      (length-part s i n hs ∙ sym (length-part t i n ht)) (sym (ws .is) ∙ e ∙ wt .is)
+
+-- parts of unlike numbers are not
+pub words-unlike : {s t : List ℕ} {i n x y : ℕ} → Word n s i x → Word n t i y → (x ≡ y → ⊥) → part s i n ≡ part t i n → ⊥
+words-unlike ws wt d e = d (ws .is ∙ ap number e ∙ sym (wt .is))
+
+-- parts of one byte
+pub byte-equal : (s t : List ℕ) (i : ℕ) → i < length s → i < length t → getD s i 0 ≡ getD t i 0 → part s i 1 ≡ part t i 1
+byte-equal s t i hs ht e = rw (part-one s i hs, part-one t i ht, e)
+
+-- unlike bytes make unlike parts
+pub byte-unlike : (s t : List ℕ) (i : ℕ) → i < length s → i < length t → (getD s i 0 ≡ getD t i 0 → ⊥) → part s i 1 ≡ part t i 1 → ⊥
+byte-unlike s t i hs ht d e =
+    let f = part-one s i hs in
+    let g = part-one t i ht in
+    d (cc)

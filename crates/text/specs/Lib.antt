@@ -1,0 +1,4 @@
+pub mod Words
+pub mod Chars
+pub mod Places
+pub mod Orders

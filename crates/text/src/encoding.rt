@@ -1,0 +1,147 @@
+// Whether bytes are UTF-8: one pass, character by character, and eight ASCII bytes at once where they stand.
+use crate::bytes;
+ghost use mathlib.Core.Path.{_≡_};
+ghost use Prim.Native.Nat.{_+_, _<_, _≤_};
+ghost use lib.ListN.{length, drop};
+ghost use Rattle.definition.specs.Bytes.{every, part};
+ghost use Rattle.definition.specs.Utf8.{afterFirst, isUtf8};
+ghost use Rattle.text.specs.Chars.{waitOf, isAscii, tailsPass, tailsLength, charLength, stepLength};
+
+// The highest bit of each of eight bytes.
+const HIGH_BITS: u64 = 0x8080808080808080;
+
+// What may come behind the first byte of a character: another character; a byte in lo..hi and some more in 80..BF after it; or nothing.
+enum Wait {
+    Ready,
+    Tail(u8, u8, u8),
+    Bad,
+}
+
+// What may come behind b, where b is the first byte of a character.
+fn after_first(b: u8) -> Wait
+    ensures { λ r. ⌜ waitOf r ≡ afterFirst b ⌝ }
+{
+    if b < 0x80 {
+        return Wait::Ready;
+    }
+    if b < 0xC2 {
+        return Wait::Bad;
+    }
+    if b <= 0xDF {
+        return Wait::Tail(0x80, 0xBF, 0);
+    }
+    if b == 0xE0 {
+        return Wait::Tail(0xA0, 0xBF, 1);
+    }
+    if b == 0xED {
+        return Wait::Tail(0x80, 0x9F, 1);
+    }
+    if b <= 0xEF {
+        return Wait::Tail(0x80, 0xBF, 1);
+    }
+    if b == 0xF0 {
+        return Wait::Tail(0x90, 0xBF, 2);
+    }
+    if b <= 0xF3 {
+        return Wait::Tail(0x80, 0xBF, 2);
+    }
+    if b == 0xF4 {
+        return Wait::Tail(0x80, 0x8F, 2);
+    }
+    Wait::Bad
+}
+
+// Whether a byte in lo..hi stands at `at`.
+fn in_range(s: &[u8], at: usize, lo: u8, hi: u8) -> bool
+    ensures { λ r. ⌜ r ≡ tailsPass lo hi 0 (drop at (now (s .entry))) ⌝ }
+{
+    if s.len() <= at {
+        return false;
+    }
+    let b = s[at];
+    if b < lo {
+        return false;
+    }
+    b <= hi
+}
+
+// The length of a character whose second byte stands at `at`, in lo..hi, with `more` bytes in 80..BF behind it, or 0 where they do not stand there.
+fn tails_length(s: &[u8], at: usize, lo: u8, hi: u8, more: u8) -> usize
+    requires { ⌜ (at ≤ length (now s)) × (more ≤ 2) ⌝ }
+    ensures { λ r. ⌜ r ≡ tailsLength lo hi more (drop at (now (s .entry))) ⌝ }
+{
+    if !in_range(s, at, lo, hi) {
+        return 0;
+    }
+    if more == 0 {
+        return 2;
+    }
+    if !in_range(s, at + 1, 0x80, 0xBF) {
+        return 0;
+    }
+    if more == 1 {
+        return 3;
+    }
+    if in_range(s, at + 2, 0x80, 0xBF) {
+        4
+    } else {
+        0
+    }
+}
+
+// The length of the character at `at`, or 0 where none stands there.
+pub fn char_length(s: &[u8], at: usize) -> usize
+    requires { ⌜ at < length (now s) ⌝ }
+    ensures { λ r. ⌜ r ≡ charLength (drop at (now (s .entry))) ⌝ }
+{
+    match after_first(s[at]) {
+        Wait::Ready => 1,
+        Wait::Tail(lo, hi, more) => tails_length(s, at + 1, lo, hi, more),
+        Wait::Bad => 0,
+    }
+}
+
+// Whether the eight bytes of s from `at` on are ASCII: none has its highest bit set.
+fn ascii8(s: &[u8], at: usize) -> bool
+    requires { ⌜ at + 8 ≤ length (now s) ⌝ }
+    ensures { λ r. ⌜ r ≡ every isAscii (part (now (s .entry)) at 8) ⌝ }
+{
+    bytes::word64(s, at) & HIGH_BITS == 0
+}
+
+// How many bytes of whole characters can be passed at `at`: eight ASCII bytes, or one character's, or 0 where no character stands.
+fn step_length(s: &[u8], at: usize) -> usize
+    requires { ⌜ at < length (now s) ⌝ }
+    ensures { λ r. ⌜ r ≡ stepLength (drop at (now (s .entry))) ⌝ }
+{
+    if s.len() - at < 8 {
+        return char_length(s, at);
+    }
+    if ascii8(s, at) {
+        return 8;
+    }
+    char_length(s, at)
+}
+
+// Whether s is UTF-8.
+pub fn is_utf8(s: &[u8]) -> bool
+    ensures { λ r. ⌜ r ≡ isUtf8 (now (s .entry)) ⌝ }
+{
+    let mut i = 0;
+    while i < s.len() {
+        let n = step_length(s, i);
+        if n == 0 {
+            return false;
+        }
+        i += n;
+    }
+    true
+}
+
+// Whether the n bytes of s from `from` on are UTF-8.
+pub fn is_utf8_part(s: &[u8], from: usize, n: usize) -> bool
+    requires { ⌜ from + n ≤ length (now s) ⌝ }
+    ensures { λ r. ⌜ r ≡ isUtf8 (part (now (s .entry)) from n) ⌝ }
+{
+    is_utf8(&s[from..from + n])
+}

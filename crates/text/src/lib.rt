@@ -1,0 +1,10 @@
+// Reading and writing over plain bytes: numbers, parts of texts, UTF-8 and the bracket count.
+//
+//   bytes      little-endian numbers in a slice, read and written
+//   parts      equality, order and copies of parts of texts
+//   encoding   whether bytes are UTF-8
+//   brackets   the bracket count of a query
+pub mod brackets;
+pub mod bytes;
+pub mod encoding;
+pub mod parts;

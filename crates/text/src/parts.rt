@@ -1,0 +1,101 @@
+// Parts of texts: equality, order by bytes, and copies. A part is given by its start and its length, and nothing of it is copied to be compared.
+use crate::bytes;
+ghost use mathlib.Core.Path.{_≡_};
+ghost use Prim.Native.Nat.{_+_, _≤_};
+ghost use lib.ListN.{length};
+ghost use Rattle.definition.specs.Bytes.{part, sameBytes, orderBytes};
+ghost use Rattle.reading.specs.Reads.{Wrote};
+ghost use Rattle.text.specs.Orders.{answer};
+
+// How one text stands to another.
+pub enum Order {
+    Less,
+    Equal,
+    Greater,
+}
+
+// Whether a and b hold the same bytes. Where eight bytes are left, they are compared at once.
+pub fn same_bytes(a: &[u8], b: &[u8]) -> bool
+    ensures { λ r. ⌜ r ≡ sameBytes (now (a .entry)) (now (b .entry)) ⌝ }
+{
+    if a.len() != b.len() {
+        return false;
+    }
+    same_each(a, b)
+}
+
+// Whether a and b, of one length, hold the same bytes.
+fn same_each(a: &[u8], b: &[u8]) -> bool
+    requires { ⌜ length (now a) ≡ length (now b) ⌝ }
+    ensures { λ r. ⌜ r ≡ sameBytes (now (a .entry)) (now (b .entry)) ⌝ }
+{
+    let mut i = 0;
+    while i < a.len() {
+        if a.len() - i < 8 {
+            if a[i] != b[i] {
+                return false;
+            }
+            i += 1;
+        } else {
+            if bytes::word64(a, i) != bytes::word64(b, i) {
+                return false;
+            }
+            i += 8;
+        }
+    }
+    true
+}
+
+// Whether the n bytes of s from a on are the m bytes of t from b on.
+pub fn same_part(s: &[u8], a: usize, n: usize, t: &[u8], b: usize, m: usize) -> bool
+    requires { ⌜ (a + n ≤ length (now s)) × (b + m ≤ length (now t)) ⌝ }
+    ensures { λ r. ⌜ r ≡ sameBytes (part (now (s .entry)) a n) (part (now (t .entry)) b m) ⌝ }
+{
+    same_bytes(&s[a..a + n], &t[b..b + m])
+}
+
+// The order of a and b that the first unlike byte decides, the shorter first where there is none.
+pub fn order_bytes(a: &[u8], b: &[u8]) -> Order
+    ensures { λ r. ⌜ r ≡ answer (orderBytes (now (a .entry)) (now (b .entry))) ⌝ }
+{
+    let mut i = 0;
+    while i < a.len() {
+        if b.len() <= i {
+            return Order::Greater;
+        }
+        let x = a[i];
+        let y = b[i];
+        if x < y {
+            return Order::Less;
+        }
+        if y < x {
+            return Order::Greater;
+        }
+        i += 1;
+    }
+    if i < b.len() {
+        Order::Less
+    } else {
+        Order::Equal
+    }
+}
+
+// The order of the n bytes of s from a on and the m bytes of t from b on.
+pub fn order_part(s: &[u8], a: usize, n: usize, t: &[u8], b: usize, m: usize) -> Order
+    requires { ⌜ (a + n ≤ length (now s)) × (b + m ≤ length (now t)) ⌝ }
+    ensures { λ r. ⌜ r ≡ answer (orderBytes (part (now (s .entry)) a n) (part (now (t .entry)) b m)) ⌝ }
+{
+    order_bytes(&s[a..a + n], &t[b..b + m])
+}
+
+// The n bytes of src from `from` on are stored in dst from `at` on.
+pub fn copy_part(src: &[u8], from: usize, n: usize, dst: &mut [u8], at: usize)
+    requires { ⌜ (from + n ≤ length (now src)) × (at + n ≤ length (now dst)) ⌝ }
+    ensures { λ _. ⌜ Wrote (now (dst .entry)) at (part (now (src .entry)) from n) (now (dst .exit)) ⌝ }
+{
+    let mut i = 0;
+    while i < n {
+        dst[at + i] = src[from + i];
+        i += 1;
+    }
+}
