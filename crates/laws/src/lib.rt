@@ -1,1 +1,1 @@
-// Laws about the definition as a whole: a query is spelled in UTF-8. This crate has no code: see specs/.
+// Laws about the definition as a whole: a query is spelled in UTF-8, and selects only nodes of the table. This crate has no code: see specs/.

@@ -1,0 +1,11 @@
+pub mod Bools
+pub mod Fields
+pub mod Counts
+pub mod Parents
+pub mod Least
+pub mod Rights
+pub mod Keys
+pub mod Sizes
+pub mod Accepted
+pub mod Outcomes
+pub mod Rows

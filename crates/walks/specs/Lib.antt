@@ -1,0 +1,12 @@
+pub mod States
+pub mod Nodes
+pub mod Segments
+pub mod Emits
+pub mod Steps
+pub mod Within
+pub mod Ranges
+pub mod Bytes
+pub mod Items
+pub mod Operations
+pub mod Todos
+pub mod Founds
