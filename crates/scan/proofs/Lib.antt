@@ -1,0 +1,3 @@
+pub mod Runs
+pub mod Names
+pub mod Operators
