@@ -1,0 +1,118 @@
+-- The cursor of the pass moves forward to the parent of a node, and on to the next node. Assumes nothing.
+use Prim.Native.Nat.{ℕ, suc, _+_, _≤_, _<_}
+use mathlib.Core.Path.{_≡_, refl, sym, ap, _∙_}
+use mathlib.Core.List.{List}
+use mathlib.Core.Bool.{Bool, true, false}
+use lib.Dec.{ltb}
+use native.Mathlib.Omega.{arith}
+use native.Mathlib.Numerals.{add-one}
+use borrow.Author.Tests.{ltb-true, ltb-false}
+use Rattle.definition.specs.Tables.{nodeCount, kindAt, kindMap, childCount, countsBefore, firstChild, nodeRight}
+use Rattle.tables.specs.Counts.{counts-root, counts-next, counts-monotone}
+use Rattle.tables.specs.Parents.{InRange}
+use Rattle.tables.specs.Least.{RightBelow, right-more}
+use Rattle.tables.specs.Rights.{member-inside}
+use Rattle.table.specs.declared.scan.Cursor.{Cursor}
+use Rattle.table.specs.Words.{Child, KeysInside, HasParent, CursorAt, ParentAt}
+
+-- the counts before a node and the node behind it, as the code adds them
+step-counts : (T : List ℕ) (p : ℕ) → countsBefore T (suc (p + 1)) ≡ countsBefore T (suc p) + childCount T (p + 1)
+step-counts T p = counts-next T (p + 1) ∙ rw add-one
+
+module _ (T : List ℕ) (i : ℕ) (q : Cursor) (n : HasParent T i) (h : CursorAt T i q) (e : q .end ≤ i) where
+  -- a node whose range ends at or before i is not the last before i, if i has a parent
+  pub next-earlier : q .parent + 1 < i
+  next-earlier = go (ltb (q .parent + 1) i) refl
+    where
+      go : (b : Bool) → ltb (q .parent + 1) i ≡ b → q .parent + 1 < i
+      go true t = ltb-true (q .parent + 1) i t
+      go false t =
+          let m = ltb-false (q .parent + 1) i t in
+          let a = h .earlier in
+          let s : suc (q .parent) ≡ i = omega arith in
+          let z = ap (firstChild T) s in
+          let g = n .reached in
+          let k = h .end-is in
+          absurd (omega arith)
+
+  -- the next range ends where the children of i must begin, or before
+  pub next-inside : q .end + childCount T (q .parent + 1) ≤ firstChild T i
+  next-inside =
+      let a = next-earlier in
+      let m = counts-monotone T (suc (q .parent + 1)) i (omega arith) in
+      let s = step-counts T (q .parent) in
+      let k = h .end-is in
+      omega arith
+
+  -- the cursor at the next node
+  pub next-cursor : (c : ℕ) → c ≡ childCount T (q .parent + 1) → CursorAt T i (record { parent = q .parent + 1; from = q .end; end = q .end + c })
+  next-cursor c z =
+      let s = step-counts T (q .parent) in
+      let k = h .end-is in
+      let g : firstChild T (suc (q .parent)) ≡ firstChild T (q .parent + 1) = ap (firstChild T) (sym (add-one (q .parent))) in
+      record { earlier = next-earlier; from-is = k ∙ g; from-le = e; end-is = omega arith }
+
+module _ (T : List ℕ) (i : ℕ) (q : Cursor) (h : ParentAt T i q) where
+  -- the parent's range has the node
+  pub found-range : InRange T (q .parent) i
+  found-range =
+      let a = h .place .from-is in
+      let b = h .place .from-le in
+      let d = h .place .end-is in
+      let e = h .end-past in
+      record { above = omega arith; within = omega arith }
+
+  -- the node is asked about as a child of that parent
+  pub found-child : i < nodeCount T → Child T i (q .parent) (q .from)
+  found-child n = record { node-in = n; earlier = h .place .earlier; from-is = h .place .from-is; from-le = h .place .from-le }
+
+  -- the keys of the members of the same map before the node lie inside the text
+  pub found-keys : (X : List ℕ) → i < nodeCount T → RightBelow T X i → kindAt T (q .parent) ≡ kindMap → KeysInside T X (q .from) i
+  found-keys X n r k = record { nodes = omega arith; keys = λ j a b. member-inside T X (q .parent) j (r (q .parent) (h .place .earlier)) (r j b) (range j a b) k }
+    where
+      range : (j : ℕ) → q .from ≤ j → j < i → InRange T (q .parent) j
+      range j a b =
+          let u = h .place .from-is in
+          let v = h .place .end-is in
+          let w = h .end-past in
+          record { above = omega arith; within = omega arith }
+
+  -- the cursor is at or before the parent of the next node
+  pub after-node : CursorAt T (i + 1) q
+  after-node =
+      let u = h .place .earlier in
+      let v = h .place .from-le in
+      record { earlier = omega arith; from-is = h .place .from-is; from-le = omega arith; end-is = h .place .end-is }
+
+module _ (T X : List ℕ) where
+  -- where the children of the next node must begin
+  pub next-first : (i f c : ℕ) → f ≡ firstChild T i → c ≡ childCount T i → f + c ≡ firstChild T (i + 1)
+  next-first i f c a b =
+      let s = counts-next T i in
+      let g : firstChild T (suc i) ≡ firstChild T (i + 1) = ap (firstChild T) (sym (add-one i)) in
+      omega arith
+
+  -- one node more is right, as the code counts
+  pub right-next : (i : ℕ) → RightBelow T X i → nodeRight T X i ≡ true → RightBelow T X (i + 1)
+  right-next i r h k l = right-more T X i r h k (omega arith)
+
+-- a cursor before node 1 is one before every later node
+pub cursor-later : (T : List ℕ) (i : ℕ) {q : Cursor} → 0 < i → CursorAt T 1 q → CursorAt T i q
+cursor-later T i l h =
+    let u = h .earlier in
+    let v = h .from-le in
+    record { earlier = omega arith; from-is = h .from-is; from-le = omega arith; end-is = h .end-is }
+
+-- the cursor at the root, before node 1
+pub root-cursor : (T : List ℕ) (c : ℕ) → c ≡ childCount T 0 → CursorAt T 1 (record { parent = 0; from = 1; end = 1 + c })
+root-cursor T c z =
+    let a = counts-root T in
+    let b = counts-next T 0 in
+    record { earlier = omega arith; from-is = omega arith; from-le = omega arith; end-is = omega arith }
+
+pub root-first : (T : List ℕ) (c : ℕ) → c ≡ childCount T 0 → 1 + c ≡ firstChild T 1
+root-first T c z = let a = counts-root T in let b = counts-next T 0 in omega arith
+
+-- the root is the one node below 1
+pub root-below : (T X : List ℕ) → nodeRight T X 0 ≡ true → RightBelow T X 1
+root-below T X h = right-more T X 0 (λ k l. absurd (omega arith)) h

@@ -1,0 +1,35 @@
+-- A number beyond the table, the root, and the kind of the parent. Assumes nothing.
+use mathlib.Core.Path.{sym, _∙_, ap}
+use Prim.Native.Nat.{ℕ}
+use lib.Dec.{eqb}
+use native.Mathlib.Omega.{arith}
+use Rattle.tables.specs.Parents.{parent-found}
+use Rattle.tables.specs.Outcomes.{key-beyond, key-root, key-under}
+use borrow.Author.Needs.{needs}
+use Rattle.table.proofs.named.has_key.Statement.{statement}
+use Rattle.table.proofs.named.has_key.Tie as tie
+
+returns : tie.Need-returns
+returns c = let a = c .before .before .args in sym (key-beyond (a .table .now) (a .node) (c .if1 .taken))
+
+returns-2 : tie.Need-returns-2
+returns-2 c = let a = c .before .before .before .args in sym (key-root (a .table .now) (a .node) (c .if2 .taken))
+
+parent-requires : tie.Need-parent-requires
+parent-requires c κs = search needs
+
+kind-requires : tie.Need-kind-requires
+kind-requires c κs =
+    let a = c .before .before .before .before .args in
+    let w = parent-found (a .table .now) (c .parent .result) (a .node) (c .parent .ensures) in
+    let l = w .0 in
+    omega arith
+
+returns-3 : tie.Need-returns-3
+returns-3 c =
+    let a = c .before .before .before .before .before .args in
+    ap (λ (x : ℕ). eqb x 7) (c .kind .ensures)
+    ∙ sym (key-under (a .table .now) (a .node) (c .before .parent .result) (c .before .before .before .if1 .left) (c .before .parent .ensures))
+
+pub has-key-spec : {M : Type 1} → statement M
+has-key-spec = tie.close (tie.spec returns returns-2 parent-requires kind-requires returns-3)

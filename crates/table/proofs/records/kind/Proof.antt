@@ -1,0 +1,18 @@
+-- The byte that is read is the field of one byte. Assumes nothing.
+use native.Mathlib.Omega.{arith}
+use Rattle.tables.specs.Fields.{byte-field}
+use borrow.Author.Needs.{needs}
+use Rattle.table.proofs.records.kind.Statement.{statement}
+use Rattle.table.proofs.records.kind.Tie as tie
+
+mul-result : tie.Need-mul-result
+mul-result c = search needs
+
+shared-slice-read-result : tie.Need-shared-slice-read-result
+shared-slice-read-result c = search needs
+
+returns : tie.Need-returns
+returns c = byte-field (c .before .args .table .now) (c .before .args .node) 0 _ (omega arith) (omega arith)
+
+pub kind-spec : {M : Type 1} → statement M
+kind-spec = tie.close (tie.spec mul-result shared-slice-read-result returns)

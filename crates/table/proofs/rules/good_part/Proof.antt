@@ -1,0 +1,44 @@
+-- The part is tested once it is known to lie inside the text. Assumes nothing.
+use native.Mathlib.Omega.{arith}
+use mathlib.Core.Path.{refl, sym, _∙_}
+use Prim.Native.Nat.{_+_}
+use Rattle.tables.specs.Rights.{part-past}
+use Rattle.tables.specs.Keys.{part-tested}
+use borrow.Author.Needs.{needs}
+use Rattle.table.proofs.rules.good_part.Statement.{statement}
+use Rattle.table.proofs.rules.good_part.Tie as tie
+
+add-end : tie.Need-add-end
+add-end c = search needs
+
+returns : tie.Need-returns
+returns c = let a = c .before .before .args in sym (part-past (a .text .now) (a .at) (a .size) (omega arith))
+
+sub-is-utf8 : tie.Need-sub-is-utf8
+sub-is-utf8 c = search needs
+
+part-is-utf8-start : tie.Need-part-is-utf8-start
+part-is-utf8-start c = search needs
+
+part-is-utf8-end : tie.Need-part-is-utf8-end
+part-is-utf8-end c = search needs
+
+is-utf8-requires : tie.Need-is-utf8-requires
+is-utf8-requires c κs = search needs
+
+returns-2 : tie.Need-returns-2
+returns-2 c =
+    let a = c .before .before .before .before .args in
+    c .is-utf8 .ensures ∙ part-tested (a .text .now) (a .at) (a .size) (a .at + a .size) refl (omega arith)
+
+pub good-part-spec : {M : Type 1} → statement M
+good-part-spec =
+    tie.close
+    (tie.spec
+    add-end
+    returns
+    sub-is-utf8
+    part-is-utf8-start
+    part-is-utf8-end
+    is-utf8-requires
+    returns-2)

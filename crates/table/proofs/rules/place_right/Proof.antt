@@ -1,0 +1,64 @@
+-- The depth, and then the rule that the kind of the parent asks. Assumes nothing.
+use native.Mathlib.Omega.{arith}
+use mathlib.Core.Path.{sym, _∙_}
+use Rattle.tables.specs.Rights.{place-depth, place-member, place-plain}
+use borrow.Author.Needs.{needs}
+use Rattle.table.proofs.rules.place_right.Statement.{statement}
+use Rattle.table.proofs.rules.place_right.Tie as tie
+
+depth-requires : tie.Need-depth-requires
+depth-requires c κs = search needs
+
+cast-deep : tie.Need-cast-deep
+cast-deep c = search needs
+
+depth-requires-2 : tie.Need-depth-requires-2
+depth-requires-2 c κs = search needs
+
+cast-above : tie.Need-cast-above
+cast-above c = search needs
+
+add-if1 : tie.Need-add-if1
+add-if1 c = search needs
+
+returns : tie.Need-returns
+returns c =
+    let a = c .before .before .before .before .before .args in
+    sym (place-depth (a .table .now) (a .text .now) (a .node) (a .parent) (omega arith))
+
+kind-requires : tie.Need-kind-requires
+kind-requires c κs = search needs
+
+member-right-requires : tie.Need-member-right-requires
+member-right-requires c κs =
+    let s = c .before .before .before .before .before .before .before in
+    (s .pre .0, s .pre .1 (omega arith))
+
+returns-2 : tie.Need-returns-2
+returns-2 c =
+    let a = c .before .before .before .before .before .before .before .before .args in
+    c .member-right .ensures ∙ sym (place-member (a .table .now) (a .text .now) (a .node) (a .parent) (omega arith) (omega arith))
+
+no-key-requires : tie.Need-no-key-requires
+no-key-requires c κs = search needs
+
+returns-3 : tie.Need-returns-3
+returns-3 c =
+    let a = c .before .before .before .before .before .before .before .before .args in
+    c .no-key .ensures ∙ sym (place-plain (a .table .now) (a .text .now) (a .node) (a .parent) (omega arith) (omega arith))
+
+pub place-right-spec : {M : Type 1} → statement M
+place-right-spec =
+    tie.close
+    (tie.spec
+    depth-requires
+    cast-deep
+    depth-requires-2
+    cast-above
+    add-if1
+    returns
+    kind-requires
+    member-right-requires
+    returns-2
+    no-key-requires
+    returns-3)

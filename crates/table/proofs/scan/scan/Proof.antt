@@ -1,0 +1,56 @@
+-- The root first, and then the nodes behind it. Assumes nothing.
+use native.Mathlib.Omega.{arith}
+use borrow.Author.Tests.{not-true, not-false}
+use mathlib.Core.Path.{sym, _∙_, ap}
+use Prim.Native.Nat.{ℕ}
+use mathlib.Core.Option.{Option}
+use Rattle.definition.specs.Tables.{nodeCount, byLeast}
+use Rattle.definition.specs.TableOutcomes.{reportTable}
+use Rattle.tables.specs.Least.{least-wrong}
+use Rattle.table.specs.Outcomes.{reported}
+use Rattle.table.proofs.Cursor.{root-first, root-cursor, root-below}
+use borrow.Author.Needs.{needs}
+use Rattle.table.proofs.scan.scan.Statement.{statement}
+use Rattle.table.proofs.scan.scan.Tie as tie
+
+root-right-requires : tie.Need-root-right-requires
+root-right-requires c κs = search needs
+
+returns : tie.Need-returns
+unfolding reported reportTable byLeast
+returns c =
+    let s = c .before .before .before .before in
+    let a = s .args in
+    let w = sym (c .before .root-right .ensures) ∙ not-true _ (c .if1 .taken) in
+    sym (ap (λ (o : Option ℕ). reportTable (byLeast o)) (least-wrong (a .table .now) (a .text .now) 0 (nodeCount (a .table .now)) (λ k l. absurd (omega arith)) w (s .pre)))
+
+child-count-requires : tie.Need-child-count-requires
+child-count-requires c κs = search needs
+
+cast-end : tie.Need-cast-end
+cast-end c = search needs
+
+add-end : tie.Need-add-end
+add-end c = search needs
+
+rest-requires : tie.Need-rest-requires
+rest-requires c κs =
+    let s = c .before .before .before .before .before in
+    let a = s .args in
+    let r = sym (c .before .before .root-right .ensures) ∙ not-false _ (c .before .if1 .left) in
+    ((root-first (a .table .now) (c .child-count .result) (c .child-count .ensures), root-cursor (a .table .now) (c .child-count .result) (c .child-count .ensures)), (s .pre, root-below (a .table .now) (a .text .now) r))
+
+returns-2 : tie.Need-returns-2
+returns-2 c = search needs
+
+pub scan-spec : {M : Type 1} → statement M
+scan-spec =
+    tie.close
+    (tie.spec
+    root-right-requires
+    returns
+    child-count-requires
+    cast-end
+    add-end
+    rest-requires
+    returns-2)

@@ -1,0 +1,58 @@
+-- The number is the refusal; the part is empty for a refusal, and otherwise the one that was asked for. Assumes nothing.
+use native.Mathlib.Omega.{arith}
+use mathlib.Core.Path.{sym, _∙_}
+use mathlib.Core.List.{[]}
+use Rattle.definition.specs.Tables.{checkTable, textBytesAt}
+use Rattle.definition.specs.TableOutcomes.{hasText, textOutcome}
+use Rattle.tables.specs.Accepted.{accepted-gives}
+use Rattle.tables.specs.Outcomes.{found-whole, refused-empty, text-inside}
+use Rattle.table.proofs.Answers.{answered-is}
+use borrow.Author.Needs.{needs}
+use Rattle.table.proofs.text_of_node.Statement.{statement}
+use Rattle.table.proofs.text_of_node.Tie as tie
+
+text-refusal-requires : tie.Need-text-refusal-requires
+text-refusal-requires c κs = search needs
+
+sub-result : tie.Need-sub-result
+sub-result c = search needs
+
+part-result-start : tie.Need-part-result-start
+part-result-start c = search needs
+
+part-result-end : tie.Need-part-result-end
+part-result-end c = search needs
+
+returns : tie.Need-returns
+unfolding textOutcome
+returns c =
+    let a = c .before .before .before .before .before .args in
+    let e = c .before .before .text-refusal .ensures in
+    answered-is (textOutcome (a .table .now) (a .text .now) (a .node)) [] (c .before .before .text-refusal .result) (sym (refused-empty (checkTable (a .table .now) (a .text .now)) (hasText (a .table .now) (a .node)) (textBytesAt (a .table .now) (a .text .now) (a .node)) (λ z. c .before .if1 .taken (e ∙ z)))) e
+
+text-part-requires : tie.Need-text-part-requires
+unfolding textOutcome
+text-part-requires c κs =
+    let a = c .before .before .before .before .args in
+    let w = found-whole (checkTable (a .table .now) (a .text .now)) (hasText (a .table .now) (a .node)) (textBytesAt (a .table .now) (a .text .now) (a .node)) (sym (c .before .text-refusal .ensures) ∙ c .if1 .left) in
+    text-inside (a .table .now) (a .text .now) (accepted-gives (a .table .now) (a .text .now) (w .0)) (a .node) (w .1)
+
+returns-2 : tie.Need-returns-2
+unfolding textOutcome
+returns-2 c =
+    let a = c .before .before .before .before .before .args in
+    let e = c .before .before .text-refusal .ensures in
+    let w = found-whole (checkTable (a .table .now) (a .text .now)) (hasText (a .table .now) (a .node)) (textBytesAt (a .table .now) (a .text .now) (a .node)) (sym e ∙ c .before .if1 .left) in
+    answered-is (textOutcome (a .table .now) (a .text .now) (a .node)) _ (c .before .before .text-refusal .result) (c .text-part .ensures ∙ sym (w .2)) e
+
+pub text-of-node-spec : {M : Type 1} → statement M
+text-of-node-spec =
+    tie.close
+    (tie.spec
+    text-refusal-requires
+    sub-result
+    part-result-start
+    part-result-end
+    returns
+    text-part-requires
+    returns-2)

@@ -1,0 +1,16 @@
+-- What document 01 reports for each answer of this crate's operations.
+use Prim.Native.Nat.{ℕ}
+use mathlib.Core.List.{List}
+use Rattle.definition.specs.TableOutcomes.{TableOutcome, PartOutcome}
+use Rattle.table.specs.declared.TableChecked.{TableChecked}
+use Rattle.table.specs.declared.TableChecked.the-variants.{Accepted, WrongSize, WrongNode}
+
+-- "Table check: 9, 10", with 0 for none; "answer carries the least such node", and "number fields that a row doesn't name are 0"
+unfoldable pub reported : TableChecked → TableOutcome
+reported Accepted = record { refusal = 0; node = 0 }
+reported WrongSize = record { refusal = 9; node = 0 }
+reported (WrongNode i) = record { refusal = 10; node = i }
+
+-- the part that is returned, and what the lent number holds
+abbrev pub answered : List ℕ → ℕ → PartOutcome
+answered s n = record { part = s; number = n }

@@ -1,0 +1,81 @@
+// The table of values: the check of a table, the text and the key of a node, and the fields that the evaluator reads.
+//
+//   records    the fields of a record of 24 bytes
+//   rules      the rules for a node
+//   scan       the pass over the nodes
+//   named      the text and the key of a node
+ghost use mathlib.Core.Path.{_≡_};
+ghost use Rattle.definition.specs.Tables.{badSize};
+ghost use Rattle.definition.specs.TableOutcomes.{tableOutcome, textOutcome, keyOutcome};
+ghost use Rattle.table.specs.Outcomes.{reported, answered};
+
+mod named;
+pub mod records;
+mod rules;
+mod scan;
+
+const RECORD: usize = 24;
+
+const MAX_NODES: usize = 65535;
+
+const MAX_TEXT: usize = 16777216;
+
+// What the check of a table finds.
+pub enum TableChecked {
+    // No rule fails.
+    Accepted,
+    // Refusal 9: the table's size or the text's is wrong.
+    WrongSize,
+    // Refusal 10: the least node at which a rule fails.
+    WrongNode(usize),
+}
+
+// Whether the size of the table or of the text is wrong.
+fn bad_size(table: &[u8], text: &[u8]) -> bool
+    ensures { λ r. ⌜ r ≡ badSize (now (table .entry)) (now (text .entry)) ⌝ }
+{
+    if table.len() == 0 {
+        return true;
+    }
+    if table.len() % RECORD != 0 {
+        return true;
+    }
+    if MAX_NODES < table.len() / RECORD {
+        return true;
+    }
+    MAX_TEXT < text.len()
+}
+
+// The check of a table.
+pub fn check_table(table: &[u8], text: &[u8]) -> TableChecked
+    ensures { λ r. ⌜ reported r ≡ tableOutcome (now (table .entry)) (now (text .entry)) ⌝ }
+{
+    if bad_size(table, text) {
+        return TableChecked::WrongSize;
+    }
+    scan::scan(table, text)
+}
+
+// The text of a node as a part of the lent text, and 0 in the lent number; or an empty part, and the refusal in the number.
+pub fn text_of_node<'a>(table: &[u8], text: &'a [u8], node: usize, number: &mut u8) -> &'a [u8]
+    ensures { λ r. ⌜ answered (now r) (now (number .exit)) ≡ textOutcome (now (table .entry)) (now (text .entry)) node ⌝ }
+{
+    let refusal = named::text_refusal(table, text, node);
+    *number = refusal;
+    if refusal != 0 {
+        return &text[0..0];
+    }
+    named::text_part(table, text, node)
+}
+
+// The key of a node as a part of the lent text, and 0 in the lent number; or an empty part, and the refusal in the number.
+pub fn key_of_node<'a>(table: &[u8], text: &'a [u8], node: usize, number: &mut u8) -> &'a [u8]
+    ensures { λ r. ⌜ answered (now r) (now (number .exit)) ≡ keyOutcome (now (table .entry)) (now (text .entry)) node ⌝ }
+{
+    let refused = named::key_refusal(table, text, node);
+    *number = refused;
+    if refused != 0 {
+        return &text[0..0];
+    }
+    named::key_part(table, text, node)
+}

@@ -1,0 +1,213 @@
+// The rules for a node. Each function answers whether a rule of the definition is kept, and asks that its nodes are nodes of the table.
+ghost use mathlib.Core.Path.{_≡_};
+ghost use mathlib.Core.Option.{some};
+ghost use Prim.Native.Nat.{ℕ, _<_, _≤_, _+_, _-_};
+ghost use lib.ListN.{length};
+ghost use Rattle.definition.specs.Bytes.{sameBytes};
+ghost use Rattle.definition.specs.Tables.{nodeCount, kindAt, kindMap, firstChild, goodPart, headRight, isFinite, rangeRight, payloadRight, noKey, keyBytes, keyDiffers, memberRight, placeRight, nodeRight};
+ghost use Rattle.table.specs.Words.{Child, KeysInside};
+use crate::records;
+use text::encoding;
+use text::parts;
+
+const RECORD: usize = 24;
+
+const KIND_INTEGER: u8 = 3;
+
+const KIND_FLOAT: u8 = 4;
+
+const KIND_TEXT: u8 = 5;
+
+const KIND_LIST: u8 = 6;
+
+const KIND_MAP: u8 = 7;
+
+const MAX_DEPTH: u8 = 63;
+
+const MAX_MEMBERS: u32 = 1024;
+
+const FLOAT_SIGN: u64 = 9223372036854775808;
+
+const FLOAT_UNIT: u64 = 4503599627370496;
+
+const FLOAT_ONES: u64 = 2047;
+
+// Whether a part of the text lies inside it and is UTF-8.
+pub fn good_part(text: &[u8], at: u32, size: u32) -> bool
+    ensures { λ r. ⌜ r ≡ goodPart (now (text .entry)) at size ⌝ }
+{
+    let start = at as usize;
+    let end = start + size as usize;
+    if text.len() < end {
+        return false;
+    }
+    encoding::is_utf8(&text[start..end])
+}
+
+// The kind, the depth and the bytes that are to be zero.
+pub fn head_right(table: &[u8], node: usize) -> bool
+    requires { ⌜ node < nodeCount (now table) ⌝ }
+    ensures { λ r. ⌜ r ≡ headRight (now (table .entry)) node ⌝ }
+{
+    if KIND_MAP < records::kind(table, node) {
+        return false;
+    }
+    if MAX_DEPTH < records::depth(table, node) {
+        return false;
+    }
+    if records::zeros_2(table, node) != 0 {
+        return false;
+    }
+    if records::zeros_12(table, node) != 0 {
+        return false;
+    }
+    true
+}
+
+// Whether the bits are those of a finite float.
+pub fn finite(bits: u64) -> bool
+    ensures { λ r. ⌜ r ≡ isFinite bits ⌝ }
+{
+    bits % FLOAT_SIGN / FLOAT_UNIT < FLOAT_ONES
+}
+
+// The range of a container's children; first is where it must begin.
+pub fn range_right(table: &[u8], node: usize, first: usize) -> bool
+    requires { ⌜ (node < nodeCount (now table)) × (first ≡ firstChild (now table) node) ⌝ }
+    ensures { λ r. ⌜ r ≡ rangeRight (now (table .entry)) node ⌝ }
+{
+    let low = records::low_word(table, node) as usize;
+    let high = records::high_word(table, node) as usize;
+    if high == 0 {
+        return low == 0;
+    }
+    if low != first {
+        return false;
+    }
+    low + high <= table.len() / RECORD
+}
+
+// Bytes 16-23, as the kind asks; first is where the range of a container's children must begin.
+pub fn payload_right(table: &[u8], text: &[u8], node: usize, first: usize) -> bool
+    requires { ⌜ (node < nodeCount (now table)) × (first ≡ firstChild (now table) node) ⌝ }
+    ensures { λ r. ⌜ r ≡ payloadRight (now (table .entry)) (now (text .entry)) node ⌝ }
+{
+    let k = records::kind(table, node);
+    if k < KIND_INTEGER {
+        return records::payload(table, node) == 0;
+    }
+    if k == KIND_INTEGER {
+        return true;
+    }
+    if k == KIND_FLOAT {
+        return finite(records::payload(table, node));
+    }
+    if k == KIND_TEXT {
+        return good_part(
+            text,
+            records::low_word(table, node),
+            records::high_word(table, node),
+        );
+    }
+    if k == KIND_LIST {
+        return range_right(table, node, first);
+    }
+    if MAX_MEMBERS < records::high_word(table, node) {
+        return false;
+    }
+    range_right(table, node, first)
+}
+
+// Whether the key's start and length are 0.
+pub fn no_key(table: &[u8], node: usize) -> bool
+    requires { ⌜ node < nodeCount (now table) ⌝ }
+    ensures { λ r. ⌜ r ≡ noKey (now (table .entry)) node ⌝ }
+{
+    if records::key_start(table, node) != 0 {
+        return false;
+    }
+    records::key_length(table, node) == 0
+}
+
+// Whether the key of a node, which lies inside the text, has these bytes.
+fn same_key(table: &[u8], text: &[u8], node: usize, key: &[u8]) -> bool
+    requires { ⌜ KeysInside (now table) (now text) node (node + 1) ⌝ }
+    ensures { λ r. ⌜ r ≡ sameBytes (keyBytes (now (table .entry)) (now (text .entry)) node) (now (key .entry)) ⌝ }
+{
+    let size = records::key_length(table, node) as usize;
+    if size != key.len() {
+        return false;
+    }
+    let start = records::key_start(table, node) as usize;
+    let end = start + size;
+    parts::same_bytes(&text[start..end], key)
+}
+
+// Whether the key of a node is unlike those of the nodes from a place up to it.
+fn key_differs(table: &[u8], text: &[u8], node: usize, from: usize) -> bool
+    requires { ⌜ from ≤ node ⌝ }
+    requires { ⌜ KeysInside (now table) (now text) from (node + 1) ⌝ }
+    ensures { λ r. ⌜ r ≡ keyDiffers (now (table .entry)) (now (text .entry)) node from (node - from) ⌝ }
+{
+    let start = records::key_start(table, node) as usize;
+    let end = start + records::key_length(table, node) as usize;
+    let key = &text[start..end];
+    let mut j = from;
+    while j < node {
+        if same_key(table, text, j, key) {
+            return false;
+        }
+        j += 1;
+    }
+    true
+}
+
+// The key of a member of a map, whose first member is from.
+fn member_right(table: &[u8], text: &[u8], node: usize, parent: usize, from: usize) -> bool
+    requires { ⌜ Child (now table) node parent from ⌝ }
+    requires { ⌜ KeysInside (now table) (now text) from node ⌝ }
+    ensures { λ r. ⌜ r ≡ memberRight (now (table .entry)) (now (text .entry)) parent node ⌝ }
+{
+    if good_part(
+        text,
+        records::key_start(table, node),
+        records::key_length(table, node),
+    ) {
+        return key_differs(table, text, node, from);
+    }
+    false
+}
+
+// What a parent asks of its child: the depth, and the key as the parent's kind has it. The parent's first child is from.
+pub fn place_right(table: &[u8], text: &[u8], node: usize, parent: usize, from: usize) -> bool
+    requires { ⌜ Child (now table) node parent from ⌝ }
+    requires { ⌜ (kindAt (now table) parent ≡ kindMap → KeysInside (now table) (now text) from node) ⌝ }
+    ensures { λ r. ⌜ r ≡ placeRight (now (table .entry)) (now (text .entry)) node (some parent) ⌝ }
+{
+    let deep = records::depth(table, node) as usize;
+    let above = records::depth(table, parent) as usize;
+    if deep != above + 1 {
+        return false;
+    }
+    if records::kind(table, parent) == KIND_MAP {
+        return member_right(table, text, node, parent, from);
+    }
+    no_key(table, node)
+}
+
+// All that is asked of the root.
+pub fn root_right(table: &[u8], text: &[u8]) -> bool
+    requires { ⌜ 0 < nodeCount (now table) ⌝ }
+    ensures { λ r. ⌜ r ≡ nodeRight (now (table .entry)) (now (text .entry)) 0 ⌝ }
+{
+    if !head_right(table, 0) {
+        return false;
+    }
+    if !payload_right(table, text, 0, 1) {
+        return false;
+    }
+    if records::depth(table, 0) != 0 {
+        return false;
+    }
+    no_key(table, 0)
+}

@@ -1,0 +1,113 @@
+// The pass over the nodes of a table: each node is held against the rules, and a cursor that only moves forward finds its parent.
+ghost use mathlib.Core.Path.{_≡_};
+ghost use Prim.Native.Nat.{_<_, _+_};
+ghost use Rattle.definition.specs.Tables.{nodeCount, firstChild, leastWrong, byLeast};
+ghost use Rattle.definition.specs.TableOutcomes.{reportTable};
+ghost use Rattle.tables.specs.Least.{RightBelow};
+ghost use Rattle.table.specs.Words.{NodeAt, HasParent, CursorAt, ParentAt, NodeFound};
+ghost use Rattle.table.specs.Outcomes.{reported};
+use crate::TableChecked;
+use crate::records;
+use crate::rules;
+
+const RECORD: usize = 24;
+
+// A node with the range of its children.
+pub struct Cursor {
+    pub parent: usize,
+    pub from: usize,
+    pub end: usize,
+}
+
+// What was found at a node: the cursor before the next node, or a broken rule.
+pub enum NodeChecked {
+    Next(Cursor),
+    Wrong,
+}
+
+// Moves a cursor forward to the parent of a node that has one.
+pub fn to_parent(table: &[u8], node: usize, cursor: Cursor) -> Cursor
+    requires { ⌜ HasParent (now table) node × CursorAt (now table) node cursor ⌝ }
+    ensures { λ r. ⌜ ParentAt (now (table .entry)) node r ⌝ }
+{
+    let mut parent = cursor.parent;
+    let mut from = cursor.from;
+    let mut end = cursor.end;
+    while end <= node {
+        parent += 1;
+        from = end;
+        end += records::child_count(table, parent) as usize;
+    }
+    Cursor { parent, from, end }
+}
+
+// Holds a node behind the root against the rules. Its children must begin at first.
+fn check_node(table: &[u8], text: &[u8], node: usize, first: usize, cursor: Cursor) -> NodeChecked
+    requires { ⌜ NodeAt (now table) node first ⌝ }
+    requires { ⌜ CursorAt (now table) node cursor ⌝ }
+    requires { ⌜ RightBelow (now table) (now text) node ⌝ }
+    ensures { λ r. ⌜ NodeFound (now (table .entry)) (now (text .entry)) node r ⌝ }
+{
+    if first <= node {
+        return NodeChecked::Wrong;
+    }
+    if !rules::head_right(table, node) {
+        return NodeChecked::Wrong;
+    }
+    if !rules::payload_right(table, text, node, first) {
+        return NodeChecked::Wrong;
+    }
+    let found = to_parent(table, node, cursor);
+    let parent = found.parent;
+    let from = found.from;
+    if !rules::place_right(table, text, node, parent, from) {
+        return NodeChecked::Wrong;
+    }
+    NodeChecked::Next(found)
+}
+
+// The pass from node 1 on, whose children must begin at start.
+fn rest(table: &[u8], text: &[u8], start: usize, root: Cursor) -> TableChecked
+    requires { ⌜ (start ≡ firstChild (now table) 1) × CursorAt (now table) 1 root ⌝ }
+    requires { ⌜ (0 < nodeCount (now table)) × RightBelow (now table) (now text) 1 ⌝ }
+    ensures { λ r. ⌜ reported r ≡ reportTable (byLeast (leastWrong (now (table .entry)) (now (text .entry)) 0 (nodeCount (now (table .entry))))) ⌝ }
+{
+    let count = table.len() / RECORD;
+    let mut cursor = root;
+    let mut first = start;
+    let mut node = 1;
+    while node < count {
+        match check_node(table, text, node, first, cursor) {
+            NodeChecked::Next(found) => {
+                cursor = found;
+                first += records::child_count(table, node) as usize;
+                node += 1;
+            }
+            NodeChecked::Wrong => {
+                return TableChecked::WrongNode(node);
+            }
+        }
+    }
+    TableChecked::Accepted
+}
+
+// The whole pass.
+pub fn scan(table: &[u8], text: &[u8]) -> TableChecked
+    requires { ⌜ 0 < nodeCount (now table) ⌝ }
+    ensures { λ r. ⌜ reported r ≡ reportTable (byLeast (leastWrong (now (table .entry)) (now (text .entry)) 0 (nodeCount (now (table .entry))))) ⌝ }
+{
+    if !rules::root_right(table, text) {
+        return TableChecked::WrongNode(0);
+    }
+    let end = 1 + records::child_count(table, 0) as usize;
+    rest(
+        table,
+        text,
+        end,
+        Cursor {
+            parent: 0,
+            from: 1,
+            end,
+        },
+    )
+}
