@@ -1,0 +1,110 @@
+// Nanoseconds per node of the table check, beside a bare pass that adds up the same bytes, in one run.
+// Tables: many small maps; 63 maps of 1,024 members; one list of numbers.
+#include <stdint.h>
+#include <stdio.h>
+#include <stdlib.h>
+#include <string.h>
+#include <time.h>
+
+extern uint32_t stewpebble_check_table(const uint8_t *table, size_t table_length, const uint8_t *text, size_t text_length, uint64_t *node);
+
+enum { RECORD = 24, MOST = 65535, TEXT_ROOM = 1 << 20 };
+
+static uint8_t table[MOST * RECORD];
+static uint8_t text[TEXT_ROOM];
+static size_t nodes, text_length;
+
+static void put32(uint8_t *at, uint32_t x) { memcpy(at, &x, 4); }
+
+// A record of the given kind and depth, with its key and the two words of its payload.
+static void record(size_t i, int kind, int depth, uint32_t key, uint32_t key_length, uint32_t low, uint32_t high) {
+    uint8_t *r = table + i * RECORD;
+    memset(r, 0, RECORD);
+    r[0] = kind;
+    r[1] = depth;
+    put32(r + 4, key);
+    put32(r + 8, key_length);
+    put32(r + 16, low);
+    put32(r + 20, high);
+}
+
+// Keys of six digits, end to end: the key of member k starts at 6 k.
+static void keys(size_t count) {
+    for (size_t k = 0; k < count; k++) {
+        char digits[8];
+        snprintf(digits, sizeof digits, "%06zu", k);
+        memcpy(text + 6 * k, digits, 6);
+    }
+    text_length = 6 * count;
+}
+
+// A list of `maps` maps with `members` integers each.
+static void list_of_maps(size_t maps, size_t members) {
+    keys(members);
+    record(0, 6, 0, 0, 0, 1, maps);
+    size_t next = 1 + maps;
+    for (size_t m = 0; m < maps; m++) {
+        record(1 + m, 7, 1, 0, 0, next, members);
+        for (size_t k = 0; k < members; k++) record(next + k, 3, 2, 6 * k, 6, k, 0);
+        next += members;
+    }
+    nodes = next;
+}
+
+static void list_of_numbers(size_t count) {
+    text_length = 0;
+    record(0, 6, 0, 0, 0, 1, count);
+    for (size_t k = 0; k < count; k++) record(1 + k, 3, 1, 0, 0, k, 0);
+    nodes = 1 + count;
+}
+
+static double now(void) {
+    struct timespec t;
+    clock_gettime(CLOCK_PROCESS_CPUTIME_ID, &t);
+    return t.tv_sec * 1e9 + t.tv_nsec;
+}
+
+static uint64_t bare(void) {
+    uint64_t sum = 0, word;
+    for (size_t i = 0; i < nodes * RECORD; i += 8) {
+        memcpy(&word, table + i, 8);
+        sum += word;
+    }
+    return sum;
+}
+
+static void measure(const char *name) {
+    uint64_t node = 0;
+    uint32_t refusal = stewpebble_check_table(table, nodes * RECORD, text, text_length, &node);
+    if (refusal) {
+        printf("%s: refused %u at %llu\n", name, refusal, (unsigned long long)node);
+        exit(1);
+    }
+    double checked = 1e30, summed = 1e30;
+    volatile uint64_t kept;
+    for (int round = 0; round < 15; round++) {
+        double a = now();
+        kept = stewpebble_check_table(table, nodes * RECORD, text, text_length, &node);
+        double b = now();
+        kept = bare();
+        double c = now();
+        if (b - a < checked) checked = b - a;
+        if (c - b < summed) summed = c - b;
+    }
+    (void)kept;
+    printf("%-34s %6zu nodes  check %8.2f ns/node  bare pass %6.2f ns/node  ratio %7.1f\n", name, nodes, checked / nodes, summed / nodes, checked / summed);
+}
+
+int main(void) {
+    list_of_maps(1999, 4);
+    measure("maps of 4 members");
+    list_of_maps(13106, 4);
+    measure("maps of 4 members");
+    list_of_maps(63, 1024);
+    measure("63 maps of 1,024 members");
+    list_of_numbers(9999);
+    measure("one list of numbers");
+    list_of_numbers(65534);
+    measure("one list of numbers");
+    return 0;
+}
