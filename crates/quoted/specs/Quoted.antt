@@ -17,6 +17,13 @@ use Rattle.quoted.specs.declared.Unescaped.the-variants.{Done, Bad}
 unfoldable pub quoteOf : ℕ → Quote
 quoteOf b = cond (eqb b 0x22) double single
 
+-- A quoted text may be read: its quote is a quote, what follows that from `at` on is UTF-8, and p has room for as many bytes from `len` on.
+pub record Opened (quote : ℕ) (s : List ℕ) (at : ℕ) (p : List ℕ) (len : ℕ) : Type 0 where
+  pub isQuote : ownByte (quoteOf quote) ≡ quote
+  pub sound : isUtf8 (drop at s) ≡ true
+  pub within : at ≤ length s
+  pub room : len + (length s - at) ≤ length p
+
 -- the characters of a quoted text and its closing quote, followed by the bytes r
 abbrev pub spellClosed : Quote → List Char → List ℕ → List ℕ
 spellClosed q cs r = spellChars q cs (ownByte q ∷ r)

@@ -12,14 +12,12 @@ mod writing;
 
 use escapes::Point;
 ghost use mathlib.Core.Path.{_≡_};
-ghost use mathlib.Core.Bool.{true};
-ghost use Prim.Native.Nat.{_+_, _-_, _≤_, _<_};
+ghost use Prim.Native.Nat.{_+_, _-_, _≤_};
 ghost use lib.ListN.{length, drop};
 ghost use Rattle.definition.specs.Lexical.{ownByte};
-ghost use Rattle.definition.specs.Utf8.{isUtf8};
 ghost use Rattle.reading.specs.Reads.{StartsNot};
 ghost use Rattle.utf8.specs.Names.{unescapedByte};
-ghost use Rattle.quoted.specs.Quoted.{quoteOf, Unescaping};
+ghost use Rattle.quoted.specs.Quoted.{quoteOf, Opened, Unescaping};
 ghost use Rattle.quoted.specs.Pieces.{Turning};
 
 // The place behind the closing quote with the place behind the last byte written, or the place where the text is no quoted text.
@@ -29,7 +27,7 @@ pub enum Unescaped {
 }
 
 // The same for a part of the text: it goes on, its closing quote is passed, or it is wrong.
-pub enum Turn {
+enum Turn {
     On(usize, usize),
     End(usize, usize),
     Wrong(usize),
@@ -58,6 +56,7 @@ fn special(s: &[u8], at: usize, quote: u8, out: &mut [u8], len: usize) -> Turn
     if b < 0x20 {
         return Turn::Wrong(at);
     }
+    // no plain byte, so only the other quote is left
     out[len] = b;
     let end = len + 1;
     Turn::On(behind, end)
@@ -65,7 +64,7 @@ fn special(s: &[u8], at: usize, quote: u8, out: &mut [u8], len: usize) -> Turn
 
 // Copies a run of plain bytes, and reads what ends it.
 fn read_part(s: &[u8], at: usize, quote: u8, out: &mut [u8], len: usize) -> Turn
-    requires { ⌜ (ownByte (quoteOf quote) ≡ quote) × (isUtf8 (drop at (now s)) ≡ true) × (at ≤ length (now s)) × (len + (length (now s) - at) ≤ length (now out)) ⌝ }
+    requires { ⌜ Opened quote (now s) at (now out) len ⌝ }
     ensures { λ r. ⌜ Turning (quoteOf quote) (now (s .entry)) at (now (out .entry)) len (now (out .exit)) r ⌝ }
 {
     let i = writing::copy_plain(s, at, out, len);
@@ -75,7 +74,7 @@ fn read_part(s: &[u8], at: usize, quote: u8, out: &mut [u8], len: usize) -> Turn
 // Reads the characters of a quoted text from `at`, which stands right behind the opening quote, up to the closing quote, and writes the
 // bytes that they stand for into out from `len` on.
 pub fn unescape_string(s: &[u8], at: usize, quote: u8, out: &mut [u8], len: usize) -> Unescaped
-    requires { ⌜ (ownByte (quoteOf quote) ≡ quote) × (isUtf8 (drop at (now s)) ≡ true) × (at ≤ length (now s)) × (len + (length (now s) - at) ≤ length (now out)) ⌝ }
+    requires { ⌜ Opened quote (now s) at (now out) len ⌝ }
     ensures { λ r. ⌜ Unescaping (quoteOf quote) (now (s .entry)) at (now (out .entry)) len (now (out .exit)) r ⌝ }
 {
     let mut i = at;

@@ -14,7 +14,7 @@ ran : (c : tie.After-copy-plain) → Went (quoteOf (c .before .before .before .b
 ran c =
     let s = c .before .before .before .before in
     let a = s .args in
-    copied-went (quoteOf (a .quote)) (a .s .now) (a .at) (a .out .now) (a .len) (c .copy-plain .last .1 .1 .0) (c .copy-plain .result) (s .pre .1) (c .copy-plain .ensures)
+    copied-went (quoteOf (a .quote)) (a .s .now) (a .at) (a .out .now) (a .len) (c .copy-plain .last .1 .1 .0) (c .copy-plain .result) (s .pre .sound) (c .copy-plain .ensures)
 
 copy-plain-requires : tie.Need-copy-plain-requires
 copy-plain-requires c κs = search needs
@@ -31,10 +31,10 @@ special-requires c κs =
     let a = s .args in
     let k = c .before .before .before .copy-plain in
     let r = ran (c .before .before .before) in (
-      s .pre .0,
+      s .pre .isQuote,
       rw (k .ensures .rest) (behind-starts unescapedByte (drop (a .at) (a .s .now))),
       r .to,
-      went-room _ _ _ _ _ _ _ _ r (s .pre .3),
+      went-room _ _ _ _ _ _ _ _ r (s .pre .room),
     )
 
 same-length : tie.Need-same-length

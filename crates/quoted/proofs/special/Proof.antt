@@ -1,4 +1,5 @@
 -- `quoted::special` meets its contract. The byte decides: the end, the closing quote, an escape, a control character, or the other quote. Assumes nothing.
+use native.Mathlib.Omega.{arith}
 use borrow.Author.Needs.{needs}
 use mathlib.Core.Path.{_∙_, sym}
 use Rattle.quoted.specs.Quoted.{quoteOf}
@@ -60,7 +61,7 @@ returns-5 : tie.Need-returns-5
 returns-5 c =
     let s = c .before .before .before .before .before .before .before in
     let a = s .args in
-    special-control (quoteOf (a .quote)) (a .s .now) (a .at) (a .out .now) (a .len) (c .before .before .before .before .if1 .left) (s .pre .1) (c .if4 .taken)
+    special-control (quoteOf (a .quote)) (a .s .now) (a .at) (a .out .now) (a .len) (c .before .before .before .before .if1 .left) (s .pre .1) (omega arith)
 
 slice-write-out : tie.Need-slice-write-out
 slice-write-out c = search needs
@@ -75,7 +76,7 @@ returns-6 : tie.Need-returns-6
 returns-6 c =
     let s = c .before .before .before .before .before .before .before in
     let a = s .args in
-    special-other (quoteOf (a .quote)) (a .s .now) (a .at) (a .out .now) (a .len) (c .before .before .before .before .if1 .left) (s .pre .1) (c .if4 .left) (c .before .if3 .left) (λ e. c .before .before .if2 .left (e ∙ s .pre .0))
+    special-other (quoteOf (a .quote)) (a .s .now) (a .at) (a .out .now) (a .len) (c .before .before .before .before .if1 .left) (s .pre .1) (omega arith) (c .before .if3 .left) (λ e. c .before .before .if2 .left (e ∙ s .pre .0))
 
 pub special-spec : {M : Type 1} → statement M
 special-spec = tie.close (tie.spec returns shared-slice-read-b add-behind returns-2 escape-requires enum-known-c enum-told returns-3 put-point-requires same-length returns-4 returns-5 slice-write-out add-end same-length-2 returns-6)

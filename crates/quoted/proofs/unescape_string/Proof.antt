@@ -20,13 +20,13 @@ abbrev μ-loop : tie.MeasureT-loop
 loop-holds : tie.Need-loop-holds Inv-loop μ-loop
 loop-holds c =
     let s = c .before .before in
-    went-start (quoteOf (s .args .quote)) (s .args .s .now) (s .args .at) (s .args .out .now) (s .args .len) (s .pre .2)
+    went-start (quoteOf (s .args .quote)) (s .args .s .now) (s .args .at) (s .args .out .now) (s .args .len) (s .pre .within)
 
 read-part-requires : tie.Need-read-part-requires Inv-loop μ-loop
 read-part-requires c κs =
     let s = c .before .before .before .before in
     let l = c .before .loop in
-    (s .pre .0, went-sound _ _ _ _ _ _ _ _ (l .inv) (s .pre .1), l .inv .to, went-room _ _ _ _ _ _ _ _ (l .inv) (s .pre .3))
+    record { isQuote = s .pre .isQuote; sound = went-sound _ _ _ _ _ _ _ _ (l .inv) (s .pre .sound); within = l .inv .to; room = went-room _ _ _ _ _ _ _ _ (l .inv) (s .pre .room) }
 
 enum-known-next : tie.Need-enum-known-next Inv-loop μ-loop
 enum-known-next c = search needs
@@ -62,7 +62,7 @@ returns c =
     let l = c .before .before .before .before .before .before .before .loop in
     let k = c .before .before .before .before .before .read-part in
     let t = (rw (c .before .next2 .given .1) at (k .ensures)) in
-    unescaped (quoteOf (s .args .quote)) (s .args .s .now) (s .args .at) (s .args .out .now) (s .args .len) _ _ _ (s .pre .1) (omega (arith, t .0, l .inv .from)) (went-then (quoteOf (s .args .quote)) (s .args .s .now) (s .args .at) (s .args .out .now) (s .args .len) (l .out) (l .i) (l .n) (l .inv) _ _ _ _ (t .1))
+    unescaped (quoteOf (s .args .quote)) (s .args .s .now) (s .args .at) (s .args .out .now) (s .args .len) _ _ _ (s .pre .sound) (omega (arith, t .0, l .inv .from)) (went-then (quoteOf (s .args .quote)) (s .args .s .now) (s .args .at) (s .args .out .now) (s .args .len) (l .out) (l .i) (l .n) (l .inv) _ _ _ _ (t .1))
 
 enum-known-place : tie.Need-enum-known-place Inv-loop μ-loop
 enum-known-place c = search needs

@@ -66,19 +66,19 @@ returns-5 : tie.Need-returns-5
 returns-5 c =
     let a = c .before .before .before .before .before .before .before .before .before .before .before .args in
     let v = c .before .before .v .given .0 .0 in
-    low-not (a .s .now) (a .at) (begins (c .before .before .before .before .before)) v (rw (c .before .before .v .given .1) at (c .before .before .before .before .hex4 .ensures)) (under 0xDC00 0xDFFF v (c .if4 .taken))
+    low-not (a .s .now) (a .at) (begins (c .before .before .before .before .before)) v (rw (c .before .before .v .given .1) at (c .before .before .before .before .hex4 .ensures)) (under 0xDC00 0xDFFF v (omega arith))
 
 returns-6 : tie.Need-returns-6
 returns-6 c =
     let a = c .before .before .before .before .before .before .before .before .before .before .before .before .args in
     let v = c .before .before .before .v .given .0 .0 in
-    low-not (a .s .now) (a .at) (begins (c .before .before .before .before .before .before)) v (rw (c .before .before .before .v .given .1) at (c .before .before .before .before .before .hex4 .ensures)) (beyond 0xDC00 0xDFFF v (c .if5 .taken))
+    low-not (a .s .now) (a .at) (begins (c .before .before .before .before .before .before)) v (rw (c .before .before .before .v .given .1) at (c .before .before .before .before .before .hex4 .ensures)) (beyond 0xDC00 0xDFFF v (omega arith))
 
 returns-7 : tie.Need-returns-7
 returns-7 c =
     let a = c .before .before .before .before .before .before .before .before .before .before .before .before .args in
     let v = c .before .before .before .v .given .0 .0 in
-    low-found (a .s .now) (a .at) (begins (c .before .before .before .before .before .before)) v (rw (c .before .before .before .v .given .1) at (c .before .before .before .before .before .hex4 .ensures)) (inside 0xDC00 0xDFFF v (c .before .if4 .left) (c .if5 .left))
+    low-found (a .s .now) (a .at) (begins (c .before .before .before .before .before .before)) v (rw (c .before .before .before .v .given .1) at (c .before .before .before .before .before .hex4 .ensures)) (inside 0xDC00 0xDFFF v (omega arith) (omega arith))
 
 pub low-after-spec : {M : Type 1} → statement M
 low-after-spec = tie.close (tie.spec sub-if1 returns shared-slice-read-if2 returns-2 add-if3 shared-slice-read-if3 returns-3 add-hex4 hex4-requires enum-known-v enum-told returns-4 returns-5 returns-6 returns-7)
