@@ -1,0 +1,41 @@
+// The member of a map by its name.
+use table::records;
+use text::parts;
+ghost use mathlib.Core.Path.{_≡_};
+ghost use Prim.Native.Nat.{_+_, _≤_};
+ghost use lib.ListN.{length};
+ghost use Rattle.definition.specs.Bytes.{part};
+ghost use Rattle.equal.specs.Members.{Members, Looked};
+
+// What a name finds.
+pub enum Member {
+    At(usize),
+    Nothing,
+}
+
+// Among `count` members from `first` on, the one whose name is the `n` bytes of s from `a` on.
+pub fn find_member(
+    table: &[u8],
+    text: &[u8],
+    first: usize,
+    count: usize,
+    s: &[u8],
+    a: usize,
+    n: usize,
+) -> Member
+    requires { ⌜ Members (now table) (now text) first count ⌝ }
+    requires { ⌜ a + n ≤ length (now s) ⌝ }
+    ensures { λ r. ⌜ Looked (now (table .entry)) (now (text .entry)) first count (part (now (s .entry)) a n) r ⌝ }
+{
+    let mut i = 0;
+    while i < count {
+        let node = first + i;
+        let start = records::key_start(table, node) as usize;
+        let size = records::key_length(table, node) as usize;
+        if parts::same_part(text, start, size, s, a, n) {
+            return Member::At(node);
+        }
+        i += 1;
+    }
+    Member::Nothing
+}
