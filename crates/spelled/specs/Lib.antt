@@ -1,0 +1,7 @@
+pub mod Lists
+pub mod Parts
+pub mod Leaves
+pub mod Queries
+pub mod Operands
+pub mod Tests
+pub mod One
