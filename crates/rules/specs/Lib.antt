@@ -1,6 +1,7 @@
 pub mod Follows
 pub mod Sorted
 pub mod So
+pub mod Loose
 pub mod Rep
 pub mod Joins
 pub mod Starts

@@ -1,0 +1,11 @@
+pub mod Verdicts
+pub mod Begins
+pub mod Stores
+pub mod Bits
+pub mod Dotted
+pub mod Words
+pub mod Quotes
+pub mod Ints
+pub mod Slices
+pub mod Numerals
+pub mod Selecting

@@ -1,0 +1,51 @@
+// Number literals, as they are written.
+use crate::State;
+use crate::item;
+use crate::ranges::eight;
+use literals::Literal;
+use text::bytes::bits64;
+ghost use mathlib.Core.Path.{_≡_};
+ghost use mathlib.Core.Bool.{true, false};
+ghost use mathlib.Core.List.{List};
+ghost use Prim.Native.Nat.{ℕ, _+_, _≤_};
+ghost use lib.ListN.{length};
+ghost use Rattle.literals.specs.Values.{meaning};
+ghost use Rattle.writing.specs.Effects.{joinMarks};
+ghost use Rattle.writing.specs.Writes.{writeNumeral};
+ghost use Rattle.items.specs.Reads.{Done, Room, marksOf};
+
+// The state with a literal beyond the exact range.
+fn beyond(st: State) -> State
+    ensures place { λ r. ⌜ (r .at ≡ st .at) × (r .len ≡ st .len) × (r .pool ≡ st .pool) ⌝ }
+    ensures marks { λ r. ⌜ marksOf r ≡ joinMarks (marksOf st) (record { verdict = 0; calls = false; beyond = true }) ⌝ }
+{
+    State {
+        at: st.at,
+        len: st.len,
+        pool: st.pool,
+        verdict: st.verdict,
+        calls: st.calls,
+        beyond: true,
+    }
+}
+
+// The item of what a number literal stands for. No pool is touched.
+pub fn put_numeral(plan: &mut [u8], st: State, v: Literal) -> State
+    requires { ⌜ Room 9 (now plan) st ⌝ }
+    ensures { λ r. ⌜ ((L : List ℕ) → Done (now (plan .entry)) (now (plan .exit)) L L st r (writeNumeral (meaning v) (st .pool))) ⌝ }
+{
+    match v {
+        Literal::Int(z) => {
+            let a = item(plan, st, 16);
+            eight(plan, a, bits64(z))
+        }
+        Literal::Float(b) => {
+            let a = item(plan, st, 17);
+            eight(plan, a, b)
+        }
+        Literal::Beyond => {
+            let a = item(plan, beyond(st), 19);
+            item(plan, a, 2)
+        }
+    }
+}
