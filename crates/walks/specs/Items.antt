@@ -183,7 +183,7 @@ front P L p k (and s ss) a l =
 
 -- ---- one selector, by its kind
 
-pub selectorKind : Selector → ℕ
+unfoldable pub selectorKind : Selector → ℕ
 selectorKind (name s) = 5
 selectorKind (index z) = 6
 selectorKind (slice a b c) = 7

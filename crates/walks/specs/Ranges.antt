@@ -30,7 +30,7 @@ pub range-of : (T X : List ℕ) → Accepted T X → (i : ℕ) → i < nodeCount
 range-of T X tab i h j c a b = record { count = b; first = λ l. a ∙ tab .first i h (omega arith) }
 
 -- a loop over a slice's places: nothing is picked from no nodes
-pick-nothing : (ks : List ℕ) → pick ks [] ≡ []
+pub pick-nothing : (ks : List ℕ) → pick ks [] ≡ []
 unfolding pick
 pick-nothing [] = refl
 pick-nothing (zero ∷ ks) = pick-nothing ks
@@ -87,7 +87,7 @@ module _ (T X : List ℕ) (tab : Accepted T X) (i : ℕ) (h : i < nodeCount T) (
   pub range-in : 0 < c → j + c ≤ nodeCount T
   range-in l = omega (arith, tab .inside i h, r .first l, r .count)
 
-  elements-at : kindAt T i ≡ kindList → elements (nodeAt T X i) ≡ nodes T X j c
+  pub elements-at : kindAt T i ≡ kindList → elements (nodeAt T X i) ≡ nodes T X j c
   elements-at e = elements-list T X tab i h e ∙ sym nodes-at
 
   many-elements : kindAt T i ≡ kindList → length (elements (nodeAt T X i)) ≡ c

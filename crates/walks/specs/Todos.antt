@@ -471,6 +471,32 @@ module _ (P L : List ℕ) (q e : ℕ) (R N : Json) (acc : Bool) (x y : Value) (w
       go c (truth-is i a) k = absurd (omega arith)
       go c (length-is i a) k = absurd (omega arith)
 
+  -- no kind stands between queries and literals
+  pub past-queries : Todo P L q e R N acc x y want → q < e → 3 ≤ getD P q 0 → 0x10 ≤ getD P q 0
+  past-queries d l lo = let c = uncons d l in go c (shape (c .o)) (c .byte)
+    where
+      go : (c : Cons P L q e R N acc x y want) → Shape (c .o) → getD P q 0 ≡ kind (c .o) → 0x10 ≤ getD P q 0
+      go c (query-is m s f i a b) k = absurd (omega arith)
+      go c (literal-is j i a b) k = omega arith
+      go c (compare-is o i a) k = omega arith
+      go c (not-is i a) k = omega arith
+      go c (right-is w t i r a b) k = omega arith
+      go c (truth-is i a) k = omega arith
+      go c (length-is i a) k = omega arith
+
+  -- behind the right operands stand only the kinds of a test and of a length
+  pub last-kind : Todo P L q e R N acc x y want → q < e → 0x18 ≤ getD P q 0 → (getD P q 0 ≡ 0x18 → ⊥) → getD P q 0 ≡ 0x1A
+  last-kind d l lo n = let c = uncons d l in go c (shape (c .o)) (c .byte)
+    where
+      go : (c : Cons P L q e R N acc x y want) → Shape (c .o) → getD P q 0 ≡ kind (c .o) → getD P q 0 ≡ 0x1A
+      go c (query-is m s f i a b) k = absurd (omega arith)
+      go c (literal-is j i a b) k = absurd (omega arith)
+      go c (compare-is o i a) k = absurd (omega arith)
+      go c (not-is i a) k = absurd (omega arith)
+      go c (right-is w t i r a b) k = absurd (omega arith)
+      go c (truth-is i a) k = absurd (n (k ∙ a))
+      go c (length-is i a) k = k ∙ a
+
   -- ---- a query, from the node S on
 
   pub record QueryAt (S : Json) : Type 0 where

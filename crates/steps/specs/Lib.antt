@@ -1,0 +1,6 @@
+pub mod Ends
+pub mod EndLaws
+pub mod Leaves
+pub mod LeafLaws
+pub mod SliceLaws
+pub mod OpLaws
