@@ -11,9 +11,10 @@ use Rattle.definition.specs.Tables.{nodeCount, kindAt, kindMap, childCount, cou
 use Rattle.tables.specs.Counts.{counts-root, counts-next, counts-monotone}
 use Rattle.tables.specs.Parents.{InRange}
 use Rattle.tables.specs.Least.{RightBelow, right-more}
-use Rattle.tables.specs.Rights.{member-inside}
+use Rattle.tables.specs.Rights.{member-inside, map-members, count-map, right-payload}
+use Rattle.definition.specs.Limits.{maxNodes, maxMembers}
 use Rattle.table.specs.declared.scan.Cursor.{Cursor}
-use Rattle.table.specs.Words.{Child, KeysInside, HasParent, CursorAt, ParentAt}
+use Rattle.table.specs.Words.{Child, KeysInside, MembersBefore, HasParent, CursorAt, ParentAt}
 
 -- the counts before a node and the node behind it, as the code adds them
 step-counts : (T : List ℕ) (p : ℕ) → countsBefore T (suc (p + 1)) ≡ countsBefore T (suc p) + childCount T (p + 1)
@@ -63,8 +64,8 @@ module _ (T : List ℕ) (i : ℕ) (q : Cursor) (h : ParentAt T i q) where
       record { above = omega arith; within = omega arith }
 
   -- the node is asked about as a child of that parent
-  pub found-child : i < nodeCount T → Child T i (q .parent) (q .from)
-  found-child n = record { node-in = n; earlier = h .place .earlier; from-is = h .place .from-is; from-le = h .place .from-le }
+  pub found-child : i < nodeCount T → nodeCount T ≤ maxNodes → Child T i (q .parent) (q .from)
+  found-child n s = record { node-in = n; earlier = h .place .earlier; from-is = h .place .from-is; from-le = h .place .from-le; small = s }
 
   -- the keys of the members of the same map before the node lie inside the text
   pub found-keys : (X : List ℕ) → i < nodeCount T → RightBelow T X i → kindAt T (q .parent) ≡ kindMap → KeysInside T X (q .from) i
@@ -76,6 +77,21 @@ module _ (T : List ℕ) (i : ℕ) (q : Cursor) (h : ParentAt T i q) where
           let v = h .place .end-is in
           let w = h .end-past in
           record { above = omega arith; within = omega arith }
+
+  -- a map has few enough members
+  pub found-few : (X : List ℕ) → RightBelow T X i → kindAt T (q .parent) ≡ kindMap → i < q .from + maxMembers
+  found-few X r k =
+      let m = map-members T X (q .parent) k (right-payload T X (q .parent) (r (q .parent) (h .place .earlier))) in
+      let c = count-map T (q .parent) k in
+      let s = counts-next T (q .parent) in
+      let u = h .place .from-is in
+      let v = h .place .end-is in
+      let w = h .end-past in
+      omega arith
+
+  -- the members of the same map before the node
+  pub found-members : (X : List ℕ) → i < nodeCount T → RightBelow T X i → kindAt T (q .parent) ≡ kindMap → MembersBefore T X (q .from) i
+  found-members X n r k = record { inside = found-keys X n r k; few = found-few X r k }
 
   -- the cursor is at or before the parent of the next node
   pub after-node : CursorAt T (i + 1) q

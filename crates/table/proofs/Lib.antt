@@ -1,3 +1,7 @@
 pub mod Answers
+pub mod Chains
 pub mod Cursor
+pub mod Folds
 pub mod Inside
+pub mod Kept
+pub mod Walks

@@ -1,2 +1,4 @@
+pub mod Buckets
+pub mod Chains
 pub mod Outcomes
 pub mod Words

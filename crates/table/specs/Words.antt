@@ -4,7 +4,10 @@ use mathlib.Core.Path.{_≡_}
 use mathlib.Core.List.{List}
 use mathlib.Core.Bool.{true, false}
 use lib.ListN.{length}
-use Rattle.definition.specs.Tables.{nodeCount, firstChild, keyStart, keyLength, nodeRight}
+use Rattle.definition.specs.Limits.{maxNodes, maxMembers}
+use Rattle.definition.specs.Tables.{nodeCount, kindAt, kindMap, highWord, firstChild, keyStart, keyLength, nodeRight}
+use Rattle.table.specs.Buckets.{bucketAt}
+use Rattle.table.specs.Chains.{HeadsBelow, Chained}
 use Rattle.table.specs.declared.scan.Cursor.{Cursor}
 use Rattle.table.specs.declared.scan.NodeChecked.{NodeChecked}
 use Rattle.table.specs.declared.scan.NodeChecked.the-variants.{Next, Wrong}
@@ -14,18 +17,47 @@ pub record KeysInside (T X : List ℕ) (from end : ℕ) : Type 0 where
   pub nodes : end ≤ nodeCount T
   pub keys : (j : ℕ) → from ≤ j → j < end → keyStart T j + keyLength T j ≤ length X
 
+-- the members of a map before a node: they are few enough, and their keys lie inside the text
+pub record MembersBefore (T X : List ℕ) (from node : ℕ) : Type 0 where
+  pub inside : KeysInside T X from node
+  pub few : node < from + maxMembers
+
+-- a member whose key lies inside the text, as those of the members before it do
+pub record Joins (T X : List ℕ) (from node : ℕ) : Type 0 where
+  pub inside : KeysInside T X from (node + 1)
+  pub from-le : from ≤ node
+  pub few : node < from + maxMembers
+  pub small : node ≤ maxNodes
+
+-- in a map of so many members a key is compared with each earlier one
+abbrev pub fewMembers : ℕ
+fewMembers = 8
+
+-- a map of more members, whose keys are found by chains
+pub record Large (T : List ℕ) (p : ℕ) : Type 0 where
+  pub is-map : kindAt T p ≡ kindMap
+  pub many : fewMembers < highWord T p
+
+-- heads and links before node i, whose parent is p with the first child f: in a large map they hold the chains of the members before i
+pub record Kept (T X : List ℕ) (i p f : ℕ) (H L : List ℕ) : Type 0 where
+  pub heads : HeadsBelow i H
+  pub room : length L ≡ maxMembers
+  pub chained : Large T p → Chained (bucketAt T X) f i H L
+
 -- a node, an earlier node, and where the range of the earlier one's children begins, at or before the node
 pub record Child (T : List ℕ) (node parent from : ℕ) : Type 0 where
   pub node-in : node < nodeCount T
   pub earlier : parent < node
   pub from-is : from ≡ firstChild T parent
   pub from-le : from ≤ node
+  pub small : nodeCount T ≤ maxNodes
 
 -- a node of the table, with the place where its children must begin, which the table reaches
 pub record NodeAt (T : List ℕ) (node first : ℕ) : Type 0 where
   pub node-in : node < nodeCount T
   pub first-is : first ≡ firstChild T node
   pub first-in : first ≤ nodeCount T
+  pub small : nodeCount T ≤ maxNodes
 
 -- a node behind the root that the counts before it reach, as the table reaches where its children must begin
 pub record HasParent (T : List ℕ) (node : ℕ) : Type 0 where
@@ -45,7 +77,13 @@ pub record ParentAt (T : List ℕ) (i : ℕ) (q : Cursor) : Type 0 where
   pub place : CursorAt T i q
   pub end-past : i < q .end
 
--- what the check of node i finds: that the node is right, with the cursor before the next one, or that it is wrong
-abbrev pub NodeFound : List ℕ → List ℕ → ℕ → NodeChecked → Type 0
-NodeFound T X i (Next q) = (nodeRight T X i ≡ true) × CursorAt T (i + 1) q
-NodeFound T X i Wrong = nodeRight T X i ≡ false
+-- the cursor, heads and links before node i, which the cursor's range reaches
+pub record Before (T X : List ℕ) (i : ℕ) (q : Cursor) (H L : List ℕ) : Type 0 where
+  pub cursor : CursorAt T i q
+  pub reach : i ≤ q .end
+  pub kept : Kept T X i (q .parent) (q .from) H L
+
+-- what the check of node i finds: that the node is right, with what stands before the next one, or that it is wrong
+abbrev pub NodeFound : List ℕ → List ℕ → ℕ → List ℕ → List ℕ → NodeChecked → Type 0
+NodeFound T X i H L (Next q) = (nodeRight T X i ≡ true) × Before T X (i + 1) q H L
+NodeFound T X i H L Wrong = nodeRight T X i ≡ false

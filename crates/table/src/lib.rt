@@ -1,6 +1,8 @@
 // The table of values: the check of a table, the text and the key of a node, and the fields that the evaluator reads.
 //
 //   records    the fields of a record of 24 bytes
+//   buckets    the bucket of a key
+//   keys       whether a key is unlike those before it in its map
 //   rules      the rules for a node
 //   scan       the pass over the nodes
 //   named      the text and the key of a node
@@ -9,6 +11,8 @@ ghost use Rattle.definition.specs.Tables.{badSize};
 ghost use Rattle.definition.specs.TableOutcomes.{tableOutcome, textOutcome, keyOutcome};
 ghost use Rattle.table.specs.Outcomes.{reported, answered};
 
+mod buckets;
+mod keys;
 mod named;
 pub mod records;
 mod rules;

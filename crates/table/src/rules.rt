@@ -1,14 +1,13 @@
 // The rules for a node. Each function answers whether a rule of the definition is kept, and asks that its nodes are nodes of the table.
 ghost use mathlib.Core.Path.{_≡_};
 ghost use mathlib.Core.Option.{some};
-ghost use Prim.Native.Nat.{ℕ, _<_, _≤_, _+_, _-_};
-ghost use lib.ListN.{length};
-ghost use Rattle.definition.specs.Bytes.{sameBytes};
-ghost use Rattle.definition.specs.Tables.{nodeCount, kindAt, kindMap, firstChild, goodPart, headRight, isFinite, rangeRight, payloadRight, noKey, keyBytes, keyDiffers, memberRight, placeRight, nodeRight};
-ghost use Rattle.table.specs.Words.{Child, KeysInside};
+ghost use mathlib.Core.Bool.{true};
+ghost use Prim.Native.Nat.{_<_, _+_};
+ghost use Rattle.definition.specs.Tables.{nodeCount, kindAt, kindMap, firstChild, goodPart, headRight, isFinite, rangeRight, payloadRight, noKey, memberRight, placeRight, nodeRight};
+ghost use Rattle.table.specs.Words.{Child, MembersBefore, Kept};
+use crate::keys;
 use crate::records;
 use text::encoding;
-use text::parts;
 
 const RECORD: usize = 24;
 
@@ -25,6 +24,9 @@ const KIND_MAP: u8 = 7;
 const MAX_DEPTH: u8 = 63;
 
 const MAX_MEMBERS: u32 = 1024;
+
+// A key in a map of so many members is compared with each earlier one.
+const FEW_MEMBERS: u32 = 8;
 
 const FLOAT_SIGN: u64 = 9223372036854775808;
 
@@ -129,60 +131,50 @@ pub fn no_key(table: &[u8], node: usize) -> bool
     records::key_length(table, node) == 0
 }
 
-// Whether the key of a node, which lies inside the text, has these bytes.
-fn same_key(table: &[u8], text: &[u8], node: usize, key: &[u8]) -> bool
-    requires { ⌜ KeysInside (now table) (now text) node (node + 1) ⌝ }
-    ensures { λ r. ⌜ r ≡ sameBytes (keyBytes (now (table .entry)) (now (text .entry)) node) (now (key .entry)) ⌝ }
-{
-    let size = records::key_length(table, node) as usize;
-    if size != key.len() {
-        return false;
-    }
-    let start = records::key_start(table, node) as usize;
-    let end = start + size;
-    parts::same_bytes(&text[start..end], key)
-}
-
-// Whether the key of a node is unlike those of the nodes from a place up to it.
-fn key_differs(table: &[u8], text: &[u8], node: usize, from: usize) -> bool
-    requires { ⌜ from ≤ node ⌝ }
-    requires { ⌜ KeysInside (now table) (now text) from (node + 1) ⌝ }
-    ensures { λ r. ⌜ r ≡ keyDiffers (now (table .entry)) (now (text .entry)) node from (node - from) ⌝ }
-{
-    let start = records::key_start(table, node) as usize;
-    let end = start + records::key_length(table, node) as usize;
-    let key = &text[start..end];
-    let mut j = from;
-    while j < node {
-        if same_key(table, text, j, key) {
-            return false;
-        }
-        j += 1;
-    }
-    true
-}
-
-// The key of a member of a map, whose first member is from.
-fn member_right(table: &[u8], text: &[u8], node: usize, parent: usize, from: usize) -> bool
+// The key of a member of a map, whose first member is from. heads and links hold the chains of the members before it, if there are many.
+fn member_right(
+    table: &[u8],
+    text: &[u8],
+    node: usize,
+    parent: usize,
+    from: usize,
+    heads: &mut [u16],
+    links: &mut [u16],
+) -> bool
     requires { ⌜ Child (now table) node parent from ⌝ }
-    requires { ⌜ KeysInside (now table) (now text) from node ⌝ }
+    requires { ⌜ (kindAt (now table) parent ≡ kindMap) × MembersBefore (now table) (now text) from node ⌝ }
+    requires { ⌜ Kept (now table) (now text) node parent from (now heads) (now links) ⌝ }
     ensures { λ r. ⌜ r ≡ memberRight (now (table .entry)) (now (text .entry)) parent node ⌝ }
+    ensures { λ r. ⌜ (r ≡ true → Kept (now (table .entry)) (now (text .entry)) (node + 1) parent from (now (heads .exit)) (now (links .exit))) ⌝ }
 {
-    if good_part(
+    if !good_part(
         text,
         records::key_start(table, node),
         records::key_length(table, node),
     ) {
-        return key_differs(table, text, node, from);
+        return false;
     }
-    false
+    if records::high_word(table, parent) <= FEW_MEMBERS {
+        return keys::key_differs(table, text, node, from);
+    }
+    keys::joins_chain(table, text, node, from, heads, links)
 }
 
 // What a parent asks of its child: the depth, and the key as the parent's kind has it. The parent's first child is from.
-pub fn place_right(table: &[u8], text: &[u8], node: usize, parent: usize, from: usize) -> bool
+pub fn place_right(
+    table: &[u8],
+    text: &[u8],
+    node: usize,
+    parent: usize,
+    from: usize,
+    heads: &mut [u16],
+    links: &mut [u16],
+) -> bool
     requires { ⌜ Child (now table) node parent from ⌝ }
-    requires { ⌜ (kindAt (now table) parent ≡ kindMap → KeysInside (now table) (now text) from node) ⌝ }
+    requires { ⌜ (kindAt (now table) parent ≡ kindMap → MembersBefore (now table) (now text) from node) ⌝ }
+    requires { ⌜ Kept (now table) (now text) node parent from (now heads) (now links) ⌝ }
     ensures { λ r. ⌜ r ≡ placeRight (now (table .entry)) (now (text .entry)) node (some parent) ⌝ }
+    ensures { λ r. ⌜ (r ≡ true → Kept (now (table .entry)) (now (text .entry)) (node + 1) parent from (now (heads .exit)) (now (links .exit))) ⌝ }
 {
     let deep = records::depth(table, node) as usize;
     let above = records::depth(table, parent) as usize;
@@ -190,7 +182,7 @@ pub fn place_right(table: &[u8], text: &[u8], node: usize, parent: usize, from: 
         return false;
     }
     if records::kind(table, parent) == KIND_MAP {
-        return member_right(table, text, node, parent, from);
+        return member_right(table, text, node, parent, from, heads, links);
     }
     no_key(table, node)
 }

@@ -1,16 +1,20 @@
 // The pass over the nodes of a table: each node is held against the rules, and a cursor that only moves forward finds its parent.
 ghost use mathlib.Core.Path.{_≡_};
-ghost use Prim.Native.Nat.{_<_, _+_};
+ghost use Prim.Native.Nat.{_<_, _≤_, _+_};
+ghost use Rattle.definition.specs.Limits.{maxNodes};
 ghost use Rattle.definition.specs.Tables.{nodeCount, firstChild, leastWrong, byLeast};
 ghost use Rattle.definition.specs.TableOutcomes.{reportTable};
 ghost use Rattle.tables.specs.Least.{RightBelow};
-ghost use Rattle.table.specs.Words.{NodeAt, HasParent, CursorAt, ParentAt, NodeFound};
+ghost use Rattle.table.specs.Words.{NodeAt, HasParent, CursorAt, ParentAt, Before, NodeFound};
 ghost use Rattle.table.specs.Outcomes.{reported};
 use crate::TableChecked;
+use crate::buckets;
 use crate::records;
 use crate::rules;
 
 const RECORD: usize = 24;
+
+const MAX_MEMBERS: usize = 1024;
 
 // A node with the range of its children.
 pub struct Cursor {
@@ -42,11 +46,19 @@ pub fn to_parent(table: &[u8], node: usize, cursor: Cursor) -> Cursor
 }
 
 // Holds a node behind the root against the rules. Its children must begin at first.
-fn check_node(table: &[u8], text: &[u8], node: usize, first: usize, cursor: Cursor) -> NodeChecked
+fn check_node(
+    table: &[u8],
+    text: &[u8],
+    node: usize,
+    first: usize,
+    cursor: Cursor,
+    heads: &mut [u16],
+    links: &mut [u16],
+) -> NodeChecked
     requires { ⌜ NodeAt (now table) node first ⌝ }
-    requires { ⌜ CursorAt (now table) node cursor ⌝ }
+    requires { ⌜ Before (now table) (now text) node cursor (now heads) (now links) ⌝ }
     requires { ⌜ RightBelow (now table) (now text) node ⌝ }
-    ensures { λ r. ⌜ NodeFound (now (table .entry)) (now (text .entry)) node r ⌝ }
+    ensures { λ r. ⌜ NodeFound (now (table .entry)) (now (text .entry)) node (now (heads .exit)) (now (links .exit)) r ⌝ }
 {
     if first <= node {
         return NodeChecked::Wrong;
@@ -60,16 +72,23 @@ fn check_node(table: &[u8], text: &[u8], node: usize, first: usize, cursor: Curs
     let found = to_parent(table, node, cursor);
     let parent = found.parent;
     let from = found.from;
-    if !rules::place_right(table, text, node, parent, from) {
+    if !rules::place_right(table, text, node, parent, from, heads, links) {
         return NodeChecked::Wrong;
     }
     NodeChecked::Next(found)
 }
 
 // The pass from node 1 on, whose children must begin at start.
-fn rest(table: &[u8], text: &[u8], start: usize, root: Cursor) -> TableChecked
-    requires { ⌜ (start ≡ firstChild (now table) 1) × CursorAt (now table) 1 root ⌝ }
-    requires { ⌜ (0 < nodeCount (now table)) × RightBelow (now table) (now text) 1 ⌝ }
+fn rest(
+    table: &[u8],
+    text: &[u8],
+    start: usize,
+    root: Cursor,
+    heads: &mut [u16],
+    links: &mut [u16],
+) -> TableChecked
+    requires { ⌜ (start ≡ firstChild (now table) 1) × Before (now table) (now text) 1 root (now heads) (now links) ⌝ }
+    requires { ⌜ (0 < nodeCount (now table)) × (nodeCount (now table) ≤ maxNodes) × RightBelow (now table) (now text) 1 ⌝ }
     ensures { λ r. ⌜ reported r ≡ reportTable (byLeast (leastWrong (now (table .entry)) (now (text .entry)) 0 (nodeCount (now (table .entry))))) ⌝ }
 {
     let count = table.len() / RECORD;
@@ -77,7 +96,7 @@ fn rest(table: &[u8], text: &[u8], start: usize, root: Cursor) -> TableChecked
     let mut first = start;
     let mut node = 1;
     while node < count {
-        match check_node(table, text, node, first, cursor) {
+        match check_node(table, text, node, first, cursor, heads, links) {
             NodeChecked::Next(found) => {
                 cursor = found;
                 first += records::child_count(table, node) as usize;
@@ -91,16 +110,27 @@ fn rest(table: &[u8], text: &[u8], start: usize, root: Cursor) -> TableChecked
     TableChecked::Accepted
 }
 
+// The same, with room for chains of which none is begun.
+fn with_chains(table: &[u8], text: &[u8], start: usize, root: Cursor) -> TableChecked
+    requires { ⌜ (start ≡ firstChild (now table) 1) × CursorAt (now table) 1 root ⌝ }
+    requires { ⌜ (0 < nodeCount (now table)) × (nodeCount (now table) ≤ maxNodes) × RightBelow (now table) (now text) 1 ⌝ }
+    ensures { λ r. ⌜ reported r ≡ reportTable (byLeast (leastWrong (now (table .entry)) (now (text .entry)) 0 (nodeCount (now (table .entry))))) ⌝ }
+{
+    let mut heads = [0u16; buckets::BUCKETS];
+    let mut links = [0u16; MAX_MEMBERS];
+    rest(table, text, start, root, &mut heads, &mut links)
+}
+
 // The whole pass.
 pub fn scan(table: &[u8], text: &[u8]) -> TableChecked
-    requires { ⌜ 0 < nodeCount (now table) ⌝ }
+    requires { ⌜ (0 < nodeCount (now table)) × (nodeCount (now table) ≤ maxNodes) ⌝ }
     ensures { λ r. ⌜ reported r ≡ reportTable (byLeast (leastWrong (now (table .entry)) (now (text .entry)) 0 (nodeCount (now (table .entry))))) ⌝ }
 {
     if !rules::root_right(table, text) {
         return TableChecked::WrongNode(0);
     }
     let end = 1 + records::child_count(table, 0) as usize;
-    rest(
+    with_chains(
         table,
         text,
         end,

@@ -1,19 +1,20 @@
 -- Eight ASCII bytes at once: bytes are ASCII if and only if their number has none of the bytes' highest bits.
 -- Assumes nothing.
-use Prim.Native.Nat.{ℕ, zero, suc, _+_, _*_, _/_, _%_, _^_, _≤_, _<_}
+use Prim.Native.Nat.{ℕ, zero, suc, _+_, _-_, _*_, _/_, _%_, _^_, _≤_, _<_}
 use mathlib.Core.Path.{_≡_, refl, ap, _∙_}
 use mathlib.Core.Bool.{Bool, true, _&&_, and-eq-true-iff}
-use mathlib.Core.List.{List, [], _∷_}
+use mathlib.Core.List.{List, [], _∷_, _++_}
 use native.Mathlib.Omega.{arith}
 use borrow.Author.Tests.{lt-ltb, eq-eqb, ne-eqb, eqb-true, eqb-false, ltb-true, ltb-false}
 use lib.Bits.{bitAnd, and-block, and-high}
 use lib.Dec.{eqb, ltb}
-use lib.ListN.{length, take, drop, getD, replicate}
+use lib.ListN.{length, take, drop, getD, replicate, length-drop, take-append-drop}
+use lib.Seq.{take-add, take-all, drop-drop}
 use Rattle.definition.specs.Bytes.{every, part, number}
 use Rattle.utf8.specs.Bytes.{by-test}
 use Rattle.text.specs.Chars.{isAscii}
 use Rattle.text.specs.Words.{Word}
-use Rattle.text.proofs.Numbers.{length-part}
+use Rattle.text.proofs.Numbers.{length-part, part-one}
 
 -- ---- bytes
 
@@ -84,3 +85,32 @@ pub ascii-at : {s : List ℕ} {at n r : ℕ} → at + n ≤ length s → ((i : �
 ascii-at {s} {at} {n} {r} h b w =
     let e = ascii-bits (part s at n) (every-part isByte s at n (are-bytes s b)) in
     rw (w .is) (rw (length-part s at n h) at e)
+
+-- ---- whole texts, from their parts
+
+module _ (p : ℕ → Bool) where
+  every-append : (a b : List ℕ) → every p a ≡ true → every p b ≡ true → every p (a ++ b) ≡ true
+  every-append [] b e f = f
+  every-append (x ∷ a) b e f =
+      let t = and-eq-true-iff (p x) (every p a) .0 e in
+      rw (t .0) (every-append a b (t .1) f)
+
+  -- what holds of a front and of the part behind it holds of the longer front
+  pub every-more : (s : List ℕ) (i n : ℕ) → every p (take i s) ≡ true → every p (part s i n) ≡ true → every p (take (i + n) s) ≡ true
+  every-more s i n e f = rw (take-add i n s) (every-append (take i s) (part s i n) e f)
+
+  -- what holds of a front and of the last elements holds of the whole, where they meet
+  pub every-whole : (s : List ℕ) (i j n : ℕ) → j ≤ i → j + n ≡ length s → every p (take i s) ≡ true → every p (part s j n) ≡ true → every p s ≡ true
+  every-whole s i j n h l e f =
+      let d : every p (drop j s) ≡ true = rw (take-all n (drop j s) (omega (arith, length-drop j s))) at f in
+      let k : j + (i - j) ≡ i = omega arith in
+      let g : every p (drop i s) ≡ true = rw (← k, ← drop-drop (i - j) j s) (every-drop p (i - j) (drop j s) d) in
+      rw take-append-drop at (every-append (take i s) (drop i s) e g)
+
+  -- a front that is as long as the text is the text
+  pub every-all : (s : List ℕ) (i : ℕ) → length s ≤ i → every p (take i s) ≡ true → every p s ≡ true
+  every-all s i h e = rw (take-all i s h) at e
+
+  -- one element
+  pub every-one : (s : List ℕ) (i : ℕ) → i < length s → p (getD s i 0) ≡ true → every p (part s i 1) ≡ true
+  every-one s i h e = rw (part-one s i h, e)

@@ -1,15 +1,15 @@
 -- Equality of texts: what the test says of the texts, and a comparison piece by piece.
 -- Assumes nothing.
-use Prim.Native.Nat.{ℕ, _+_, _≤_, _<_}
+use Prim.Native.Nat.{ℕ, _+_, _-_, _≤_, _<_}
 use native.Mathlib.Nat.{suc-inj, suc-ne-zero}
 use native.Mathlib.Omega.{arith}
 use mathlib.Core.Path.{_≡_, refl, sym, ap, _∙_}
 use mathlib.Core.Bool.{true, false, and-eq-true-iff, false≢true}
 use mathlib.Core.List.{List, [], _∷_, _++_}
-use borrow.Author.Tests.{eq-eqb, eqb-true, ltb-true}
+use borrow.Author.Tests.{eq-eqb, eqb-true, eqb-false, ltb-true}
 use lib.Dec.{eqb}
-use lib.ListN.{length, take, drop, getD, take-append-drop, drop-of-length-le}
-use lib.Seq.{drop-drop}
+use lib.ListN.{length, take, drop, getD, take-append-drop, drop-of-length-le, length-drop}
+use lib.Seq.{drop-drop, take-all}
 use Rattle.definition.specs.Bytes.{every, part, number, sameBytes}
 use Rattle.utf8.specs.Bytes.{by-test}
 use Rattle.text.specs.Words.{Word}
@@ -108,3 +108,25 @@ byte-unlike s t i hs ht d e =
     let f = part-one s i hs in
     let g = part-one t i ht in
     d (cc)
+
+-- ---- the last word
+
+-- what lies behind a later place, from what lies behind an earlier one
+later-equal : (s t : List ℕ) (j i : ℕ) → j ≤ i → drop j s ≡ drop j t → drop i s ≡ drop i t
+later-equal s t j i h e =
+    let k : j + (i - j) ≡ i = omega arith in
+    rw (← k, ← drop-drop (i - j) j s, ← drop-drop (i - j) j t, e)
+
+-- the last n elements
+last-part : (s : List ℕ) (j n : ℕ) → j + n ≡ length s → part s j n ≡ drop j s
+last-part s j n h = take-all n (drop j s) (omega (arith, length-drop j s))
+
+-- the last words decide, where the texts are the same up to a place in them or behind them
+pub same-last : {s t : List ℕ} {j n x y : ℕ} (i : ℕ) → length s ≡ length t → j + n ≡ length s → j ≤ i → ((k : ℕ) → getD s k 0 < 256) → ((k : ℕ) → getD t k 0 < 256) → Word n s j x → Word n t j y → sameBytes s t ≡ sameBytes (drop i s) (drop i t) → eqb x y ≡ sameBytes s t
+same-last {s} {t} {j} {n} {x} {y} i l h a bs bt ws wt u =
+    by-test (eqb x y)
+    (λ e.
+    let p = words-equal (omega arith) (omega arith) bs bt ws wt (eqb-true x y e) in
+    let d = sym (last-part s j n h) ∙ p ∙ last-part t j n (h ∙ l) in
+    e ∙ sym (u ∙ same-equal (drop i s) (drop i t) (later-equal s t j i a d)))
+    (λ f. f ∙ sym (same-unlike s t (λ e. words-unlike ws wt (eqb-false x y f) (ap (λ (r : List ℕ). part r j n) e))))

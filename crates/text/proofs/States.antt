@@ -171,6 +171,14 @@ utf8-ascii-all (b ∷ a) r e =
     let t = and-eq-true-iff (isAscii b) (every isAscii a) .0 e in
     utf8-ascii b (a ++ r) (ltb-true b 0x80 (t .0)) ∙ utf8-ascii-all a r (t .1)
 
+-- a text that is ASCII throughout is UTF-8
+pub utf8-plain : (s : List ℕ) → every isAscii s ≡ true → isUtf8 s ≡ true
+unfolding isUtf8 isUtf8From
+utf8-plain [] e = refl
+utf8-plain (b ∷ s) e =
+    let t = and-eq-true-iff (isAscii b) (every isAscii s) .0 e in
+    utf8-ascii b s (ltb-true b 0x80 (t .0)) ∙ utf8-plain s (t .1)
+
 -- a run of ASCII bytes is passed at once
 run-split : (n : ℕ) (s : List ℕ) → asciiRun n s ≡ true → isUtf8 s ≡ isUtf8 (drop n s)
 run-split n s e =

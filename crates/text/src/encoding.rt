@@ -1,6 +1,7 @@
-// Whether bytes are UTF-8: one pass, character by character, and eight ASCII bytes at once where they stand.
+// Whether bytes are UTF-8: a test whether all are ASCII, by words; and where not, one pass, character by character, and eight ASCII bytes at once where they stand.
 use crate::bytes;
 ghost use mathlib.Core.Path.{_≡_};
+ghost use mathlib.Core.Bool.{true};
 ghost use Prim.Native.Nat.{_+_, _<_, _≤_};
 ghost use lib.ListN.{length, drop};
 ghost use Rattle.definition.specs.Bytes.{every, part};
@@ -9,6 +10,9 @@ ghost use Rattle.text.specs.Chars.{waitOf, isAscii, tailsPass, tailsLeng
 
 // The highest bit of each of eight bytes.
 const HIGH_BITS: u64 = 0x8080808080808080;
+
+// The highest bit of each of four bytes.
+const HIGH_BITS_4: usize = 0x80808080;
 
 // What may come behind the first byte of a character: another character; a byte in lo..hi and some more in 80..BF after it; or nothing.
 enum Wait {
@@ -123,8 +127,72 @@ fn step_length(s: &[u8], at: usize) -> usize
     char_length(s, at)
 }
 
+// Whether the four bytes of s from `at` on are ASCII.
+fn ascii4(s: &[u8], at: usize) -> bool
+    requires { ⌜ at + 4 ≤ length (now s) ⌝ }
+    ensures { λ r. ⌜ r ≡ every isAscii (part (now (s .entry)) at 4) ⌝ }
+{
+    bytes::word32(s, at) & HIGH_BITS_4 == 0
+}
+
+// Whether s is ASCII throughout, byte by byte.
+fn ascii_few(s: &[u8]) -> bool
+    ensures { λ r. ⌜ (r ≡ true → every isAscii (now (s .entry)) ≡ true) ⌝ }
+{
+    let mut i = 0;
+    while i < s.len() {
+        if 0x80 <= s[i] {
+            return false;
+        }
+        i += 1;
+    }
+    true
+}
+
+// The same, eight bytes at a time. The last eight may begin among bytes that were looked at before.
+fn ascii_words(s: &[u8]) -> bool
+    requires { ⌜ 8 ≤ length (now s) ⌝ }
+    ensures { λ r. ⌜ (r ≡ true → every isAscii (now (s .entry)) ≡ true) ⌝ }
+{
+    let last = s.len() - 8;
+    let mut i = 0;
+    while i < last {
+        if !ascii8(s, i) {
+            return false;
+        }
+        i += 8;
+    }
+    ascii8(s, last)
+}
+
+// The same, by the length.
+fn all_ascii(s: &[u8]) -> bool
+    ensures { λ r. ⌜ (r ≡ true → every isAscii (now (s .entry)) ≡ true) ⌝ }
+{
+    if s.len() < 4 {
+        return ascii_few(s);
+    }
+    if 8 <= s.len() {
+        return ascii_words(s);
+    }
+    if !ascii4(s, 0) {
+        return false;
+    }
+    ascii4(s, s.len() - 4)
+}
+
 // Whether s is UTF-8.
 pub fn is_utf8(s: &[u8]) -> bool
+    ensures { λ r. ⌜ r ≡ isUtf8 (now (s .entry)) ⌝ }
+{
+    if all_ascii(s) {
+        return true;
+    }
+    chars_pass(s)
+}
+
+// The same, character by character.
+fn chars_pass(s: &[u8]) -> bool
     ensures { λ r. ⌜ r ≡ isUtf8 (now (s .entry)) ⌝ }
 {
     let mut i = 0;

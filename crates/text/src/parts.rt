@@ -14,7 +14,7 @@ pub enum Order {
     Greater,
 }
 
-// Whether a and b hold the same bytes. Where eight bytes are left, they are compared at once.
+// Whether a and b hold the same bytes. Words are compared at once, and the last word of each as a whole, though it may begin among bytes that were compared before.
 pub fn same_bytes(a: &[u8], b: &[u8]) -> bool
     ensures { λ r. ⌜ r ≡ sameBytes (now (a .entry)) (now (b .entry)) ⌝ }
 {
@@ -29,21 +29,48 @@ fn same_each(a: &[u8], b: &[u8]) -> bool
     requires { ⌜ length (now a) ≡ length (now b) ⌝ }
     ensures { λ r. ⌜ r ≡ sameBytes (now (a .entry)) (now (b .entry)) ⌝ }
 {
+    if a.len() < 4 {
+        return same_few(a, b);
+    }
+    if 8 <= a.len() {
+        return same_words(a, b);
+    }
+    if bytes::word32(a, 0) != bytes::word32(b, 0) {
+        return false;
+    }
+    let last = a.len() - 4;
+    bytes::word32(a, last) == bytes::word32(b, last)
+}
+
+// The same, byte by byte.
+fn same_few(a: &[u8], b: &[u8]) -> bool
+    requires { ⌜ length (now a) ≡ length (now b) ⌝ }
+    ensures { λ r. ⌜ r ≡ sameBytes (now (a .entry)) (now (b .entry)) ⌝ }
+{
     let mut i = 0;
     while i < a.len() {
-        if a.len() - i < 8 {
-            if a[i] != b[i] {
-                return false;
-            }
-            i += 1;
-        } else {
-            if bytes::word64(a, i) != bytes::word64(b, i) {
-                return false;
-            }
-            i += 8;
+        if a[i] != b[i] {
+            return false;
         }
+        i += 1;
     }
     true
+}
+
+// The same, eight bytes at a time.
+fn same_words(a: &[u8], b: &[u8]) -> bool
+    requires { ⌜ (length (now a) ≡ length (now b)) × (8 ≤ length (now a)) ⌝ }
+    ensures { λ r. ⌜ r ≡ sameBytes (now (a .entry)) (now (b .entry)) ⌝ }
+{
+    let last = a.len() - 8;
+    let mut i = 0;
+    while i < last {
+        if bytes::word64(a, i) != bytes::word64(b, i) {
+            return false;
+        }
+        i += 8;
+    }
+    bytes::word64(a, last) == bytes::word64(b, last)
 }
 
 // Whether the n bytes of s from a on are the m bytes of t from b on.

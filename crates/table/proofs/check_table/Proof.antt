@@ -20,7 +20,8 @@ returns c =
 scan-requires : tie.Need-scan-requires
 scan-requires c κs =
     let a = c .before .before .before .before .args in
-    right-size (a .table .now) (a .text .now) (sym (c .before .bad-size .ensures) ∙ c .if1 .left) .some-node
+    let z = right-size (a .table .now) (a .text .now) (sym (c .before .bad-size .ensures) ∙ c .if1 .left) in
+    (z .some-node, z .few)
 
 returns-2 : tie.Need-returns-2
 unfolding tableOutcome

@@ -1,10 +1,13 @@
--- A key that is no part of the text is wrong; one that is one is compared with the keys before it. Assumes nothing.
+-- A key that is no part of the text is wrong; one that is one is compared with the keys before it, one by one or along a chain. Assumes nothing.
 use native.Mathlib.Omega.{arith}
 use mathlib.Core.Path.{sym, _∙_, ap, ap₂}
+use mathlib.Core.Bool.{false≢true}
 use Prim.Native.Nat.{ℕ, _-_}
+use borrow.Author.Tests.{not-true, not-false}
 use Rattle.definition.specs.Tables.{goodPart, keyDiffers, keyStart, keyLength}
 use Rattle.tables.specs.Rights.{good-inside, member-bad, member-good}
 use Rattle.table.proofs.Inside.{more-keys}
+use Rattle.table.proofs.Kept.{kept-plain, kept-chained}
 use borrow.Author.Needs.{needs}
 use Rattle.table.proofs.rules.member_right.Statement.{statement}
 use Rattle.table.proofs.rules.member_right.Tie as tie
@@ -18,28 +21,56 @@ key-length-requires c κs = search needs
 good-part-requires : tie.Need-good-part-requires
 good-part-requires c κs = search needs
 
-key-differs-requires : tie.Need-key-differs-requires
-key-differs-requires c κs =
-    let s = c .before .before .before .before .before .before in
-    let a = s .args in
-    let g = sym (c .before .good-part .ensures ∙ ap₂ (goodPart (a .text .now)) (c .before .before .before .key-start .ensures) (c .before .before .key-length .ensures)) ∙ c .if1 .taken in
-    (s .pre .0 .from-le, more-keys (a .table .now) (a .text .now) (a .from) (a .node) (s .pre .1) (s .pre .0 .node-in) (good-inside (a .text .now) (keyStart (a .table .now) (a .node)) (keyLength (a .table .now) (a .node)) g))
-
 returns : tie.Need-returns
 returns c =
-    let s = c .before .before .before .before .before .before .before in
+    let a = c .before .before .before .before .before .before .before .before .args in
+    let g = sym (c .before .good-part .ensures ∙ ap₂ (goodPart (a .text .now)) (c .before .before .before .key-start .ensures) (c .before .before .key-length .ensures)) ∙ not-true _ (c .if1 .taken) in
+    (sym (member-bad (a .table .now) (a .text .now) (a .node) (a .parent) g), λ z. absurd (false≢true z))
+
+high-word-requires : tie.Need-high-word-requires
+high-word-requires c κs = search needs
+
+key-differs-requires : tie.Need-key-differs-requires
+key-differs-requires c κs =
+    let s = c .before .before .before .before .before .before .before .before .before .before in
     let a = s .args in
-    let g = sym (c .before .before .good-part .ensures ∙ ap₂ (goodPart (a .text .now)) (c .before .before .before .before .key-start .ensures) (c .before .before .before .key-length .ensures)) ∙ c .before .if1 .taken in
-    c .key-differs .ensures
-    ∙ ap (λ (x : ℕ). keyDiffers (a .table .now) (a .text .now) (a .node) x (a .node - x)) (s .pre .0 .from-is)
-    ∙ sym (member-good (a .table .now) (a .text .now) (a .node) (a .parent) g)
+    let g = sym (c .before .before .before .good-part .ensures ∙ ap₂ (goodPart (a .text .now)) (c .before .before .before .before .before .key-start .ensures) (c .before .before .before .before .key-length .ensures)) ∙ not-false _ (c .before .before .if1 .left) in
+    (s .pre .0 .from-le, more-keys (a .table .now) (a .text .now) (a .from) (a .node) (s .pre .1 .0 .1 .inside) (s .pre .0 .node-in) (good-inside (a .text .now) (keyStart (a .table .now) (a .node)) (keyLength (a .table .now) (a .node)) g))
 
 returns-2 : tie.Need-returns-2
 returns-2 c =
-    let s = c .before .before .before .before .before .before in
+    let s = c .before .before .before .before .before .before .before .before .before .before .before in
     let a = s .args in
-    let g = sym (c .before .good-part .ensures ∙ ap₂ (goodPart (a .text .now)) (c .before .before .before .key-start .ensures) (c .before .before .key-length .ensures)) ∙ c .if1 .left in
-    sym (member-bad (a .table .now) (a .text .now) (a .node) (a .parent) g)
+    let g = sym (c .before .before .before .before .good-part .ensures ∙ ap₂ (goodPart (a .text .now)) (c .before .before .before .before .before .before .key-start .ensures) (c .before .before .before .before .before .key-length .ensures)) ∙ not-false _ (c .before .before .before .if1 .left) in
+    let w = c .before .before .high-word .ensures in
+    let t = c .before .if2 .taken in
+    (c .key-differs .ensures ∙ ap (λ (x : ℕ). keyDiffers (a .table .now) (a .text .now) (a .node) x (a .node - x)) (s .pre .0 .from-is) ∙ sym (member-good (a .table .now) (a .text .now) (a .node) (a .parent) g), λ _. kept-plain (a .table .now) (a .text .now) (a .node) (a .parent) (a .from) (a .heads .now) (a .links .now) (s .pre .1 .1) (λ l. let m = l .many in omega arith))
+
+joins-chain-requires : tie.Need-joins-chain-requires
+joins-chain-requires c κs =
+    let s = c .before .before .before .before .before .before .before .before .before .before .before .before in
+    let a = s .args in
+    let g = sym (c .before .before .before .before .before .good-part .ensures ∙ ap₂ (goodPart (a .text .now)) (c .before .before .before .before .before .before .before .key-start .ensures) (c .before .before .before .before .before .before .key-length .ensures)) ∙ not-false _ (c .before .before .before .before .if1 .left) in
+    let k = more-keys (a .table .now) (a .text .now) (a .from) (a .node) (s .pre .1 .0 .1 .inside) (s .pre .0 .node-in) (good-inside (a .text .now) (keyStart (a .table .now) (a .node)) (keyLength (a .table .now) (a .node)) g) in
+    let w = c .before .before .before .high-word .ensures in
+    let t = c .before .before .if2 .left in
+    let n = s .pre .0 .node-in in
+    let m = s .pre .0 .small in
+    (record { inside = k; from-le = s .pre .0 .from-le; few = s .pre .1 .0 .1 .few; small = omega arith }, s .pre .1 .1 .chained (record { is-map = s .pre .1 .0 .0; many = omega arith }))
+
+same-length : tie.Need-same-length
+same-length c = search needs
+
+same-length-2 : tie.Need-same-length-2
+same-length-2 c = search needs
+
+returns-3 : tie.Need-returns-3
+returns-3 c =
+    let s = c .before .before .before .before .before .before .before .before .before .before .before .before .before .before .before .before .before in
+    let a = s .args in
+    let j = c .before .before .before .before .joins-chain in
+    let g = sym (c .before .before .before .before .before .before .before .before .before .before .good-part .ensures ∙ ap₂ (goodPart (a .text .now)) (c .before .before .before .before .before .before .before .before .before .before .before .before .key-start .ensures) (c .before .before .before .before .before .before .before .before .before .before .before .key-length .ensures)) ∙ not-false _ (c .before .before .before .before .before .before .before .before .before .if1 .left) in
+    (j .ensures .0 ∙ ap (λ (x : ℕ). keyDiffers (a .table .now) (a .text .now) (a .node) x (a .node - x)) (s .pre .0 .from-is) ∙ sym (member-good (a .table .now) (a .text .now) (a .node) (a .parent) g), λ z. kept-chained (a .table .now) (a .text .now) (a .node) (a .parent) (a .from) _ _ (j .ensures .1 z))
 
 pub member-right-spec : {M : Type 1} → statement M
 member-right-spec =
@@ -48,6 +79,11 @@ member-right-spec =
     key-start-requires
     key-length-requires
     good-part-requires
-    key-differs-requires
     returns
-    returns-2)
+    high-word-requires
+    key-differs-requires
+    returns-2
+    joins-chain-requires
+    same-length
+    same-length-2
+    returns-3)

@@ -22,7 +22,7 @@ returns c =
     let s = c .before .before .before .before in
     let a = s .args in
     let w = sym (c .before .root-right .ensures) ∙ not-true _ (c .if1 .taken) in
-    sym (ap (λ (o : Option ℕ). reportTable (byLeast o)) (least-wrong (a .table .now) (a .text .now) 0 (nodeCount (a .table .now)) (λ k l. absurd (omega arith)) w (s .pre)))
+    sym (ap (λ (o : Option ℕ). reportTable (byLeast o)) (least-wrong (a .table .now) (a .text .now) 0 (nodeCount (a .table .now)) (λ k l. absurd (omega arith)) w (s .pre .0)))
 
 child-count-requires : tie.Need-child-count-requires
 child-count-requires c κs = search needs
@@ -33,12 +33,12 @@ cast-end c = search needs
 add-end : tie.Need-add-end
 add-end c = search needs
 
-rest-requires : tie.Need-rest-requires
-rest-requires c κs =
+with-chains-requires : tie.Need-with-chains-requires
+with-chains-requires c κs =
     let s = c .before .before .before .before .before in
     let a = s .args in
     let r = sym (c .before .before .root-right .ensures) ∙ not-false _ (c .before .if1 .left) in
-    ((root-first (a .table .now) (c .child-count .result) (c .child-count .ensures), root-cursor (a .table .now) (c .child-count .result) (c .child-count .ensures)), (s .pre, root-below (a .table .now) (a .text .now) r))
+    ((root-first (a .table .now) (c .child-count .result) (c .child-count .ensures), root-cursor (a .table .now) (c .child-count .result) (c .child-count .ensures)), (s .pre .0, s .pre .1, root-below (a .table .now) (a .text .now) r))
 
 returns-2 : tie.Need-returns-2
 returns-2 c = search needs
@@ -52,5 +52,5 @@ scan-spec =
     child-count-requires
     cast-end
     add-end
-    rest-requires
+    with-chains-requires
     returns-2)

@@ -1,67 +1,21 @@
--- `text::encoding::is_utf8` meets its contract. The loop's invariant: what is left is UTF-8 if and only if the whole text is.
--- The measure is what is left. Assumes nothing.
+-- `text::encoding::is_utf8` meets its contract: ASCII texts are UTF-8. Assumes nothing.
+use mathlib.Core.Path.{sym}
+use Rattle.text.proofs.States.{utf8-plain}
 use borrow.Author.Needs.{needs}
 use Rattle.text.proofs.encoding.is_utf8.Statement.{statement}
 use Rattle.text.proofs.encoding.is_utf8.Tie as tie
-use native.Mathlib.Omega.{arith}
-use mathlib.Core.Path.{_≡_, refl, sym, _∙_}
-use Prim.Native.Nat.{_+_, _-_, _≤_}
-use lib.ListN.{length, drop}
-use Rattle.definition.specs.Utf8.{isUtf8}
-use Rattle.text.proofs.States.{step-wrong, step-on, step-in, step-end}
 
-abbrev Inv-loop : tie.InvT-loop
-Inv-loop s i₀ i = (i ≤ length s) × (isUtf8 s ≡ isUtf8 (drop i s))
+all-ascii-requires : tie.Need-all-ascii-requires
+all-ascii-requires c κs = search needs
 
-abbrev μ-loop : tie.MeasureT-loop
-μ-loop s i₀ i = length s - i
+returns : tie.Need-returns
+returns c = sym (utf8-plain (c .before .before .before .args .s .now) (c .before .all-ascii .ensures (c .if1 .taken)))
 
-loop-holds : tie.Need-loop-holds Inv-loop μ-loop
-loop-holds c = (omega arith, refl)
+chars-pass-requires : tie.Need-chars-pass-requires
+chars-pass-requires c κs = search needs
 
-step-length-requires : tie.Need-step-length-requires Inv-loop μ-loop
-step-length-requires c κs = search needs
-
-returns : tie.Need-returns Inv-loop μ-loop
-returns c =
-    let l = c .before .before .before .loop in
-    sym (l .inv .1 ∙ step-wrong (c .before .before .before .before .before .args .s .now) (l .i) (c .before .step-length .result) (omega arith) (c .before .step-length .ensures) (c .if1 .taken))
-
--- the next place is in the text
-next : (c : tie.Else1 Inv-loop μ-loop) → c .before .before .before .loop .i + c .before .step-length .result ≤ length (c .before .before .before .before .before .args .s .now)
-next c = step-in (c .before .before .before .before .before .args .s .now) (c .before .before .before .loop .i) (c .before .step-length .result) (omega arith) (c .before .step-length .ensures)
-
-add-i : tie.Need-add-i Inv-loop μ-loop
-add-i c = let p = next c in omega arith
-
-loop-less : tie.Need-loop-less Inv-loop μ-loop
-loop-less c =
-    let p = next c in
-    let n = c .if1 .left in
-    omega arith
-
-loop-again : tie.Need-loop-again Inv-loop μ-loop
-loop-again c =
-    let a = c .before .before .before .before .before .args in
-    let l = c .before .before .before .loop in
-    let r = c .before .step-length in
-    (next c, l .inv .1 ∙ step-on (a .s .now) (l .i) (r .result) (omega arith) (r .ensures) (c .if1 .left))
-
-returns-2 : tie.Need-returns-2 Inv-loop μ-loop
-returns-2 c =
-    let l = c .before .loop in
-    sym (l .inv .1 ∙ step-end (c .before .before .before .args .s .now) (l .i) (c .loop-test .left))
+returns-2 : tie.Need-returns-2
+returns-2 c = search needs
 
 pub is-utf8-spec : {M : Type 1} → statement M
-is-utf8-spec =
-    tie.close
-    (tie.spec
-    Inv-loop
-    μ-loop
-    loop-holds
-    step-length-requires
-    returns
-    add-i
-    loop-less
-    loop-again
-    returns-2)
+is-utf8-spec = tie.close (tie.spec all-ascii-requires returns chars-pass-requires returns-2)

@@ -1,103 +1,64 @@
--- `text::parts::same_each` meets its contract. The loop's invariant: what is left of the two texts is the same if and only if the whole texts are.
--- The measure is what is left. Assumes nothing.
+-- `text::parts::same_each` meets its contract. Assumes nothing.
+use native.Mathlib.Omega.{arith}
+use mathlib.Core.Path.{sym}
+use Rattle.text.proofs.Same.{same-on, same-stop, same-last, words-equal, words-unlike}
 use borrow.Author.Needs.{needs}
 use Rattle.text.proofs.parts.same_each.Statement.{statement}
 use Rattle.text.proofs.parts.same_each.Tie as tie
-use native.Mathlib.Omega.{arith}
-use mathlib.Core.Path.{_≡_, refl, sym, _∙_}
-use Prim.Native.Nat.{_≤_, _-_}
-use lib.ListN.{length, drop}
-use Rattle.definition.specs.Bytes.{sameBytes}
-use Rattle.text.proofs.Same.{same-on, same-stop, same-ends, words-equal, words-unlike, byte-equal, byte-unlike}
 
-abbrev Inv-loop : tie.InvT-loop
-Inv-loop a b i₀ i = (i ≤ length a) × (sameBytes a b ≡ sameBytes (drop i a) (drop i b))
+same-few-requires : tie.Need-same-few-requires
+same-few-requires c κs = search needs
 
-abbrev μ-loop : tie.MeasureT-loop
-μ-loop a b i₀ i = length a - i
+returns : tie.Need-returns
+returns c = search needs
 
-loop-holds : tie.Need-loop-holds Inv-loop μ-loop
-loop-holds c = (omega arith, refl)
+same-words-requires : tie.Need-same-words-requires
+same-words-requires c κs = search needs
 
-sub-if1 : tie.Need-sub-if1 Inv-loop μ-loop
-sub-if1 c = search needs
+returns-2 : tie.Need-returns-2
+returns-2 c = search needs
 
-shared-slice-read-if2 : tie.Need-shared-slice-read-if2 Inv-loop μ-loop
-shared-slice-read-if2 c = search needs
+word32-requires : tie.Need-word32-requires
+word32-requires c κs = search needs
 
-shared-slice-read-if2-2 : tie.Need-shared-slice-read-if2-2 Inv-loop μ-loop
-shared-slice-read-if2-2 c = search needs
+word32-requires-2 : tie.Need-word32-requires-2
+word32-requires-2 c κs = search needs
 
-returns : tie.Need-returns Inv-loop μ-loop
-returns c =
-    let l = c .before .before .before .before .before .loop in
-    let a = c .before .before .before .before .before .before .before .before .args .a .now in
-    let b = c .before .before .before .before .before .before .before .before .args .b .now in
-    let i = l .i in
-    sym (l .inv .1 ∙ same-stop a b i 1 (byte-unlike a b i (omega arith) (omega arith) (c .if2 .taken)))
-
-add-i : tie.Need-add-i Inv-loop μ-loop
-add-i c = search needs
-
-loop-less : tie.Need-loop-less Inv-loop μ-loop
-loop-less c = search needs
-
-loop-again : tie.Need-loop-again Inv-loop μ-loop
-loop-again c =
-    let l = c .before .before .before .before .before .loop in
-    let a = c .before .before .before .before .before .before .before .before .args .a .now in
-    let b = c .before .before .before .before .before .before .before .before .args .b .now in
-    let i = l .i in
-    (omega arith, l .inv .1 ∙ same-on a b i 1 (byte-equal a b i (omega arith) (omega arith) (c .if2 .left)))
-
-word64-requires : tie.Need-word64-requires Inv-loop μ-loop
-word64-requires c κs = search needs
-
-word64-requires-2 : tie.Need-word64-requires-2 Inv-loop μ-loop
-word64-requires-2 c κs = search needs
-
-returns-2 : tie.Need-returns-2 Inv-loop μ-loop
-returns-2 c =
-    let a = c .before .before .before .before .before .before .before .before .args in
-    let l = c .before .before .before .before .before .loop in
-    sym (l .inv .1 ∙ same-stop (a .a .now) (a .b .now) (l .i) 8 (words-unlike (c .before .before .word64 .ensures) (c .before .word642 .ensures) (c .if3 .taken)))
-
-add-i-2 : tie.Need-add-i-2 Inv-loop μ-loop
-add-i-2 c = search needs
-
-loop-less-2 : tie.Need-loop-less-2 Inv-loop μ-loop
-loop-less-2 c = search needs
-
-loop-again-2 : tie.Need-loop-again-2 Inv-loop μ-loop
-loop-again-2 c =
-    let a = c .before .before .before .before .before .before .before .before .args in
-    let l = c .before .before .before .before .before .loop in
-    (omega arith, l .inv .1 ∙ same-on (a .a .now) (a .b .now) (l .i) 8 (words-equal (omega arith) (omega arith) (λ k. c .before .before .before .before .before .before .before .shared-slice-known .given k .fits) (λ k. c .before .before .before .before .before .before .shared-slice-known2 .given k .fits) (c .before .before .word64 .ensures) (c .before .word642 .ensures) (c .if3 .left)))
-
-returns-3 : tie.Need-returns-3 Inv-loop μ-loop
+returns-3 : tie.Need-returns-3
 returns-3 c =
-    let a = c .before .before .before .before .args in
-    let l = c .before .loop in
-    sym (l .inv .1 ∙ same-ends (a .a .now) (a .b .now) (l .i) (omega arith) (omega arith))
+    let a = c .before .before .before .before .before .before .before .args in
+    sym (same-stop (a .a .now) (a .b .now) 0 4 (words-unlike (c .before .before .word32 .ensures) (c .before .word322 .ensures) (c .if3 .taken)))
+
+sub-last : tie.Need-sub-last
+sub-last c = search needs
+
+word32-requires-3 : tie.Need-word32-requires-3
+word32-requires-3 c κs = search needs
+
+word32-requires-4 : tie.Need-word32-requires-4
+word32-requires-4 c κs = search needs
+
+returns-4 : tie.Need-returns-4
+returns-4 c =
+    let s = c .before .before .before .before .before .before .before .before .before in
+    let a = s .args in
+    let e = s .pre in
+    let h = c .before .before .before .before .before .before .if1 .left in
+    let l = c .before .before .before .before .before .if2 .left in
+    same-last 4 e (omega arith) (omega arith) (λ k. c .before .before .before .before .before .before .before .before .shared-slice-known .given k .fits) (λ k. c .before .before .before .before .before .before .before .shared-slice-known2 .given k .fits) (c .before .word323 .ensures) (c .word324 .ensures) (same-on (a .a .now) (a .b .now) 0 4 (words-equal (omega arith) (omega arith) (λ k. c .before .before .before .before .before .before .before .before .shared-slice-known .given k .fits) (λ k. c .before .before .before .before .before .before .before .shared-slice-known2 .given k .fits) (c .before .before .before .before .word32 .ensures) (c .before .before .before .word322 .ensures) (c .before .before .if3 .left)))
 
 pub same-each-spec : {M : Type 1} → statement M
 same-each-spec =
     tie.close
     (tie.spec
-    Inv-loop
-    μ-loop
-    loop-holds
-    sub-if1
-    shared-slice-read-if2
-    shared-slice-read-if2-2
+    same-few-requires
     returns
-    add-i
-    loop-less
-    loop-again
-    word64-requires
-    word64-requires-2
+    same-words-requires
     returns-2
-    add-i-2
-    loop-less-2
-    loop-again-2
-    returns-3)
+    word32-requires
+    word32-requires-2
+    returns-3
+    sub-last
+    word32-requires-3
+    word32-requires-4
+    returns-4)

@@ -6,8 +6,8 @@ use Prim.Native.Nat.{ℕ, _+_}
 use Rattle.definition.specs.Bytes.{sameBytes}
 use Rattle.tables.specs.Keys.{key-unlike, key-span}
 use borrow.Author.Needs.{needs}
-use Rattle.table.proofs.rules.same_key.Statement.{statement}
-use Rattle.table.proofs.rules.same_key.Tie as tie
+use Rattle.table.proofs.keys.same_key.Statement.{statement}
+use Rattle.table.proofs.keys.same_key.Tie as tie
 
 key-length-requires : tie.Need-key-length-requires
 key-length-requires c κs = search needs

@@ -2,15 +2,13 @@
 use native.Mathlib.Omega.{arith}
 use borrow.Author.Needs.{needs}
 use mathlib.Core.Path.{_≡_, refl, sym, _∙_, ap}
-use mathlib.Core.List.{List}
-use mathlib.Core.Bool.{true, false}
-use Prim.Native.Nat.{ℕ, _+_, _-_, _≤_}
+use Prim.Native.Nat.{_+_, _-_, _≤_}
 use Rattle.definition.specs.Bytes.{sameBytes}
 use Rattle.definition.specs.Tables.{keyBytes, keyDiffers}
 use Rattle.tables.specs.Keys.{key-span, differs-same, differs-step, differs-end}
 use Rattle.table.proofs.Inside.{one-key}
-use Rattle.table.proofs.rules.key_differs.Statement.{statement}
-use Rattle.table.proofs.rules.key_differs.Tie as tie
+use Rattle.table.proofs.keys.key_differs.Statement.{statement}
+use Rattle.table.proofs.keys.key_differs.Tie as tie
 
 abbrev Inv-loop : tie.InvT-loop
 Inv-loop table text node from start end key j₀ j = (from ≤ j) × (key ≡ keyBytes table text node) × (keyDiffers table text node j (node - j) ≡ keyDiffers table text node from (node - from))

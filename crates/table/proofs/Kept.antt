@@ -1,0 +1,83 @@
+-- What heads and links hold when the cursor moves, and behind a node. Assumes nothing.
+use Prim.Native.Nat.{ℕ, suc, _+_, _≤_, _<_}
+use mathlib.Core.Path.{_≡_, refl, sym, ap, _∙_, subst}
+use mathlib.Core.List.{List}
+use mathlib.Core.Bool.{Bool, true, false}
+use lib.Dec.{ltb}
+use lib.ListN.{replicate, length-replicate, getD-replicate}
+use native.Mathlib.Omega.{arith}
+use borrow.Author.Tests.{ltb-true, ltb-false}
+use Rattle.definition.specs.Limits.{maxMembers}
+use Rattle.definition.specs.Tables.{firstChild}
+use Rattle.tables.specs.Counts.{counts-monotone}
+use Rattle.tables.specs.Parents.{one-parent}
+use Rattle.table.specs.declared.scan.Cursor.{Cursor}
+use Rattle.table.specs.Buckets.{buckets, bucketAt}
+use Rattle.table.specs.Chains.{HeadsBelow, Chained}
+use Rattle.table.specs.Words.{Large, Kept, CursorAt, ParentAt, Before}
+use Rattle.table.proofs.Chains.{heads-next, chained-heads, chains-begin}
+use Rattle.table.proofs.Cursor.{found-range, after-node}
+
+module _ (T X : List ℕ) (i : ℕ) (q r : Cursor) (H L : List ℕ) (b : Before T X i q H L) (p : ParentAt T i r) where
+  -- a range that holds the node is its parent's
+  same-parent : i < q .end → q .parent ≡ r .parent
+  same-parent l = one-parent T (q .parent) (r .parent) i (found-range T i q (record { place = b .cursor; end-past = l })) (found-range T i r p)
+
+  -- behind the end of a range the next range that is not empty begins
+  first-of-range : q .end ≤ i → i ≤ r .from
+  first-of-range l = go (ltb (q .parent) (r .parent)) refl
+    where
+      go : (x : Bool) → ltb (q .parent) (r .parent) ≡ x → i ≤ r .from
+      go true e =
+          let m = counts-monotone T (suc (q .parent)) (r .parent) (ltb-true (q .parent) (r .parent) e) in
+          let u = b .cursor .end-is in
+          let v = p .place .from-is in
+          let w = b .reach in
+          omega arith
+      go false e =
+          let n = ltb-false (q .parent) (r .parent) e in
+          let m = counts-monotone T (suc (r .parent)) (suc (q .parent)) (omega arith) in
+          let u = b .cursor .end-is in
+          let v = p .place .end-is in
+          let w = p .end-past in
+          absurd (omega arith)
+
+  -- the chains of the cursor's map are those of the parent's: it is the same map, or its first member comes next
+  pub kept-moved : Kept T X i (r .parent) (r .from) H L
+  kept-moved = record { heads = b .kept .heads; room = b .kept .room; chained = λ m. go m (ltb i (q .end)) refl }
+    where
+      go : Large T (r .parent) → (x : Bool) → ltb i (q .end) ≡ x → Chained (bucketAt T X) (r .from) i H L
+      go m true e =
+          let s = same-parent (ltb-true i (q .end) e) in
+          let f : q .from ≡ r .from = b .cursor .from-is ∙ ap (firstChild T) s ∙ sym (p .place .from-is) in
+          subst (λ (x : ℕ). Chained (bucketAt T X) x i H L) f (b .kept .chained (subst (Large T) (sym s) m))
+      go m false e = chains-begin (bucketAt T X) (r .from) i H L (first-of-range (ltb-false i (q .end) e)) (b .kept .heads) (b .kept .room)
+
+module _ (T X : List ℕ) (i p f : ℕ) (H L : List ℕ) where
+  -- behind a node that joins no chain
+  pub kept-plain : Kept T X i p f H L → (Large T p → ⊥) → Kept T X (i + 1) p f H L
+  kept-plain k n = record { heads = heads-next i H (k .heads); room = k .room; chained = λ m. absurd (n m) }
+
+  -- behind a node that joined the chain of its bucket
+  pub kept-chained : Chained (bucketAt T X) f (i + 1) H L → Kept T X (i + 1) p f H L
+  kept-chained k = record { heads = chained-heads (bucketAt T X) f (i + 1) H L k; room = k .linked .room; chained = λ _. k }
+
+-- behind a node, with the cursor at its parent
+pub before-next : (T X : List ℕ) (i : ℕ) (q : Cursor) (H L : List ℕ) → ParentAt T i q → Kept T X (i + 1) (q .parent) (q .from) H L → Before T X (i + 1) q H L
+before-next T X i q H L p k = record { cursor = after-node T i q p; reach = let e = p .end-past in omega arith; kept = k }
+
+-- before node 1 no chain is begun, and every head is 0
+before-zeros : (n m : ℕ) → n ≡ buckets → m ≡ maxMembers → (T X : List ℕ) (q : Cursor) → CursorAt T 1 q → Before T X 1 q (replicate n 0) (replicate m 0)
+before-zeros n m a b T X q h =
+    let f = h .from-is in
+    let e = h .end-is in
+    let l = length-replicate {A = ℕ} m 0 ∙ b in
+    let k : HeadsBelow 1 (replicate n 0) = record { room = length-replicate {A = ℕ} n 0 ∙ a; below = λ j d. let y = getD-replicate {A = ℕ} n j 0 0 (omega arith) in omega arith } in
+    record {
+      cursor = h;
+      reach = omega arith;
+      kept = record { heads = k; room = l; chained = λ _. chains-begin (bucketAt T X) (q .from) 1 (replicate n 0) (replicate m 0) (omega arith) k l };
+    }
+
+pub before-first : (T X : List ℕ) (q : Cursor) → CursorAt T 1 q → Before T X 1 q (replicate buckets 0) (replicate maxMembers 0)
+before-first = before-zeros buckets maxMembers refl refl

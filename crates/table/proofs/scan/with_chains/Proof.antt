@@ -1,0 +1,23 @@
+-- Before node 1 every head is 0. Assumes nothing.
+use Rattle.table.proofs.Kept.{before-first}
+use borrow.Author.Needs.{needs}
+use Rattle.table.proofs.scan.with_chains.Statement.{statement}
+use Rattle.table.proofs.scan.with_chains.Tie as tie
+
+slice-aggregate-rest : tie.Need-slice-aggregate-rest
+slice-aggregate-rest c = search needs
+
+slice-aggregate-rest-2 : tie.Need-slice-aggregate-rest-2
+slice-aggregate-rest-2 c = search needs
+
+rest-requires : tie.Need-rest-requires
+rest-requires c κs =
+    let s = c .before .before .before .before in
+    let a = s .args in
+    ((s .pre .0 .0, before-first (a .table .now) (a .text .now) (a .root) (s .pre .0 .1)), s .pre .1)
+
+returns : tie.Need-returns
+returns c = search needs
+
+pub with-chains-spec : {M : Type 1} → statement M
+with-chains-spec = tie.close (tie.spec slice-aggregate-rest slice-aggregate-rest-2 rest-requires returns)

@@ -1,0 +1,36 @@
+-- The bucket of a key. Any function of the key's bytes would do: the contracts only need that equal keys have one bucket.
+-- Assumes nothing: these are definitions.
+use Prim.Native.Nat.{ℕ, zero, suc, _+_, _-_, _*_, _/_, _%_}
+use mathlib.Core.List.{List}
+use lib.ListN.{length}
+use Rattle.definition.specs.Bytes.{part, number}
+use Rattle.definition.specs.Tables.{keyBytes}
+
+-- how many buckets there are
+abbrev pub buckets : ℕ
+buckets = 1024
+
+-- how many hashes there are
+abbrev pub hashes : ℕ
+hashes = 4294967296
+
+-- a hash and a number, both of 32 bits, become the middle 32 bits of a product
+unfoldable pub mixed : ℕ → ℕ → ℕ
+mixed h w = (h + w) * 1640531527 / 65536 % hashes
+
+-- n numbers of w bytes each, from a place on, are mixed into a hash
+unfoldable pub folded : ℕ → List ℕ → ℕ → ℕ → ℕ → ℕ
+folded w s zero at h = h
+folded w s (suc n) at h = folded w s n (at + w) (mixed h (number (part s at w)))
+
+-- the whole words of four bytes, and then the bytes behind them
+unfoldable pub hashOf : List ℕ → ℕ
+hashOf s = folded 1 s (length s - length s / 4 * 4) (length s / 4 * 4) (folded 4 s (length s / 4) 0 0)
+
+-- the two halves of the hash together choose the bucket
+unfoldable pub bucketOf : List ℕ → ℕ
+bucketOf s = (hashOf s + hashOf s / 65536) % buckets
+
+-- the bucket of a node's key
+abbrev pub bucketAt : List ℕ → List ℕ → ℕ → ℕ
+bucketAt T X i = bucketOf (keyBytes T X i)

@@ -1,0 +1,59 @@
+// The bucket of a key: a number that the key's bytes decide, so that equal keys are in one bucket. Nothing else is asked of it.
+ghost use mathlib.Core.Path.{_≡_};
+ghost use Prim.Native.Nat.{_<_, _≤_, _-_, _*_, _/_};
+ghost use lib.ListN.{length};
+ghost use Rattle.table.specs.Buckets.{hashes, buckets, mixed, folded, bucketOf};
+use text::bytes;
+
+const FACTOR: usize = 1640531527;
+
+const HALF: usize = 65536;
+
+// A hash has 32 bits.
+const HASHES: usize = 4294967296;
+
+pub const BUCKETS: usize = 1024;
+
+// The hash of what was read before and a word of at most four bytes.
+fn mix(hash: usize, word: usize) -> usize
+    requires { ⌜ (hash < hashes) × (word < hashes) ⌝ }
+    ensures { λ r. ⌜ (r ≡ mixed hash word) × (r < hashes) ⌝ }
+{
+    (hash + word) * FACTOR / HALF % HASHES
+}
+
+// The hash of the whole words of four bytes.
+fn words_hash(s: &[u8]) -> usize
+    ensures { λ r. ⌜ (r ≡ folded 4 (now (s .entry)) (length (now (s .entry)) / 4) 0 0) × (r < hashes) ⌝ }
+{
+    let mut hash = 0;
+    let mut at = 0;
+    while 4 <= s.len() - at {
+        hash = mix(hash, bytes::word32(s, at));
+        at += 4;
+    }
+    hash
+}
+
+// The hash of the bytes from a place on, and of what was read before.
+fn bytes_hash(s: &[u8], start: usize, before: usize) -> usize
+    requires { ⌜ (start ≤ length (now s)) × (before < hashes) ⌝ }
+    ensures { λ r. ⌜ (r ≡ folded 1 (now (s .entry)) (length (now (s .entry)) - start) start before) × (r < hashes) ⌝ }
+{
+    let mut hash = before;
+    let mut at = start;
+    while at < s.len() {
+        hash = mix(hash, bytes::word8(s, at));
+        at += 1;
+    }
+    hash
+}
+
+// The bucket of a key.
+pub fn bucket(s: &[u8]) -> usize
+    ensures { λ r. ⌜ (r ≡ bucketOf (now (s .entry))) × (r < buckets) ⌝ }
+{
+    let words = words_hash(s);
+    let hash = bytes_hash(s, s.len() / 4 * 4, words);
+    (hash + hash / HALF) % BUCKETS
+}
