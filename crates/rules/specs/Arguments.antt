@@ -47,16 +47,16 @@ argument-start (functionArgument f) r = function-start f r
 
 -- ---- further arguments
 
-more-arguments : (n p : ℕ) (b c : Blanks) (x : G.Argument) (xs : G.MoreArguments)
+pub more-arguments : (n p : ℕ) (b c : Blanks) (x : G.Argument) (xs : G.MoreArguments)
     → meMoreArguments n p (moreArguments b c x xs) ≡ (join (writeArgument x p) (writeMoreArguments xs (p + length (writeArgument x p .pool))), argumentsFrom (oneMore n (sortNumber (sortArgument x))) (sortsMore xs))
 unfolding writeMoreArguments seq sortsMore argumentsFrom
 more-arguments n p b c x xs = refl
 
-view : (l : G.MoreArguments) → (l ≡ noMore) ⊎ ((b : Blanks) × (c : Blanks) × (i : G.Argument) × (l' : G.MoreArguments) × (l ≡ moreArguments b c i l'))
+pub view : (l : G.MoreArguments) → (l ≡ noMore) ⊎ ((b : Blanks) × (c : Blanks) × (i : G.Argument) × (l' : G.MoreArguments) × (l ≡ moreArguments b c i l'))
 view noMore = inl refl
 view (moreArguments b c i l) = inr (b, c, i, l, refl)
 
-pub furthers : Rep spellArgument meArgument 4 spellMoreArguments meMoreArguments 5 0x2C
+unfoldable pub furthers : Rep spellArgument meArgument 4 spellMoreArguments meMoreArguments 5 0x2C
 furthers = record {
   sep = λ r. 0x2C ∷ r;
   byte = λ r. (r, refl);

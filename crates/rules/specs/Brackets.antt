@@ -50,7 +50,8 @@ picked-start x r = selector-start (x .one) _
 count-from-zero : (xs : Selectors) (ys : Selectors) → 0 + countMore xs ≡ 0 + countMore ys → countMore xs ≡ countMore ys
 count-from-zero xs ys e = rw (zero-add, zero-add) at e
 
-no-more : (xs : Selectors) → countMore xs ≡ 0 → xs ≡ noSelector
+-- a list that counts none has none
+pub no-more : (xs : Selectors) → countMore xs ≡ 0 → xs ≡ noSelector
 unfolding countMore
 no-more noSelector e = refl
 no-more (moreSelectors b c x xs) e = absurd (omega arith)

@@ -31,10 +31,10 @@ abbrev pub mePlain : ℕ → Plain → Effect × ℕ
 mePlain p x = (writePlain x p, isPlain x)
 
 -- what is written for a filter, from what is written for its test
-abbrev filterEffect : Effect → Sort → Effect
+abbrev pub filterEffect : Effect → Sort → Effect
 filterEffect e σ = within 0x09 (join e (plain (testTail σ)))
 
-filter-writes : (p : ℕ) (x : Filter) → writeFilter x p ≡ filterEffect (writeOr (x .test) true p) (sortOr (x .test))
+pub filter-writes : (p : ℕ) (x : Filter) → writeFilter x p ≡ filterEffect (writeOr (x .test) true p) (sortOr (x .test))
 unfolding frame
 filter-writes p x = rw seq-last
 

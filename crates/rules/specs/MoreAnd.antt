@@ -51,18 +51,18 @@ unfolding writeMoreAnd
 more-and-effect a σ p b c x xs =
     rw (and-pool a σ (meBasic p x), sort-of (sortBasic x), seq-bytes, seq-frame, seq-mark, seq-last, join-assoc, join-assoc, last-pool (writeBasic x p) (testTail (sortBasic x))) refl
 
-more-and : (a : Bool) (σ : Sort) (p : ℕ) (b c : Blanks) (x : Basic) (xs : MoreAnd)
+pub more-and : (a : Bool) (σ : Sort) (p : ℕ) (b c : Blanks) (x : Basic) (xs : MoreAnd)
     → meMoreAnd σ a p (moreAnd b c x xs) ≡ (join (andDoes a σ (meBasic p x)) (meMoreAnd logicalSort a (p + length (andDoes a σ (meBasic p x) .pool)) xs .0), meMoreAnd logicalSort a (p + length (andDoes a σ (meBasic p x) .pool)) xs .1)
 more-and a σ p b c x xs =
     let e = more-and-effect a σ p b c x xs in
     let f : sortNumber (sortMoreAnd (moreAnd b c x xs) σ) ≡ sortNumber (sortMoreAnd xs logicalSort) = ap sortNumber (more-sort σ b c x xs) in
     λ i. (e i, f i)
 
-view : (l : MoreAnd) → (l ≡ noAnd) ⊎ ((b : Blanks) × (c : Blanks) × (i : Basic) × (l' : MoreAnd) × (l ≡ moreAnd b c i l'))
+pub view : (l : MoreAnd) → (l ≡ noAnd) ⊎ ((b : Blanks) × (c : Blanks) × (i : Basic) × (l' : MoreAnd) × (l ≡ moreAnd b c i l'))
 view noAnd = inl refl
 view (moreAnd b c i l) = inr (b, c, i, l, refl)
 
-pub ands : (a : Bool) → Rep spellBasic meBasic 2 spellMoreAnd (λ σ p. meMoreAnd σ a p) 3 0x26
+unfoldable pub ands : (a : Bool) → Rep spellBasic meBasic 2 spellMoreAnd (λ σ p. meMoreAnd σ a p) 3 0x26
 ands a = record {
   sep = λ r. 0x26 ∷ 0x26 ∷ r;
   byte = λ r. (0x26 ∷ r, refl);

@@ -51,18 +51,18 @@ unfolding writeMoreOr
 more-or-effect a σ p b c x xs =
     rw (or-pool σ (meAnd a p x), sort-of (sortAnd x), seq-bytes, seq-frame, seq-last, join-assoc, last-pool (writeAnd x a p) (testTail (sortAnd x))) refl
 
-more-or : (a : Bool) (σ : Sort) (p : ℕ) (b c : Blanks) (x : LogicalAnd) (xs : MoreOr)
+pub more-or : (a : Bool) (σ : Sort) (p : ℕ) (b c : Blanks) (x : LogicalAnd) (xs : MoreOr)
     → meMoreOr σ a p (moreOr b c x xs) ≡ (join (orDoes σ (meAnd a p x)) (meMoreOr logicalSort a (p + length (orDoes σ (meAnd a p x) .pool)) xs .0), meMoreOr logicalSort a (p + length (orDoes σ (meAnd a p x) .pool)) xs .1)
 more-or a σ p b c x xs =
     let e = more-or-effect a σ p b c x xs in
     let f : sortNumber (sortMoreOr (moreOr b c x xs) σ) ≡ sortNumber (sortMoreOr xs logicalSort) = ap sortNumber (more-sort σ b c x xs) in
     λ i. (e i, f i)
 
-view : (l : MoreOr) → (l ≡ noOr) ⊎ ((b : Blanks) × (c : Blanks) × (i : LogicalAnd) × (l' : MoreOr) × (l ≡ moreOr b c i l'))
+pub view : (l : MoreOr) → (l ≡ noOr) ⊎ ((b : Blanks) × (c : Blanks) × (i : LogicalAnd) × (l' : MoreOr) × (l ≡ moreOr b c i l'))
 view noOr = inl refl
 view (moreOr b c i l) = inr (b, c, i, l, refl)
 
-pub ors : (a : Bool) → Rep spellLogicalAnd (meAnd a) 3 spellMoreOr (λ σ p. meMoreOr σ a p) 4 0x7C
+unfoldable pub ors : (a : Bool) → Rep spellLogicalAnd (meAnd a) 3 spellMoreOr (λ σ p. meMoreOr σ a p) 4 0x7C
 ors a = record {
   sep = λ r. 0x7C ∷ 0x7C ∷ r;
   byte = λ r. (0x7C ∷ r, refl);

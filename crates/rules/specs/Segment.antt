@@ -49,18 +49,18 @@ abbrev toDescendant : Dotted → Segment
 toDescendant wildDotted = descendantWild
 toDescendant (nameDotted n) = descendantName n
 
--- behind a bracket: a bracketed selection
-pub segment-brackets : (p : ℕ) {s l : List ℕ} → s ≡ 0x5B ∷ l → So spellSegment (meSegment p) spellBracketed (meBracketed 3 p) (After 0) s s (λ m. m)
+-- where no dot stands: a bracketed selection
+pub segment-no-dot : (p : ℕ) {s : List ℕ} → ((l : List ℕ) → s ≡ 0x2E ∷ l → ⊥) → So spellSegment (meSegment p) spellBracketed (meBracketed 3 p) (After 0) s s (λ m. m)
 unfolding writeSegment singularSegment tightSegment
-segment-brackets p {s} {l} d = record { fill = childBrackets; fwd = λ u r e. e; cod = λ u. refl; bwd = bwd }
+segment-no-dot p {s} n = record { fill = childBrackets; fwd = λ u r e. e; cod = λ u. refl; bwd = bwd }
   where
     bwd : (t' : Segment) (r' : List ℕ) → After 0 r' → s ≡ spellSegment t' r' → (u' : Bracketed) × (s ≡ spellBracketed u' r') × (meSegment p t' ≡ meBracketed 3 p u')
     bwd (childBrackets x) r' f e = (x, e, refl)
-    bwd childWild r' f e = absurd (differ 0x5B 0x2E refl d e)
-    bwd (childName n) r' f e = absurd (differ 0x5B 0x2E refl d e)
-    bwd (descendantBrackets x) r' f e = absurd (differ 0x5B 0x2E refl d e)
-    bwd descendantWild r' f e = absurd (differ 0x5B 0x2E refl d e)
-    bwd (descendantName n) r' f e = absurd (differ 0x5B 0x2E refl d e)
+    bwd childWild r' f e = absurd (n _ e)
+    bwd (childName m) r' f e = absurd (n _ e)
+    bwd (descendantBrackets x) r' f e = absurd (n _ e)
+    bwd descendantWild r' f e = absurd (n _ e)
+    bwd (descendantName m) r' f e = absurd (n _ e)
 
 -- behind a dot that no other follows: a star or a name
 pub segment-dot : (p : ℕ) {s s₁ : List ℕ} → s ≡ 0x2E ∷ s₁ → ((l : List ℕ) → s₁ ≡ 0x2E ∷ l → ⊥) → So spellSegment (meSegment p) spellDotted (meDotted 3 p) (After 0) s s₁ (λ m. m)

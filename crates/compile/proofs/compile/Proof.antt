@@ -1,0 +1,55 @@
+-- `compile::compile` meets its contract: one outcome for each input.
+use Rattle.compile.proofs.Answers.{outcome-early}
+use borrow.Author.Needs.{needs}
+use Rattle.compile.proofs.compile.Statement.{statement}
+use Rattle.compile.proofs.compile.Tie as tie
+use Rattle.compile.proofs.compile.Reads as reads
+use Rattle.compile.proofs.compile.Lts as lts
+use Rattle.compile.proofs.rooms.compile_long.Reads as compile-long-reads
+use Rattle.compile.proofs.rooms.compile_short.Reads as compile-short-reads
+use Rattle.compile.proofs.rooms.early_refusal.Reads as early-refusal-reads
+
+early-refusal-requires : tie.Need-early-refusal-requires
+early-refusal-requires c κs = search needs
+
+returns : tie.Need-returns
+returns c = let o = outcome-early (c .before .early-refusal .ensures) (c .if1 .taken) in (o .is, o .only)
+
+compile-short-requires : tie.Need-compile-short-requires
+compile-short-requires c κs = search needs
+
+same-length : tie.Need-same-length
+same-length c = search needs
+
+same-length-2 : tie.Need-same-length-2
+same-length-2 c = search needs
+
+returns-2 : tie.Need-returns-2
+returns-2 c = search needs
+
+compile-long-requires : tie.Need-compile-long-requires
+compile-long-requires c κs = search needs
+
+same-length-3 : tie.Need-same-length-3
+same-length-3 c = search needs
+
+same-length-4 : tie.Need-same-length-4
+same-length-4 c = search needs
+
+returns-3 : tie.Need-returns-3
+returns-3 c = search needs
+
+pub compile-spec : {M : Type 1} → statement M
+compile-spec =
+    tie.close
+    (tie.spec
+    early-refusal-requires
+    returns
+    compile-short-requires
+    same-length
+    same-length-2
+    returns-2
+    compile-long-requires
+    same-length-3
+    same-length-4
+    returns-3)

@@ -1,0 +1,79 @@
+-- `compile::rooms::compile_in` meets its contract: the outcome of a query that no early refusal meets.
+use Rattle.compile.proofs.Answers.{whole-of, none-of, outcome-refused, outcome-form, outcome-none}
+use borrow.Author.Needs.{needs}
+use Rattle.compile.proofs.rooms.compile_in.Statement.{statement}
+use Rattle.compile.proofs.rooms.compile_in.Tie as tie
+use Rattle.compile.proofs.rooms.compile_in.Reads as reads
+use Rattle.compile.proofs.rooms.compile_in.Lts as lts
+use Rattle.compile.proofs.rooms.deliver.Reads as deliver-reads
+use Rattle.compile.proofs.rooms.parse.Reads as parse-reads
+use Rattle.compile.proofs.rooms.verdict.Reads as verdict-reads
+
+parse-requires : tie.Need-parse-requires
+parse-requires c κs = search needs
+
+enum-told : tie.Need-enum-told
+enum-told c = search needs
+
+enum-known-st : tie.Need-enum-known-st
+enum-known-st c = search needs
+
+verdict-requires : tie.Need-verdict-requires
+verdict-requires c κs = search needs
+
+same-length : tie.Need-same-length
+same-length c = search needs
+
+same-length-2 : tie.Need-same-length-2
+same-length-2 c = search needs
+
+returns : tie.Need-returns
+returns c = outcome-refused (whole-of (c .before .before .before .before .before .before .before .before .before .parse .ensures) (c .before .before .before .st .given .1)) (c .before .before .before .before .before .before .before .before .before .before .before .before .before .before .before .before .before .pre .1) (c .before .verdict .ensures) (c .if1 .taken)
+
+deliver-requires : tie.Need-deliver-requires
+deliver-requires c κs = ((whole-of (c .before .before .before .before .before .before .before .before .before .before .before .before .before .parse .ensures) (c .before .before .before .before .before .before .before .st .given .1)) .len, (whole-of (c .before .before .before .before .before .before .before .before .before .before .before .before .before .parse .ensures) (c .before .before .before .before .before .before .before .st .given .1)) .poolLen)
+
+same-length-3 : tie.Need-same-length-3
+same-length-3 c = search needs
+
+same-length-4 : tie.Need-same-length-4
+same-length-4 c = search needs
+
+returns-2 : tie.Need-returns-2
+returns-2 c = outcome-none (c .before .before .before .before .before .before .before .before .before .before .before .before .before .before .pre .1) (none-of (c .before .before .before .before .before .before .parse .ensures) _ (c .enum-told .given .1))
+
+same-length-5 : tie.Need-same-length-5
+same-length-5 c = search needs
+
+same-length-6 : tie.Need-same-length-6
+same-length-6 c = search needs
+
+same-length-7 : tie.Need-same-length-7
+same-length-7 c = search needs
+
+same-length-8 : tie.Need-same-length-8
+same-length-8 c = search needs
+
+returns-3 : tie.Need-returns-3
+returns-3 c = outcome-form (whole-of (c .before .before .before .before .before .before .before .before .before .before .before .before .before .before .before .before .before .before .parse .ensures) (c .before .before .before .before .before .before .before .before .before .before .before .before .st .given .1)) (c .before .before .before .before .before .before .before .before .before .before .before .before .before .before .before .before .before .before .before .before .before .before .before .before .before .before .pre .1) (c .before .before .before .before .before .before .before .before .before .before .verdict .ensures) (c .before .before .before .before .before .before .before .before .before .if1 .left) (c .before .before .before .before .deliver .ensures)
+
+pub compile-in-spec : {M : Type 1} → statement M
+compile-in-spec =
+    tie.close
+    (tie.spec
+    parse-requires
+    enum-told
+    enum-known-st
+    verdict-requires
+    same-length
+    same-length-2
+    returns
+    deliver-requires
+    same-length-3
+    same-length-4
+    returns-2
+    same-length-5
+    same-length-6
+    same-length-7
+    same-length-8
+    returns-3)

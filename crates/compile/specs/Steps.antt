@@ -1,0 +1,53 @@
+-- What the contracts of compile say: its answer as the definition's outcome, and what its steps ask and give.
+use mathlib.Core.Path.{_≡_}
+use mathlib.Core.Bool.{Bool, true, cond, _&&_}
+use mathlib.Core.List.{List}
+use Prim.Native.Nat.{ℕ, _+_, _*_, _≤_, _<_}
+use lib.Dec.{eqb, leb}
+use lib.ListN.{length, take}
+use lib.Seq.{sets}
+use Rattle.definition.specs.Utf8.{isUtf8}
+use Rattle.definition.specs.Grammar as G
+use Rattle.definition.specs.Grammar.{spell}
+use Rattle.definition.specs.Outcomes.{CompileOutcome, write}
+use Rattle.writing.specs.Writes.{writeQuery}
+use Rattle.items.specs.Reads.{marksOf}
+use Rattle.items.specs.declared.State.{State}
+use Rattle.items.specs.declared.Step.{Step}
+use Rattle.items.specs.declared.Step.the-variants as step
+use Rattle.compile.specs.declared.Compiled.{Compiled}
+
+-- the outcome that an answer and what both rooms hold afterwards are
+abbrev pub outcome : Compiled → List ℕ → List ℕ → CompileOutcome
+outcome r P L = record { refusal = r .refusal; planLength = r .plan; poolLength = r .pool; planRoom = P; poolRoom = L }
+
+-- room enough for a query: 15 bytes of plan and one of pool for each byte
+pub record Rooms (s P L : List ℕ) : Type 0 where
+  pub plan : 15 * length s ≤ length P
+  pub pool : length s ≤ length L
+  pub small : length P < 65536
+  pub smallPool : length L < 65536
+  pub utf8 : isUtf8 s ≡ true
+
+-- a tree spells the whole query; P' and L' begin with what is written for it, the state b tells how much and the marks; and the same is written for every tree that spells it
+pub record Parsed (s P' L' : List ℕ) (b : State) : Type 0 where
+  pub tree : G.Query
+  pub spells : spell tree ≡ s
+  pub only : (t' : G.Query) → spell t' ≡ s → writeQuery t' 0 ≡ writeQuery tree 0
+  pub plan : take (b .len) P' ≡ writeQuery tree 0 .plan
+  pub pool : take (b .pool) L' ≡ writeQuery tree 0 .pool
+  pub len : b .len ≤ length P'
+  pub poolLen : b .pool ≤ length L'
+  pub marks : marksOf b ≡ writeQuery tree 0 .marks
+
+pub data ParsePost (s P P' L L' : List ℕ) : Step → Type 0 where
+  whole : {b : State} {f : ℕ} → Parsed s P' L' b → ParsePost s P P' L L' (step.Next b f)
+  none : {i : ℕ} → ((t : G.Query) → spell t ≡ s → ⊥) → ParsePost s P P' L L' (step.Stop i)
+
+-- the refusal that a state's marks come to, 0 for none
+abbrev pub verdictOf : State → ℕ
+verdictOf b = cond (eqb (b .verdict) 0) (cond (b .calls) 7 (cond (b .beyond) 8 0)) (b .verdict)
+
+-- the first n bytes of the plan's room and the first m of the pool's, written where both fit
+abbrev pub Delivers : List ℕ → ℕ → List ℕ → ℕ → List ℕ → List ℕ → CompileOutcome → Type 0
+Delivers A n B m P L o = o ≡ write (leb n (length P) && leb m (length L)) (take n A) (take m B) P L

@@ -1,0 +1,172 @@
+// A query read in a room of its own, and its plan and pool copied where they are wanted.
+use crate::Compiled;
+use items::State;
+use items::Step;
+use parser::query as parse_query;
+use scan::is;
+use text::brackets::too_deep;
+use text::encoding::is_utf8;
+use text::parts::copy_part;
+ghost use mathlib.Core.Path.{_≡_};
+ghost use mathlib.Core.Bool.{true};
+ghost use mathlib.Core.List.{List};
+ghost use Prim.Native.Nat.{ℕ, _+_, _*_, _≤_, _<_};
+ghost use lib.ListN.{length};
+ghost use Rattle.definition.specs.Outcomes.{early};
+ghost use Rattle.readings.specs.Readings.{CompilesOnly};
+ghost use Rattle.compile.specs.Steps.{outcome, Rooms, ParsePost, verdictOf, Delivers};
+
+const MAX_QUERY: usize = 4096;
+
+const ROOT: u8 = b'$';
+// The item with which the plan of a query that begins at `$` starts.
+const FROM_ROOT: u8 = 1;
+
+const PLAN_ROOM: usize = 61440;
+
+const POOL_ROOM: usize = 4096;
+
+const SHORT_PLAN_ROOM: usize = 3840;
+
+const SHORT_POOL_ROOM: usize = 256;
+
+// The refusals before the grammar, in their order; 0 where there is none.
+pub fn early_refusal(query: &[u8]) -> u8
+    ensures { λ r. ⌜ r ≡ early (now (query .entry)) ⌝ }
+{
+    if MAX_QUERY < query.len() {
+        return 1;
+    }
+    if !is_utf8(query) {
+        return 2;
+    }
+    if too_deep(query) {
+        return 3;
+    }
+    0
+}
+
+// jsonpath-query = root-identifier segments, from the first byte to the last; the state behind it, or the place where reading stopped.
+pub fn parse(s: &[u8], plan: &mut [u8], pool: &mut [u8]) -> Step
+    requires { ⌜ Rooms (now s) (now plan) (now pool) ⌝ }
+    ensures { λ r. ⌜ ParsePost (now (s .entry)) (now (plan .entry)) (now (plan .exit)) (now (pool .entry)) (now (pool .exit)) r ⌝ }
+{
+    if !is(s, 0, ROOT) {
+        return Step::Stop(0);
+    }
+    let st = State {
+        at: 1,
+        len: 0,
+        pool: 0,
+        verdict: 0,
+        calls: false,
+        beyond: false,
+    };
+    let r = parse_query(s, plan, pool, st, FROM_ROOT);
+    let Step::Next(n, _) = r else {
+        return r;
+    };
+    let at = n.at;
+    if at < s.len() {
+        return Step::Stop(at);
+    }
+    r
+}
+
+// "then the first of 4, 5, 6 in the Rust's walk, then 7, 8"; 0 for none.
+pub fn verdict(st: State) -> u8
+    ensures { λ r. ⌜ r ≡ verdictOf st ⌝ }
+{
+    let first = st.verdict;
+    if first != 0 {
+        return first;
+    }
+    if st.calls {
+        return 7;
+    }
+    if st.beyond { 8 } else { 0 }
+}
+
+// The first n bytes of one room and the first m of the other, copied where both fit; otherwise 12 and both lengths.
+fn deliver(
+    from: &[u8],
+    n: usize,
+    texts: &[u8],
+    m: usize,
+    plan: &mut [u8],
+    pool: &mut [u8],
+) -> Compiled
+    requires { ⌜ (n ≤ length (now from)) × (m ≤ length (now texts)) ⌝ }
+    ensures { λ r. ⌜ Delivers (now (from .entry)) n (now (texts .entry)) m (now (plan .entry)) (now (pool .entry)) (outcome r (now (plan .exit)) (now (pool .exit))) ⌝ }
+{
+    if plan.len() < n {
+        return Compiled {
+            refusal: 12,
+            plan: n,
+            pool: m,
+        };
+    }
+    if pool.len() < m {
+        return Compiled {
+            refusal: 12,
+            plan: n,
+            pool: m,
+        };
+    }
+    copy_part(from, 0, n, plan, 0);
+    copy_part(texts, 0, m, pool, 0);
+    Compiled {
+        refusal: 0,
+        plan: n,
+        pool: m,
+    }
+}
+
+// A query that no early refusal meets, read in the two rooms given.
+fn compile_in(
+    query: &[u8],
+    room: &mut [u8],
+    texts: &mut [u8],
+    plan: &mut [u8],
+    pool: &mut [u8],
+) -> Compiled
+    requires { ⌜ Rooms (now query) (now room) (now texts) × (early (now query) ≡ 0) ⌝ }
+    ensures { λ r. ⌜ CompilesOnly (now (query .entry)) (now (plan .entry)) (now (pool .entry)) (outcome r (now (plan .exit)) (now (pool .exit))) ⌝ }
+{
+    match parse(query, room, texts) {
+        Step::Stop(_) => Compiled {
+            refusal: 4,
+            plan: 0,
+            pool: 0,
+        },
+        Step::Next(st, _) => {
+            let refusal = verdict(st);
+            if refusal != 0 {
+                return Compiled {
+                    refusal,
+                    plan: 0,
+                    pool: 0,
+                };
+            }
+            deliver(room, st.len, texts, st.pool, plan, pool)
+        }
+    }
+}
+
+pub fn compile_short(query: &[u8], plan: &mut [u8], pool: &mut [u8]) -> Compiled
+    requires { ⌜ (length (now query) ≤ 256) × (early (now query) ≡ 0) ⌝ }
+    ensures { λ r. ⌜ CompilesOnly (now (query .entry)) (now (plan .entry)) (now (pool .entry)) (outcome r (now (plan .exit)) (now (pool .exit))) ⌝ }
+{
+    let mut room = [0u8; SHORT_PLAN_ROOM];
+    let mut texts = [0u8; SHORT_POOL_ROOM];
+    compile_in(query, &mut room, &mut texts, plan, pool)
+}
+
+pub fn compile_long(query: &[u8], plan: &mut [u8], pool: &mut [u8]) -> Compiled
+    requires { ⌜ early (now query) ≡ 0 ⌝ }
+    ensures { λ r. ⌜ CompilesOnly (now (query .entry)) (now (plan .entry)) (now (pool .entry)) (outcome r (now (plan .exit)) (now (pool .exit))) ⌝ }
+{
+    let mut room = [0u8; PLAN_ROOM];
+    let mut texts = [0u8; POOL_ROOM];
+    compile_in(query, &mut room, &mut texts, plan, pool)
+}

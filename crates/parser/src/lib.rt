@@ -1,0 +1,501 @@
+// Compile: from any bytes to a plan and a pool, or the right refusal.
+// The rules of the grammar that nest, one function for each, in the order of the grammar. Repetition is a loop, nesting a call.
+// Each function reads at the state's place, writes what it reads, and answers the state behind it or the place where reading stopped.
+ghost use mathlib.Core.Path.{_≡_};
+ghost use Rattle.definition.specs.Grammar.{spellSegments, spellSegment, spellBracketed, spellSelectors, spellSelector, spellLogicalOr, spellMoreOr, spellLogicalAnd, spellMoreAnd, spellBasic, spellParen, spellArguments, spellMoreArguments, spellArgument};
+ghost use Rattle.writing.specs.Sorts.{sortMoreOr, sortMoreAnd, sortOr, sortAnd, sortBasic, sortParen, sortArgument, sortsOf, sortsMore};
+ghost use Rattle.writing.specs.Writes.{writeSegments, writeSegment, writeSelectors, writeSelector, writeOr, writeMoreOr, writeAnd, writeMoreAnd, writeBasic, writeParen, writeArguments, writeMoreArguments, writeArgument, writeFrom, countMore};
+ghost use Prim.Native.Nat.{_≤_};
+ghost use lib.ListN.{drop};
+ghost use Rattle.levels.specs.Follow.{unblank};
+ghost use Rattle.items.specs.Reads.{Start, Post, LoosePost, noFlag, sortNumber, sortOf, segmentsFlag, segmentFlag, bracketedFlag, plainFlag, argumentsFrom, writeSelection, Known, Opens};
+ghost use Rattle.levels.specs.Pieces.{spellFilter, writeFilter, spellNegation, writeNegation, spellBehindOf, writeBehindOf, behindOfSort, spellSide, writeSide, spellOperand, writeOperand, operandFlag, queryFlag, spellCall, writeCall, callSort, spellChainedOf, writeChainedOf, chainedOfSort};
+use items::State;
+use items::Step;
+use items::begins_operator;
+use items::begins_segment;
+use items::brackets_flag;
+use items::call_sort;
+use items::comparable;
+use items::compared;
+use items::item;
+use items::judged;
+use items::least;
+use items::lowered;
+use items::moved;
+use items::not_tail;
+use items::one_more;
+use items::opened;
+use items::plain_sort;
+use items::query_flag;
+use items::test_tail;
+use items::write_call;
+use items::write_compare;
+use items::write_dotted;
+use items::write_keyword;
+use items::write_literal;
+use items::write_selector;
+use scan::End;
+use scan::Sign;
+use scan::both;
+use scan::is;
+use scan::named_at;
+use scan::read_operator;
+use scan::read_word;
+use scan::skip_blanks;
+use text::bytes::put16;
+
+// segments = *( S segment ); tells whether all of them are those of a singular query
+fn segments(s: &[u8], plan: &mut [u8], pool: &mut [u8], st: State) -> Step
+    requires { ⌜ Start 0 (now s) (now plan) (now pool) st ⌝ }
+    ensures { λ r. ⌜ Post spellSegments writeSegments segmentsFlag 1 (now (s .entry)) (now (plan .entry)) (now (plan .exit)) (now (pool .entry)) (now (pool .exit)) st r ⌝ }
+{
+    let mut now = st;
+    let mut flag: usize = 2;
+    loop {
+        let here = now.at;
+        let a = skip_blanks(s, here);
+        if !begins_segment(s, a) {
+            return Step::Next(now, flag);
+        }
+        match segment(s, plan, pool, moved(now, a)) {
+            Step::Stop(i) => return Step::Stop(i),
+            Step::Next(n, f) => {
+                now = n;
+                flag = least(flag, f);
+            }
+        }
+    }
+}
+
+// segment = child-segment / descendant-segment
+fn segment(s: &[u8], plan: &mut [u8], pool: &mut [u8], st: State) -> Step
+    requires { ⌜ Start 0 (now s) (now plan) (now pool) st ⌝ }
+    ensures { λ r. ⌜ Post spellSegment writeSegment segmentFlag 0 (now (s .entry)) (now (plan .entry)) (now (plan .exit)) (now (pool .entry)) (now (pool .exit)) st r ⌝ }
+{
+    let at = st.at;
+    if both(s, at, 46, 46) {
+        let a = at + 2;
+        if is(s, a, 91) {
+            return lowered(bracketed(s, plan, pool, moved(st, a), 4));
+        }
+        return lowered(write_dotted(s, plan, pool, moved(st, a), 4));
+    }
+    if is(s, at, 46) {
+        return write_dotted(s, plan, pool, moved(st, at + 1), 3);
+    }
+    bracketed(s, plan, pool, st, 3)
+}
+
+// bracketed-selection = "[" S selector *( S "," S selector ) S "]", of a segment of the given kind
+fn bracketed(s: &[u8], plan: &mut [u8], pool: &mut [u8], st: State, kind: u8) -> Step
+    requires { ⌜ Start 0 (now s) (now plan) (now pool) st ⌝ }
+    ensures { λ r. ⌜ Post spellBracketed (writeSelection kind) bracketedFlag 0 (now (s .entry)) (now (plan .entry)) (now (plan .exit)) (now (pool .entry)) (now (pool .exit)) st r ⌝ }
+{
+    let at = st.at;
+    if !is(s, at, 91) {
+        return Step::Stop(at);
+    }
+    let a = skip_blanks(s, at + 1);
+    let head = opened(plan, moved(st, a), kind);
+    let r = selector(s, plan, pool, head);
+    let Step::Next(n, plain) = r else {
+        return r;
+    };
+    let q = selectors(s, plan, pool, n);
+    let Step::Next(m, count) = q else {
+        return q;
+    };
+    let b = m.at;
+    let e = skip_blanks(s, b);
+    if !is(s, e, 93) {
+        return Step::Stop(e);
+    }
+    let len = st.len;
+    put16(plan, len + 1, count + 1);
+    Step::Next(
+        moved(m, e + 1),
+        brackets_flag(plain, count, a == at + 1, e == b),
+    )
+}
+
+// *( S "," S selector ); tells how many
+fn selectors(s: &[u8], plan: &mut [u8], pool: &mut [u8], st: State) -> Step
+    requires { ⌜ Start 0 (now s) (now plan) (now pool) st ⌝ }
+    ensures { λ r. ⌜ LoosePost spellSelectors writeSelectors countMore 0 5 (now (s .entry)) (now (plan .entry)) (now (plan .exit)) (now (pool .entry)) (now (pool .exit)) st r ⌝ }
+{
+    let mut now = st;
+    let mut count: usize = 0;
+    loop {
+        let here = now.at;
+        let a = skip_blanks(s, here);
+        if !is(s, a, 44) {
+            return Step::Next(now, count);
+        }
+        let b = skip_blanks(s, a + 1);
+        match selector(s, plan, pool, moved(now, b)) {
+            Step::Stop(i) => return Step::Stop(i),
+            Step::Next(n, _) => {
+                now = n;
+                count += 1;
+            }
+        }
+    }
+}
+
+// selector; tells whether it is a name or an index
+fn selector(s: &[u8], plan: &mut [u8], pool: &mut [u8], st: State) -> Step
+    requires { ⌜ Start 12 (now s) (now plan) (now pool) st ⌝ }
+    ensures { λ r. ⌜ LoosePost spellSelector writeSelector plainFlag 1 4 (now (s .entry)) (now (plan .entry)) (now (plan .exit)) (now (pool .entry)) (now (pool .exit)) st r ⌝ }
+{
+    let at = st.at;
+    if is(s, at, 63) {
+        return filter(s, plan, pool, moved(st, at + 1));
+    }
+    write_selector(s, plan, pool, st)
+}
+
+// S logical-expr, behind the "?" of a filter-selector
+fn filter(s: &[u8], plan: &mut [u8], pool: &mut [u8], st: State) -> Step
+    requires { ⌜ Start 3 (now s) (now plan) (now pool) st ⌝ }
+    ensures { λ r. ⌜ Post spellFilter writeFilter noFlag 4 (now (s .entry)) (now (plan .entry)) (now (plan .exit)) (now (pool .entry)) (now (pool .exit)) st r ⌝ }
+{
+    let at = st.at;
+    let a = skip_blanks(s, at);
+    let head = opened(plan, moved(st, a), 9);
+    let r = parse_or(s, plan, pool, head, true);
+    let Step::Next(n, sort) = r else {
+        return r;
+    };
+    let m = test_tail(plan, n, sort);
+    let len = st.len;
+    let out = m.len;
+    put16(plan, len + 1, out - len - 3);
+    Step::Next(m, 0)
+}
+
+// logical-or-expr = logical-and-expr *( S "||" S logical-and-expr ); tells its sort
+fn parse_or(s: &[u8], plan: &mut [u8], pool: &mut [u8], st: State, asked: bool) -> Step
+    requires { ⌜ Start 0 (now s) (now plan) (now pool) st ⌝ }
+    ensures { λ r. ⌜ Post spellLogicalOr (λ t. writeOr t asked) (λ t. sortNumber (sortOr t)) 4 (now (s .entry)) (now (plan .entry)) (now (plan .exit)) (now (pool .entry)) (now (pool .exit)) st r ⌝ }
+{
+    let r = parse_and(s, plan, pool, st, asked);
+    let Step::Next(n, sort) = r else {
+        return r;
+    };
+    more_or(s, plan, pool, n, sort, asked)
+}
+
+// *( S "||" S logical-and-expr ), behind an operand of the given sort
+fn more_or(s: &[u8], plan: &mut [u8], pool: &mut [u8], st: State, sort: usize, asked: bool) -> Step
+    requires { ⌜ Start 0 (now s) (now plan) (now pool) st × (sort ≤ 4) ⌝ }
+    ensures { λ r. ⌜ Post spellMoreOr (λ t. writeMoreOr t (sortOf sort) asked) (λ t. sortNumber (sortMoreOr t (sortOf sort))) 4 (now (s .entry)) (now (plan .entry)) (now (plan .exit)) (now (pool .entry)) (now (pool .exit)) st r ⌝ }
+{
+    let mut now = st;
+    let mut kind = sort;
+    loop {
+        let here = now.at;
+        let a = skip_blanks(s, here);
+        if !both(s, a, 124, 124) {
+            return Step::Next(now, kind);
+        }
+        let b = skip_blanks(s, a + 2);
+        let left = test_tail(plan, moved(now, b), kind);
+        let head = opened(plan, left, 23);
+        match parse_and(s, plan, pool, head, asked) {
+            Step::Stop(i) => return Step::Stop(i),
+            Step::Next(n, f) => {
+                let m = test_tail(plan, n, f);
+                let len = left.len;
+                let out = m.len;
+                put16(plan, len + 1, out - len - 3);
+                now = m;
+                kind = 4;
+            }
+        }
+    }
+}
+
+// logical-and-expr = basic-expr *( S "&&" S basic-expr ); tells its sort
+fn parse_and(s: &[u8], plan: &mut [u8], pool: &mut [u8], st: State, asked: bool) -> Step
+    requires { ⌜ Start 0 (now s) (now plan) (now pool) st ⌝ }
+    ensures { λ r. ⌜ Post spellLogicalAnd (λ t. writeAnd t asked) (λ t. sortNumber (sortAnd t)) 3 (now (s .entry)) (now (plan .entry)) (now (plan .exit)) (now (pool .entry)) (now (pool .exit)) st r ⌝ }
+{
+    let r = basic(s, plan, pool, st);
+    let Step::Next(n, sort) = r else {
+        return r;
+    };
+    more_and(s, plan, pool, judged(n, compared(sort, asked)), sort, asked)
+}
+
+// *( S "&&" S basic-expr ), behind an operand of the given sort
+fn more_and(s: &[u8], plan: &mut [u8], pool: &mut [u8], st: State, sort: usize, asked: bool) -> Step
+    requires { ⌜ Start 0 (now s) (now plan) (now pool) st × (sort ≤ 4) ⌝ }
+    ensures { λ r. ⌜ Post spellMoreAnd (λ t. writeMoreAnd t (sortOf sort) asked) (λ t. sortNumber (sortMoreAnd t (sortOf sort))) 3 (now (s .entry)) (now (plan .entry)) (now (plan .exit)) (now (pool .entry)) (now (pool .exit)) st r ⌝ }
+{
+    let mut now = st;
+    let mut kind = sort;
+    loop {
+        let here = now.at;
+        let a = skip_blanks(s, here);
+        if !both(s, a, 38, 38) {
+            return Step::Next(now, kind);
+        }
+        let b = skip_blanks(s, a + 2);
+        let left = test_tail(plan, moved(now, b), kind);
+        let head = opened(plan, left, 22);
+        match basic(s, plan, pool, head) {
+            Step::Stop(i) => return Step::Stop(i),
+            Step::Next(n, f) => {
+                let m = test_tail(plan, n, f);
+                let len = left.len;
+                let out = m.len;
+                put16(plan, len + 1, out - len - 3);
+                now = judged(m, compared(f, asked));
+                kind = 4;
+            }
+        }
+    }
+}
+
+// basic-expr = paren-expr / comparison-expr / test-expr; tells its sort
+fn basic(s: &[u8], plan: &mut [u8], pool: &mut [u8], st: State) -> Step
+    requires { ⌜ Start 0 (now s) (now plan) (now pool) st ⌝ }
+    ensures { λ r. ⌜ Post spellBasic writeBasic (λ t. sortNumber (sortBasic t)) 2 (now (s .entry)) (now (plan .entry)) (now (plan .exit)) (now (pool .entry)) (now (pool .exit)) st r ⌝ }
+{
+    let at = st.at;
+    if is(s, at, 40) {
+        return paren(s, plan, pool, st);
+    }
+    if is(s, at, 33) {
+        return negation(s, plan, pool, moved(st, at + 1));
+    }
+    let r = operand(s, plan, pool, st);
+    let Step::Next(n, flag) = r else {
+        return r;
+    };
+    behind(s, plan, pool, n, flag)
+}
+
+// S ( paren / filter-query / function-expr ), behind a "!"
+fn negation(s: &[u8], plan: &mut [u8], pool: &mut [u8], st: State) -> Step
+    requires { ⌜ Start 0 (now s) (now plan) (now pool) st ⌝ }
+    ensures { λ r. ⌜ Post spellNegation writeNegation (λ t. 4) 2 (now (s .entry)) (now (plan .entry)) (now (plan .exit)) (now (pool .entry)) (now (pool .exit)) st r ⌝ }
+{
+    let at = st.at;
+    let a = skip_blanks(s, at);
+    if is(s, a, 40) {
+        let r = paren(s, plan, pool, moved(st, a));
+        let Step::Next(n, sort) = r else {
+            return r;
+        };
+        return Step::Next(not_tail(plan, n, sort), 4);
+    }
+    let q = operand(s, plan, pool, moved(st, a));
+    let Step::Next(m, flag) = q else {
+        return q;
+    };
+    if flag == 0 {
+        return Step::Stop(a);
+    }
+    Step::Next(not_tail(plan, m, flag), 4)
+}
+
+// [ S comparison-op S comparable ], behind an operand with the given flag; tells the sort of the whole
+fn behind(s: &[u8], plan: &mut [u8], pool: &mut [u8], st: State, flag: usize) -> Step
+    requires { ⌜ Start 0 (now s) (now plan) (now pool) st × Known flag ⌝ }
+    ensures { λ r. ⌜ Post (spellBehindOf flag) (writeBehindOf flag) (behindOfSort flag) 2 (now (s .entry)) (now (plan .entry)) (now (plan .exit)) (now (pool .entry)) (now (pool .exit)) st r ⌝ }
+{
+    let at = st.at;
+    let a = skip_blanks(s, at);
+    match read_operator(s, a) {
+        Sign::Nothing => {
+            if flag == 0 {
+                return Step::Stop(a);
+            }
+            Step::Next(st, plain_sort(flag))
+        }
+        Sign::Is(e, op) => {
+            if !comparable(flag) {
+                return Step::Stop(a);
+            }
+            right(s, plan, pool, moved(st, e), plain_sort(flag), op)
+        }
+    }
+}
+
+// S comparable, behind a left side of the given sort and the operator op
+fn right(s: &[u8], plan: &mut [u8], pool: &mut [u8], st: State, sort: usize, op: u8) -> Step
+    requires { ⌜ Start 0 (now s) (now plan) (now pool) st × Known sort ⌝ }
+    ensures { λ r. ⌜ Post spellSide (writeSide sort op) (λ t. 4) 2 (now (s .entry)) (now (plan .entry)) (now (plan .exit)) (now (pool .entry)) (now (pool .exit)) st r ⌝ }
+{
+    let at = st.at;
+    let a = skip_blanks(s, at);
+    let r = operand(s, plan, pool, moved(st, a));
+    let Step::Next(n, flag) = r else {
+        return r;
+    };
+    if !comparable(flag) {
+        return Step::Stop(a);
+    }
+    Step::Next(write_compare(plan, n, sort, plain_sort(flag), op), 4)
+}
+
+// "(" S logical-expr S ")"; tells the sort of what is inside
+fn paren(s: &[u8], plan: &mut [u8], pool: &mut [u8], st: State) -> Step
+    requires { ⌜ Start 0 (now s) (now plan) (now pool) st × Opens 0x28 (now s) st ⌝ }
+    ensures { λ r. ⌜ Post spellParen writeParen (λ t. sortNumber (sortParen t)) 0 (now (s .entry)) (now (plan .entry)) (now (plan .exit)) (now (pool .entry)) (now (pool .exit)) st r ⌝ }
+{
+    let at = st.at;
+    let a = skip_blanks(s, at + 1);
+    let r = parse_or(s, plan, pool, moved(st, a), true);
+    let Step::Next(n, sort) = r else {
+        return r;
+    };
+    let here = n.at;
+    let e = skip_blanks(s, here);
+    if !is(s, e, 41) {
+        return Step::Stop(e);
+    }
+    Step::Next(moved(n, e + 1), sort)
+}
+
+// literal / filter-query / function-expr; tells the flag: 0 a literal, 1 to 4 the sort, 5 a query that a singular-query spells
+fn operand(s: &[u8], plan: &mut [u8], pool: &mut [u8], st: State) -> Step
+    requires { ⌜ Start 0 (now s) (now plan) (now pool) st ⌝ }
+    ensures { λ r. ⌜ Post spellOperand writeOperand operandFlag 1 (now (s .entry)) (now (plan .entry)) (now (plan .exit)) (now (pool .entry)) (now (pool .exit)) st r ⌝ }
+{
+    let at = st.at;
+    if is(s, at, 64) {
+        return query(s, plan, pool, moved(st, at + 1), 2);
+    }
+    if is(s, at, 36) {
+        return query(s, plan, pool, moved(st, at + 1), 1);
+    }
+    match read_word(s, at) {
+        End::Nothing(_) => write_literal(s, plan, pool, st),
+        End::At(e) => {
+            if is(s, e, 40) {
+                return function(s, plan, pool, moved(st, e + 1), named_at(s, at, e));
+            }
+            write_keyword(s, plan, st, e)
+        }
+    }
+}
+
+// segments behind "@" or "$", as a query that starts with the given item; tells the flag of an operand
+pub fn query(s: &[u8], plan: &mut [u8], pool: &mut [u8], st: State, start: u8) -> Step
+    requires { ⌜ Start 2 (now s) (now plan) (now pool) st ⌝ }
+    ensures { λ r. ⌜ Post spellSegments (λ t. writeFrom start (writeSegments t)) queryFlag 1 (now (s .entry)) (now (plan .entry)) (now (plan .exit)) (now (pool .entry)) (now (pool .exit)) st r ⌝ }
+{
+    let head = item(plan, st, start);
+    let r = segments(s, plan, pool, head);
+    let Step::Next(n, flag) = r else {
+        return r;
+    };
+    Step::Next(item(plan, n, 10), query_flag(flag))
+}
+
+// S [ arguments ] S ")", behind the name and "(" of a call of the function with the given number; tells its sort
+fn function(s: &[u8], plan: &mut [u8], pool: &mut [u8], st: State, name: u8) -> Step
+    requires { ⌜ Start 0 (now s) (now plan) (now pool) st × (name ≤ 5) ⌝ }
+    ensures { λ r. ⌜ Post spellCall (writeCall name) (callSort name) 0 (now (s .entry)) (now (plan .entry)) (now (plan .exit)) (now (pool .entry)) (now (pool .exit)) st r ⌝ }
+{
+    let at = st.at;
+    let a = skip_blanks(s, at);
+    let r = arguments(s, plan, pool, moved(st, a));
+    let Step::Next(n, sorts) = r else {
+        return r;
+    };
+    let here = n.at;
+    let e = skip_blanks(s, here);
+    if !is(s, e, 41) {
+        return Step::Stop(e);
+    }
+    Step::Next(
+        write_call(plan, moved(n, e + 1), name, sorts),
+        call_sort(name),
+    )
+}
+
+// [ function-argument *( S "," S function-argument ) ]; tells the sorts
+fn arguments(s: &[u8], plan: &mut [u8], pool: &mut [u8], st: State) -> Step
+    requires { ⌜ Start 0 (now s) (now plan) (now pool) st × (unblank (drop (st .at) (now s)) ≡ drop (st .at) (now s)) ⌝ }
+    ensures { λ r. ⌜ Post spellArguments writeArguments (λ t. argumentsFrom 0 (sortsOf t)) 6 (now (s .entry)) (now (plan .entry)) (now (plan .exit)) (now (pool .entry)) (now (pool .exit)) st r ⌝ }
+{
+    let at = st.at;
+    if is(s, at, 41) {
+        return Step::Next(st, 0);
+    }
+    let r = argument(s, plan, pool, st);
+    let Step::Next(n, sort) = r else {
+        return r;
+    };
+    more_arguments(s, plan, pool, n, one_more(0, sort))
+}
+
+// *( S "," S function-argument ), behind arguments of the given sorts
+fn more_arguments(s: &[u8], plan: &mut [u8], pool: &mut [u8], st: State, sorts: usize) -> Step
+    requires { ⌜ Start 0 (now s) (now plan) (now pool) st × (sorts ≤ 31) ⌝ }
+    ensures { λ r. ⌜ Post spellMoreArguments writeMoreArguments (λ t. argumentsFrom sorts (sortsMore t)) 5 (now (s .entry)) (now (plan .entry)) (now (plan .exit)) (now (pool .entry)) (now (pool .exit)) st r ⌝ }
+{
+    let mut now = st;
+    let mut known = sorts;
+    loop {
+        let here = now.at;
+        let a = skip_blanks(s, here);
+        if !is(s, a, 44) {
+            return Step::Next(now, known);
+        }
+        let b = skip_blanks(s, a + 1);
+        match argument(s, plan, pool, moved(now, b)) {
+            Step::Stop(i) => return Step::Stop(i),
+            Step::Next(n, sort) => {
+                now = n;
+                known = one_more(known, sort);
+            }
+        }
+    }
+}
+
+// function-argument = literal / filter-query / logical-expr / function-expr; tells its sort
+fn argument(s: &[u8], plan: &mut [u8], pool: &mut [u8], st: State) -> Step
+    requires { ⌜ Start 0 (now s) (now plan) (now pool) st ⌝ }
+    ensures { λ r. ⌜ Post spellArgument writeArgument (λ t. sortNumber (sortArgument t)) 4 (now (s .entry)) (now (plan .entry)) (now (plan .exit)) (now (pool .entry)) (now (pool .exit)) st r ⌝ }
+{
+    let at = st.at;
+    if is(s, at, 40) {
+        return parse_or(s, plan, pool, st, false);
+    }
+    if is(s, at, 33) {
+        return parse_or(s, plan, pool, st, false);
+    }
+    let r = operand(s, plan, pool, st);
+    let Step::Next(n, flag) = r else {
+        return r;
+    };
+    if flag == 0 {
+        let here = n.at;
+        let a = skip_blanks(s, here);
+        if !begins_operator(s, a) {
+            return Step::Next(n, 0);
+        }
+    }
+    chained(s, plan, pool, n, flag)
+}
+
+// what is left of a logical-expr behind its first operand, straight in an argument
+fn chained(s: &[u8], plan: &mut [u8], pool: &mut [u8], st: State, flag: usize) -> Step
+    requires { ⌜ Start 0 (now s) (now plan) (now pool) st × Known flag ⌝ }
+    ensures { λ r. ⌜ Post (spellChainedOf flag) (writeChainedOf flag) (chainedOfSort flag) 4 (now (s .entry)) (now (plan .entry)) (now (plan .exit)) (now (pool .entry)) (now (pool .exit)) st r ⌝ }
+{
+    let r = behind(s, plan, pool, st, flag);
+    let Step::Next(n, sort) = r else {
+        return r;
+    };
+    let q = more_and(s, plan, pool, n, sort, false);
+    let Step::Next(m, kind) = q else {
+        return q;
+    };
+    more_or(s, plan, pool, m, kind, false)
+}
