@@ -1,0 +1,47 @@
+-- `select::select` meets its contract: one outcome for each input.
+use Rattle.select.proofs.Answers.{select-early}
+use borrow.Author.Needs.{needs}
+use Rattle.select.proofs.select.Statement.{statement}
+use Rattle.select.proofs.select.Tie as tie
+use Rattle.select.proofs.select.Reads as reads
+use Rattle.select.proofs.select.Lts as lts
+use Rattle.compile.proofs.rooms.early_refusal.Reads as early-refusal-reads
+use Rattle.select.proofs.select_long.Reads as select-long-reads
+use Rattle.select.proofs.select_short.Reads as select-short-reads
+
+early-refusal-requires : tie.Need-early-refusal-requires
+early-refusal-requires c κs = search needs
+
+returns : tie.Need-returns
+returns c = let o = select-early (c .before .early-refusal .ensures) (c .if1 .taken) in (o .is, o .only)
+
+select-short-requires : tie.Need-select-short-requires
+select-short-requires c κs = search needs
+
+same-length : tie.Need-same-length
+same-length c = search needs
+
+returns-2 : tie.Need-returns-2
+returns-2 c = search needs
+
+select-long-requires : tie.Need-select-long-requires
+select-long-requires c κs = search needs
+
+same-length-2 : tie.Need-same-length-2
+same-length-2 c = search needs
+
+returns-3 : tie.Need-returns-3
+returns-3 c = search needs
+
+pub select-spec : {M : Type 1} → statement M
+select-spec =
+    tie.close
+    (tie.spec
+    early-refusal-requires
+    returns
+    select-short-requires
+    same-length
+    returns-2
+    select-long-requires
+    same-length-2
+    returns-3)

@@ -1,0 +1,34 @@
+-- `select::select_long` meets its contract: rooms of its own are large enough for the query.
+use mathlib.Core.Path.{refl}
+use Rattle.compile.proofs.Answers.{rooms-long}
+use borrow.Author.Needs.{needs}
+use Rattle.select.proofs.select_long.Statement.{statement}
+use Rattle.select.proofs.select_long.Tie as tie
+use Rattle.select.proofs.select_long.Reads as reads
+use Rattle.select.proofs.select_long.Lts as lts
+use Rattle.select.proofs.select_in.Reads as select-in-reads
+
+slice-aggregate-select-in : tie.Need-slice-aggregate-select-in
+slice-aggregate-select-in c = search needs
+
+slice-aggregate-select-in-2 : tie.Need-slice-aggregate-select-in-2
+slice-aggregate-select-in-2 c = search needs
+
+select-in-requires : tie.Need-select-in-requires
+select-in-requires c κs = (rooms-long (c .before .before .before .before .before .before .before .pre) refl refl, c .before .before .before .before .before .before .before .pre)
+
+same-length : tie.Need-same-length
+same-length c = search needs
+
+returns : tie.Need-returns
+returns c = search needs
+
+pub select-long-spec : {M : Type 1} → statement M
+select-long-spec =
+    tie.close
+    (tie.spec
+    slice-aggregate-select-in
+    slice-aggregate-select-in-2
+    select-in-requires
+    same-length
+    returns)

@@ -1,0 +1,34 @@
+-- `select::select_short` meets its contract: rooms of its own are large enough for the query.
+use mathlib.Core.Path.{refl}
+use Rattle.compile.proofs.Answers.{rooms-short}
+use borrow.Author.Needs.{needs}
+use Rattle.select.proofs.select_short.Statement.{statement}
+use Rattle.select.proofs.select_short.Tie as tie
+use Rattle.select.proofs.select_short.Reads as reads
+use Rattle.select.proofs.select_short.Lts as lts
+use Rattle.select.proofs.select_in.Reads as select-in-reads
+
+slice-aggregate-select-in : tie.Need-slice-aggregate-select-in
+slice-aggregate-select-in c = search needs
+
+slice-aggregate-select-in-2 : tie.Need-slice-aggregate-select-in-2
+slice-aggregate-select-in-2 c = search needs
+
+select-in-requires : tie.Need-select-in-requires
+select-in-requires c κs = (rooms-short (c .before .before .before .before .before .before .before .pre .1) (c .before .before .before .before .before .before .before .pre .0) refl refl, c .before .before .before .before .before .before .before .pre .1)
+
+same-length : tie.Need-same-length
+same-length c = search needs
+
+returns : tie.Need-returns
+returns c = search needs
+
+pub select-short-spec : {M : Type 1} → statement M
+select-short-spec =
+    tie.close
+    (tie.spec
+    slice-aggregate-select-in
+    slice-aggregate-select-in-2
+    select-in-requires
+    same-length
+    returns)

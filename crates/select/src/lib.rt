@@ -1,0 +1,101 @@
+// Select: the nodes of a table that a query selects, into a list of the caller's from a start position on.
+// The query is read in rooms of this crate's own, and its plan is run where it stands.
+ghost use mathlib.Core.Path.{_≡_};
+ghost use Prim.Native.Nat.{_≤_};
+ghost use lib.ListN.{length};
+ghost use Rattle.definition.specs.Outcomes.{RunOutcome, Selects, early};
+ghost use Rattle.compile.specs.Steps.{Rooms};
+ghost use Rattle.readings.specs.Readings.{SelectsOnly};
+ghost use Rattle.select.specs.Selections.{selected};
+use compile::rooms::early_refusal;
+use compile::rooms::parse;
+use compile::rooms::verdict;
+use items::Step;
+use run::Ran;
+use run::run_form;
+
+// What a selection comes to.
+pub enum Selection {
+    // The query is refused, by a number from 1 to 8.
+    Refused(u8),
+    // What running its plan comes to.
+    Ran(Ran),
+}
+
+const SHORT: usize = 256;
+
+const PLAN_ROOM: usize = 61440;
+
+const POOL_ROOM: usize = 4096;
+
+const SHORT_PLAN_ROOM: usize = 3840;
+
+const SHORT_POOL_ROOM: usize = 256;
+
+// A query that no early refusal meets, read in the two rooms given.
+fn select_in(
+    query: &[u8],
+    room: &mut [u8],
+    texts: &mut [u8],
+    table: &[u8],
+    text: &[u8],
+    list: &mut [u32],
+    start: usize,
+) -> Selection
+    requires { ⌜ Rooms (now query) (now room) (now texts) × (early (now query) ≡ 0) ⌝ }
+    ensures { λ r. ⌜ SelectsOnly (now (query .entry)) (now (table .entry)) (now (text .entry)) (now (list .entry)) start (selected r (now (list .exit))) ⌝ }
+{
+    match parse(query, room, texts) {
+        Step::Stop(_) => Selection::Refused(4),
+        Step::Next(st, _) => {
+            let refusal = verdict(st);
+            if refusal != 0 {
+                return Selection::Refused(refusal);
+            }
+            let n = st.len;
+            let m = st.pool;
+            let plan = &room[..n];
+            let pool = &texts[..m];
+            Selection::Ran(run_form(plan, pool, table, text, list, start))
+        }
+    }
+}
+
+fn select_short(
+    query: &[u8],
+    table: &[u8],
+    text: &[u8],
+    list: &mut [u32],
+    start: usize,
+) -> Selection
+    requires { ⌜ (length (now query) ≤ 256) × (early (now query) ≡ 0) ⌝ }
+    ensures { λ r. ⌜ SelectsOnly (now (query .entry)) (now (table .entry)) (now (text .entry)) (now (list .entry)) start (selected r (now (list .exit))) ⌝ }
+{
+    let mut room = [0u8; SHORT_PLAN_ROOM];
+    let mut texts = [0u8; SHORT_POOL_ROOM];
+    select_in(query, &mut room, &mut texts, table, text, list, start)
+}
+
+fn select_long(query: &[u8], table: &[u8], text: &[u8], list: &mut [u32], start: usize) -> Selection
+    requires { ⌜ early (now query) ≡ 0 ⌝ }
+    ensures { λ r. ⌜ SelectsOnly (now (query .entry)) (now (table .entry)) (now (text .entry)) (now (list .entry)) start (selected r (now (list .exit))) ⌝ }
+{
+    let mut room = [0u8; PLAN_ROOM];
+    let mut texts = [0u8; POOL_ROOM];
+    select_in(query, &mut room, &mut texts, table, text, list, start)
+}
+
+// "Select: the same without 12, then 9, 10, 14, 13." There is one outcome for each input.
+pub fn select(query: &[u8], table: &[u8], text: &[u8], list: &mut [u32], start: usize) -> Selection
+    ensures answers { λ r. ⌜ Selects (now (query .entry)) (now (table .entry)) (now (text .entry)) (now (list .entry)) start (selected r (now (list .exit))) ⌝ }
+    ensures only { λ r. ⌜ ((o : RunOutcome) → Selects (now (query .entry)) (now (table .entry)) (now (text .entry)) (now (list .entry)) start o → o ≡ selected r (now (list .exit))) ⌝ }
+{
+    let refusal = early_refusal(query);
+    if refusal != 0 {
+        return Selection::Refused(refusal);
+    }
+    if query.len() <= SHORT {
+        return select_short(query, table, text, list, start);
+    }
+    select_long(query, table, text, list, start)
+}
