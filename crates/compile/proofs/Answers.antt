@@ -2,7 +2,7 @@
 use mathlib.Core.Path.{_≡_, refl, sym, ap, subst, _∙_}
 use mathlib.Core.Bool.{Bool, true, false, cond, not, _&&_}
 use mathlib.Core.List.{List, [], _∷_, _++_}
-use Prim.Native.Nat.{ℕ, zero, suc, _+_, _*_, _-_, _≤_, _<_}
+use Prim.Native.Nat.{ℕ, zero, suc, _+_, _≤_, _<_}
 use native.Mathlib.Nat.{zero-add}
 use native.Mathlib.Omega.{arith}
 use borrow.Author.Tests.{eqb-true, eqb-false, ltb-false, lt-ltb, le-ltb, lt-leb, le-leb}
@@ -17,19 +17,19 @@ use Rattle.definition.specs.Grammar.{spell, spellSegments}
 use Rattle.definition.specs.Forms.{Query}
 use Rattle.definition.specs.Plans.{planOf, poolOf}
 use Rattle.definition.specs.Walk.{walk}
-use Rattle.definition.specs.Outcomes.{Reading, CompileOutcome, early, judge, compileBy, write}
+use Rattle.definition.specs.Outcomes.{CompileOutcome, early, judge, compileBy, write}
 use Rattle.definition.specs.Outcomes.Reading.{refused, form}
 use Rattle.reading.specs.Reads.{ReadsNone, Wrote}
 use Rattle.utf8.specs.Bytes.{by-test}
 use Rattle.utf8.specs.Encode.{utf8-ascii}
-use Rattle.writing.specs.Effects.{Marks, Effect, joinMarks}
+use Rattle.writing.specs.Effects.{Marks, Effect}
 use Rattle.writing.specs.Sizes.{query-plan-fits, query-pool-fits}
 use Rattle.writing.specs.Writes.{writeQuery, writeFrom, writeSegments}
 use Rattle.writing.specs.Agrees.{Agreed, Formed, agrees}
 use Rattle.levels.specs.Follow.{After}
 use Rattle.levels.specs.Pieces.{queryFlag}
 use Rattle.scan.specs.Text.{Is}
-use Rattle.items.specs.Reads.{marksOf, Start, Read}
+use Rattle.items.specs.Reads.{Start, Read}
 use Rattle.items.specs.Laws.{after-end, join-none}
 use Rattle.items.specs.declared.State.{State}
 use Rattle.items.specs.declared.Step.{Step}

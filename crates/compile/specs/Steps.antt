@@ -1,11 +1,10 @@
 -- What the contracts of compile say: its answer as the definition's outcome, and what its steps ask and give.
 use mathlib.Core.Path.{_≡_}
-use mathlib.Core.Bool.{Bool, true, cond, _&&_}
+use mathlib.Core.Bool.{true, cond, _&&_}
 use mathlib.Core.List.{List}
-use Prim.Native.Nat.{ℕ, _+_, _*_, _≤_, _<_}
+use Prim.Native.Nat.{ℕ, _*_, _≤_, _<_}
 use lib.Dec.{eqb, leb}
 use lib.ListN.{length, take}
-use lib.Seq.{sets}
 use Rattle.definition.specs.Utf8.{isUtf8}
 use Rattle.definition.specs.Grammar as G
 use Rattle.definition.specs.Grammar.{spell}

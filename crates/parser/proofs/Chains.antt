@@ -22,7 +22,7 @@ use Rattle.levels.specs.Follow.{After}
 use Rattle.levels.specs.Numbers.{sortNumber, sortOf}
 use Rattle.levels.specs.Pieces.{Operand, spellOperand, writeOperand, operandFlag, spellBehindOf, writeBehindOf, behindOfSort, ChainedOf, spellChainedOf, writeChainedOf, chainedOfSort}
 use Rattle.levels.specs.Pieces.Operand.{literalOperand, queryOperand, functionOperand}
-use Rattle.items.specs.Reads.{Start, Done, Read, Post, Operates, Known, next, stop}
+use Rattle.items.specs.Reads.{Start, Done, Read, Post, Operates, next, stop}
 use Rattle.items.specs.Laws.{done-seq}
 use Rattle.items.specs.declared.State.{State}
 use Rattle.items.specs.declared.Step.{Step}
@@ -35,7 +35,7 @@ use Rattle.rules.specs.Begins.{isOperandByte}
 use Rattle.rules.specs.Basic.{query-some, function-some}
 use Rattle.rules.specs.Argument.{argument-logical, chained-reads, chained-none-or, chained-none-and, chained-none, spellChain, meChain, argument-chain, chain-reads, chain-none-rest, chain-none, no-literal-flag, no-literal-operator, argument-literal}
 use Rattle.parser.proofs.Steps.{start-read, done-is, post-so, stay}
-use Rattle.parser.proofs.Operands.{sort-small, known-read, start-behind, reads-at, done-at, operand-then}
+use Rattle.parser.proofs.Operands.{sort-small, start-behind, reads-at, done-at, operand-then}
 
 -- ---- what is left of a logical expression behind its first operand
 

@@ -1,8 +1,8 @@
 -- The laws of *( S "," S selector ) and of the brackets around selectors, as the reader's functions need them. Assumes nothing.
 use mathlib.Core.Path.{_≡_, refl, sym, ap, subst, _∙_}
-use mathlib.Core.Bool.{Bool, true, false}
+use mathlib.Core.Bool.{true, false}
 use mathlib.Core.List.{List, [], _∷_, _++_}
-use Prim.Native.Nat.{ℕ, suc, _+_, _-_, _≤_, _<_}
+use Prim.Native.Nat.{ℕ, suc, _+_, _≤_}
 use native.Mathlib.Nat.{zero-add}
 use native.Mathlib.Omega.{arith}
 use borrow.Author.Tests.{eqb-true, eqb-false, eq-eqb, ne-eqb}
@@ -20,10 +20,10 @@ use Rattle.definition.specs.Plans.{two}
 use Rattle.reading.specs.Reads.{Reads, ReadsNone, Wrote}
 use Rattle.utf8.specs.Bytes.{by-test}
 use Rattle.utf8.specs.Encode.{utf8-ascii}
-use Rattle.writing.specs.Effects.{Effect, Writer, join, skip, counted}
+use Rattle.writing.specs.Effects.{Effect, join, skip, counted}
 use Rattle.writing.specs.Sorts.{isEmpty}
 use Rattle.writing.specs.Spellings.{text-shrinks, int-spends, slice-spends}
-use Rattle.writing.specs.Sizes.{sizedSelector, sizedSelectors, sizedOr}
+use Rattle.writing.specs.Sizes.{sizedSelector, sizedOr}
 use Rattle.writing.specs.Writes.{writeSelectors, writeSelector, countMore}
 use Rattle.levels.specs.Follow.{unblank, After}
 use Rattle.levels.specs.Numbers.{plainFlag, bracketedFlag, writeSelection, bracketsNumber}
@@ -32,12 +32,12 @@ use Rattle.items.specs.Reads.{Start, Done, Post, LooseRead, LoosePost, Put, nex
 use Rattle.items.specs.Laws.{Moved, done-then, done-counted, moved-done, start-go, done-plan, done-pool}
 use Rattle.items.specs.declared.State.{State}
 use Rattle.items.specs.declared.Step.the-variants as step
-use Rattle.rules.specs.Follows.{split-blanks, same-tail, differ}
+use Rattle.rules.specs.Follows.{split-blanks}
 use Rattle.rules.specs.Rep.{behind}
 use Rattle.rules.specs.Loose.{Loosely, Exactly}
 use Rattle.rules.specs.Selectors.{meSelector, meSelectors, Left, left-more, left-end, left-none}
-use Rattle.rules.specs.Brackets.{meBracketed, Picked, spellPicked, mePicked, picked-reads, picked-exactly, picked-none, picked-none-more, bracketed-none, bracketed-open, bracketed-reads, brackets-mean, no-more}
-use Rattle.parser.proofs.Steps.{start-moved, start-skipped, start-put, start-loose, loose-spent, done-is, done-moved, empty, none-join, join-then, join-empty, done-none}
+use Rattle.rules.specs.Brackets.{meBracketed, spellPicked, mePicked, picked-reads, picked-exactly, picked-none, picked-none-more, bracketed-none, bracketed-open, bracketed-reads, brackets-mean, no-more}
+use Rattle.parser.proofs.Steps.{start-moved, start-put, loose-spent, done-is, done-moved, empty, none-join, join-then, join-empty, done-none}
 use Rattle.parser.proofs.Picks.{none-moved}
 
 -- ---- room behind a selector

@@ -1,50 +1,45 @@
 -- The laws of segments, bracketed selections and selectors, as the reader's functions need them. Assumes nothing.
 use mathlib.Core.Path.{_≡_, refl, sym, ap, subst, _∙_}
-use mathlib.Core.Bool.{Bool, true, false, cond, not, true≢false}
-use mathlib.Core.List.{List, [], _∷_, _++_}
-use Prim.Native.Nat.{ℕ, _+_, _*_, _-_, _≤_, _<_, min}
-use native.Mathlib.Nat.{zero-add}
+use mathlib.Core.Bool.{Bool, true, false, not}
+use mathlib.Core.List.{List, [], _∷_}
+use Prim.Native.Nat.{ℕ, _+_, _-_, _≤_, _<_, min}
 use native.Mathlib.Omega.{arith}
-use lib.Dec.{eqb}
 use lib.Seq.{length-sets}
-use lib.ListN.{length, drop, length-append, length-drop}
+use lib.ListN.{length, drop}
 use Rattle.definition.specs.Utf8.{isUtf8}
-use Rattle.definition.specs.Lexical.{spellBlanks}
 use Rattle.definition.specs.Grammar as G
-use Rattle.definition.specs.Grammar.{spellLogicalOr, spellSegments, spellSegment, spellBracketed, spellSelectors, spellSelector}
+use Rattle.definition.specs.Grammar.{spellLogicalOr, spellSegments, spellSegment, spellBracketed, spellSelector}
 use Rattle.definition.specs.Grammar.Segment.{childBrackets, childWild, childName, descendantBrackets, descendantWild, descendantName}
 use Rattle.definition.specs.Grammar.Segments.{noSegment}
 use Rattle.definition.specs.Plans.{two}
 use Rattle.reading.specs.Reads.{Reads, ReadsNone, StartsNot, Wrote}
 use Rattle.utf8.specs.Encode.{utf8-ascii}
 use Rattle.writing.specs.Effects.{Effect, Writer, join, skip, bytes, counted}
-use Rattle.writing.specs.Sorts.{Sort, sortOr, singularSegments, tightSegments, singularSegment, tightSegment}
+use Rattle.writing.specs.Sorts.{Sort, sortOr, singularSegments, tightSegments}
 use Rattle.writing.specs.Sorts.Sort.{literalSort, singularSort, nodesSort, valueSort, logicalSort}
-use Rattle.writing.specs.Sizes.{sizedSegment, sizedOr, sizedSelector, sizedSelectors}
-use Rattle.writing.specs.Writes.{writeOr, testTail, writeSegments, writeSegment, writeSelectors, writeSelector, countMore}
+use Rattle.writing.specs.Sizes.{sizedSegment, sizedOr}
+use Rattle.writing.specs.Writes.{writeOr, testTail, writeSegments, writeSegment, writeSelector}
 use Rattle.levels.specs.Follow.{hd, unblank, After}
-use Rattle.levels.specs.Numbers.{sortNumber, sortOf, Known, pathNumber, segmentsFlag, segmentFlag, plainFlag, bracketedFlag, noFlag, writeSelection, bracketsNumber}
-use Rattle.levels.specs.Leaves.{Dotted, spellDotted, writeDotted, dottedFlag, Plain, spellPlain, writePlain, isPlain}
+use Rattle.levels.specs.Numbers.{sortNumber, sortOf, Known, pathNumber, segmentsFlag, segmentFlag, plainFlag, bracketedFlag, noFlag, writeSelection}
+use Rattle.levels.specs.Leaves.{spellDotted, writeDotted, dottedFlag, spellPlain, writePlain, isPlain}
 use Rattle.levels.specs.Pieces.{Filter, spellFilter, writeFilter}
 use Rattle.scan.specs.Text.{Is, Both, Has, Skipped}
-use Rattle.items.specs.Reads.{Start, Done, Read, Post, LooseRead, LoosePost, Put, next, stop, low, isSegmentByte}
-use Rattle.items.specs.Laws.{Moved, done-then, read-of, none-of, loose-of, loose-none-of, after-weaken, post-low, post-loose}
+use Rattle.items.specs.Reads.{Start, Done, Read, Post, LoosePost, Put, next, stop, low, isSegmentByte}
+use Rattle.items.specs.Laws.{Moved, done-then, post-low, post-loose}
 use Rattle.items.specs.declared.State.{State}
 use Rattle.items.specs.declared.Step.{Step}
 use Rattle.items.specs.declared.Step.the-variants as step
-use Rattle.rules.specs.So.{So, so-reads, so-none}
+use Rattle.rules.specs.So.{So, so-none}
 use Rattle.rules.specs.Rep.{behind}
-use Rattle.rules.specs.Loose.{Loosely}
-use Rattle.rules.specs.Segment.{meSegment, meDotted, lowered, segment-no-dot, segment-dot, segment-dots-brackets, segment-dots}
+use Rattle.rules.specs.Segment.{meSegment, lowered, segment-no-dot, segment-dot, segment-dots-brackets, segment-dots}
 use Rattle.rules.specs.Segments.{meSegments, segments-more, segments-end, segments-none}
-use Rattle.rules.specs.Brackets.{meBracketed}
 use Rattle.rules.specs.Joins.{plain, within}
 use Rattle.rules.specs.Follows.{split-blanks}
 use Rattle.rules.specs.Sorted.{sort-of}
 use Rattle.rules.specs.Or.{meOr}
-use Rattle.rules.specs.Filter.{filter-reads, filter-none, filter-writes, meFilter, mePlain, selector-filter, selector-plain}
-use Rattle.rules.specs.Selectors.{meSelector, meSelectors}
-use Rattle.parser.proofs.Steps.{put-plain, done-within, start-put, start-moved, start-skipped, start-read, Spent, read-spent, done-is, done-moved, read-so, post-so, stay, Loop, empty, loop-start, none-join, join-then, join-empty, so-act}
+use Rattle.rules.specs.Filter.{filter-reads, filter-none, filter-writes, mePlain, selector-filter, selector-plain}
+use Rattle.rules.specs.Selectors.{meSelector}
+use Rattle.parser.proofs.Steps.{put-plain, done-within, start-put, start-moved, start-skipped, start-read, read-spent, done-is, done-moved, post-so, stay, Loop, empty, loop-start, join-then, join-empty, so-act}
 
 -- ---- a tree that was read from a later place
 

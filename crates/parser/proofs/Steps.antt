@@ -2,7 +2,7 @@
 use mathlib.Core.Path.{_≡_, refl, sym, ap, subst, _∙_}
 use mathlib.Core.Bool.{true}
 use mathlib.Core.List.{List, [], _∷_, append-nil}
-use Prim.Native.Nat.{ℕ, _+_, _*_, _-_, _≤_, _<_}
+use Prim.Native.Nat.{ℕ, _+_, _*_, _-_, _≤_}
 use native.Mathlib.Omega.{arith}
 use lib.ListN.{length, drop, length-drop}
 use lib.Seq.{length-sets}
@@ -13,15 +13,14 @@ use Rattle.writing.specs.Effects.{Marks, Effect, Writer, noMarks, joinMarks, jo
 use Rattle.writing.specs.Sizes.{Sized}
 use Rattle.levels.specs.Follow.{unblank, After}
 use Rattle.scan.specs.Text.{Skipped}
-use Rattle.items.specs.Reads.{marksOf, Start, Done, Read, Post, LooseRead, LoosePost, Put, next, stop}
-use Rattle.items.specs.Laws.{Moved, done-then, done-from, done-to, done-plan, done-pool, start-go, after-weaken, join-none, join-noMarks, join-assoc, put-done, mark-done, done-frame}
+use Rattle.items.specs.Reads.{marksOf, Start, Done, Read, Post, LooseRead, Put, next, stop}
+use Rattle.items.specs.Laws.{Moved, done-then, done-from, start-go, after-weaken, join-none, join-noMarks, join-assoc, put-done, mark-done, done-frame}
 use Rattle.items.specs.declared.State.{State}
 use Rattle.items.specs.declared.Step.{Step}
-use Rattle.items.specs.declared.Step.the-variants as step
-use Rattle.rules.specs.So.{So, so-start, so-reads, so-none}
+use Rattle.rules.specs.So.{So, so-reads, so-none}
 use Rattle.rules.specs.Rep.{Rep, behind, rep-more, rep-end, rep-none}
 use Rattle.rules.specs.Joins.{plain, marked, within}
-use Rattle.rules.specs.Loose.{Loosely, Exactly}
+use Rattle.rules.specs.Loose.{Loosely}
 
 -- ---- room
 

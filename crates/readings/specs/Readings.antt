@@ -1,6 +1,6 @@
 -- One text reads in one way: what a query's bytes come to, from one tree that spells them and what is written for it, or from there being none.
 -- So compile and select have one outcome for each input.
-use Prim.Native.Nat.{ℕ, zero, suc, _<_}
+use Prim.Native.Nat.{ℕ, zero, suc}
 use native.Mathlib.Omega.{arith}
 use mathlib.Core.Path.{_≡_, refl, ap, sym, _∙_, subst}
 use mathlib.Core.List.{List}
@@ -9,7 +9,7 @@ use Rattle.definition.specs.Grammar as G
 use Rattle.definition.specs.Grammar.{spell}
 use Rattle.definition.specs.Forms.{Query}
 use Rattle.definition.specs.Plans.{planOf, poolOf}
-use Rattle.definition.specs.Walk.{Walked, walk}
+use Rattle.definition.specs.Walk.{walk}
 use Rattle.definition.specs.Outcomes.{Reading, Reads, Translates, CompileOutcome, Compiles, RunOutcome, Selects, early, judge, compileBy, runBy}
 use Rattle.definition.specs.Outcomes.Reading.{refused, form}
 use Rattle.definition.specs.Outcomes.Reads.{tooEarly, noTree, hasTree}

@@ -15,10 +15,9 @@ use Rattle.definition.specs.Grammar.Arguments.{noArgument, arguments}
 use Rattle.definition.specs.Grammar.MoreArguments.{noMore, moreArguments}
 use Rattle.definition.specs.Grammar.Argument.{literalArgument, queryArgument, logicalArgument, functionArgument}
 use Rattle.definition.specs.Grammar.FilterQuery.{relQuery, absQuery}
-use Rattle.definition.specs.Walk.{Named}
 use Rattle.reading.specs.Reads.{Reads, ReadsNone}
 use Rattle.writing.specs.Effects.{Effect, join, seq}
-use Rattle.writing.specs.Sorts.{Sort, sortArgument, sortsOf, sortsMore, namedSort}
+use Rattle.writing.specs.Sorts.{sortArgument, sortsOf, sortsMore, namedSort}
 use Rattle.writing.specs.Writes.{writeArgument, writeArguments, writeMoreArguments, callBytes}
 use Rattle.levels.specs.Follow.{hd, unblank, rank, After}
 use Rattle.levels.specs.Numbers.{sortNumber, oneMore, argumentsFrom, nameOf, callMarks}

@@ -13,7 +13,6 @@ use Rattle.writing.specs.Sorts.{singularSegments, tightSegments, querySort}
 use Rattle.writing.specs.Writes.{writeSegments, writeFrom, writeFilterQuery}
 use Rattle.levels.specs.Follow.{After}
 use Rattle.levels.specs.Numbers.{pathNumber, segmentsFlag, flagOfPath, sortNumber}
-use Rattle.levels.specs.Leaves.{Constant, Keyword}
 use Rattle.levels.specs.Pieces.{Operand, spellOperand, writeOperand, operandFlag, queryFlag}
 use Rattle.levels.specs.Pieces.Operand.{literalOperand, queryOperand, functionOperand}
 use Rattle.rules.specs.Follows.{same-tail, differ}

@@ -8,7 +8,6 @@ use native.Mathlib.Omega.{arith}
 use borrow.Author.Tests.{ne-eqb, eqb-true, le-leb, lt-leb}
 use lib.Dec.{eqb}
 use Rattle.definition.specs.Lexical.{isDigit, isLcalpha, isFunctionChar, FunctionName, functionBytes, spellFunctionName}
-use Rattle.definition.specs.Grammar as G
 use Rattle.definition.specs.Grammar.FilterQuery.{relQuery, absQuery}
 use Rattle.definition.specs.Grammar.Function.{function}
 use Rattle.definition.specs.Grammar.Literal.{numberLiteral, textLiteral, trueLiteral, falseLiteral, nullLiteral}

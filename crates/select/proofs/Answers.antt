@@ -8,7 +8,7 @@ use Rattle.definition.specs.Grammar as G
 use Rattle.definition.specs.Grammar.{spell}
 use Rattle.definition.specs.Plans.{planOf, poolOf}
 use Rattle.definition.specs.Walk.{walk}
-use Rattle.definition.specs.Outcomes.{Translates, RunOutcome, early, judge, runBy, refuseRun}
+use Rattle.definition.specs.Outcomes.{Translates, early, judge, runBy, refuseRun}
 use Rattle.definition.specs.Outcomes.Reading.{refused, form}
 use Rattle.keeps.specs.Keeps.{compiled-keeps}
 use Rattle.readings.specs.Readings.{ReadsOnly, SelectsOnly, none-only, early-only, selects-only}

@@ -3,11 +3,6 @@ use Rattle.compile.proofs.Answers.{outcome-early}
 use borrow.Author.Needs.{needs}
 use Rattle.compile.proofs.compile.Statement.{statement}
 use Rattle.compile.proofs.compile.Tie as tie
-use Rattle.compile.proofs.compile.Reads as reads
-use Rattle.compile.proofs.compile.Lts as lts
-use Rattle.compile.proofs.rooms.compile_long.Reads as compile-long-reads
-use Rattle.compile.proofs.rooms.compile_short.Reads as compile-short-reads
-use Rattle.compile.proofs.rooms.early_refusal.Reads as early-refusal-reads
 
 early-refusal-requires : tie.Need-early-refusal-requires
 early-refusal-requires c κs = search needs

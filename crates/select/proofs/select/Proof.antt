@@ -3,11 +3,6 @@ use Rattle.select.proofs.Answers.{select-early}
 use borrow.Author.Needs.{needs}
 use Rattle.select.proofs.select.Statement.{statement}
 use Rattle.select.proofs.select.Tie as tie
-use Rattle.select.proofs.select.Reads as reads
-use Rattle.select.proofs.select.Lts as lts
-use Rattle.compile.proofs.rooms.early_refusal.Reads as early-refusal-reads
-use Rattle.select.proofs.select_long.Reads as select-long-reads
-use Rattle.select.proofs.select_short.Reads as select-short-reads
 
 early-refusal-requires : tie.Need-early-refusal-requires
 early-refusal-requires c κs = search needs

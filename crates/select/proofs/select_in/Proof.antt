@@ -4,11 +4,6 @@ use Rattle.select.proofs.Answers.{select-refused, plan-part, pool-part,
 use borrow.Author.Needs.{needs}
 use Rattle.select.proofs.select_in.Statement.{statement}
 use Rattle.select.proofs.select_in.Tie as tie
-use Rattle.select.proofs.select_in.Reads as reads
-use Rattle.select.proofs.select_in.Lts as lts
-use Rattle.compile.proofs.rooms.parse.Reads as parse-reads
-use Rattle.compile.proofs.rooms.verdict.Reads as verdict-reads
-use Rattle.run.proofs.run_form.Reads as run-form-reads
 
 parse-requires : tie.Need-parse-requires
 parse-requires c κs = search needs

@@ -4,9 +4,6 @@ use Rattle.compile.proofs.Answers.{rooms-long}
 use borrow.Author.Needs.{needs}
 use Rattle.select.proofs.select_long.Statement.{statement}
 use Rattle.select.proofs.select_long.Tie as tie
-use Rattle.select.proofs.select_long.Reads as reads
-use Rattle.select.proofs.select_long.Lts as lts
-use Rattle.select.proofs.select_in.Reads as select-in-reads
 
 slice-aggregate-select-in : tie.Need-slice-aggregate-select-in
 slice-aggregate-select-in c = search needs

@@ -4,9 +4,6 @@ use Rattle.compile.proofs.Answers.{rooms-short}
 use borrow.Author.Needs.{needs}
 use Rattle.select.proofs.select_short.Statement.{statement}
 use Rattle.select.proofs.select_short.Tie as tie
-use Rattle.select.proofs.select_short.Reads as reads
-use Rattle.select.proofs.select_short.Lts as lts
-use Rattle.select.proofs.select_in.Reads as select-in-reads
 
 slice-aggregate-select-in : tie.Need-slice-aggregate-select-in
 slice-aggregate-select-in c = search needs

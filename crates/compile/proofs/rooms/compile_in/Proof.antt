@@ -3,11 +3,6 @@ use Rattle.compile.proofs.Answers.{whole-of, none-of, outcome-refused, 
 use borrow.Author.Needs.{needs}
 use Rattle.compile.proofs.rooms.compile_in.Statement.{statement}
 use Rattle.compile.proofs.rooms.compile_in.Tie as tie
-use Rattle.compile.proofs.rooms.compile_in.Reads as reads
-use Rattle.compile.proofs.rooms.compile_in.Lts as lts
-use Rattle.compile.proofs.rooms.deliver.Reads as deliver-reads
-use Rattle.compile.proofs.rooms.parse.Reads as parse-reads
-use Rattle.compile.proofs.rooms.verdict.Reads as verdict-reads
 
 parse-requires : tie.Need-parse-requires
 parse-requires c κs = search needs

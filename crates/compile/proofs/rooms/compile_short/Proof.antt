@@ -4,9 +4,6 @@ use Rattle.compile.proofs.Answers.{rooms-short}
 use borrow.Author.Needs.{needs}
 use Rattle.compile.proofs.rooms.compile_short.Statement.{statement}
 use Rattle.compile.proofs.rooms.compile_short.Tie as tie
-use Rattle.compile.proofs.rooms.compile_short.Reads as reads
-use Rattle.compile.proofs.rooms.compile_short.Lts as lts
-use Rattle.compile.proofs.rooms.compile_in.Reads as compile-in-reads
 
 slice-aggregate-compile-in : tie.Need-slice-aggregate-compile-in
 slice-aggregate-compile-in c = search needs

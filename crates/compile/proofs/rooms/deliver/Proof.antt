@@ -4,9 +4,6 @@ use Rattle.compile.proofs.Answers.{small-plan, small-pool, fits-both}
 use borrow.Author.Needs.{needs}
 use Rattle.compile.proofs.rooms.deliver.Statement.{statement}
 use Rattle.compile.proofs.rooms.deliver.Tie as tie
-use Rattle.compile.proofs.rooms.deliver.Reads as reads
-use Rattle.compile.proofs.rooms.deliver.Lts as lts
-use Rattle.text.proofs.parts.copy_part.Reads as copy-part-reads
 
 returns : tie.Need-returns
 returns c = small-plan (now (c .before .before .before .before .before .args .from)) (now (c .before .before .before .before .before .args .texts)) (now (c .before .before .before .before .before .args .plan)) (now (c .before .before .before .before .before .args .pool)) (c .before .before .before .before .before .pre .0) (c .before .before .before .before .before .pre .1) (c .if1 .taken)

@@ -6,10 +6,6 @@ use Rattle.compile.proofs.Answers.{early-long, early-bytes, early-deep,
 use borrow.Author.Needs.{needs}
 use Rattle.compile.proofs.rooms.early_refusal.Statement.{statement}
 use Rattle.compile.proofs.rooms.early_refusal.Tie as tie
-use Rattle.compile.proofs.rooms.early_refusal.Reads as reads
-use Rattle.compile.proofs.rooms.early_refusal.Lts as lts
-use Rattle.text.proofs.brackets.too_deep.Reads as too-deep-reads
-use Rattle.text.proofs.encoding.is_utf8.Reads as is-utf8-reads
 
 returns : tie.Need-returns
 returns c = early-long (now (c .before .before .args .query)) (c .if1 .taken)

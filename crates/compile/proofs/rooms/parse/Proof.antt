@@ -5,10 +5,6 @@ use Rattle.compile.proofs.Answers.{no-root, root-start, no-segments, so
 use borrow.Author.Needs.{needs}
 use Rattle.compile.proofs.rooms.parse.Statement.{statement}
 use Rattle.compile.proofs.rooms.parse.Tie as tie
-use Rattle.compile.proofs.rooms.parse.Reads as reads
-use Rattle.compile.proofs.rooms.parse.Lts as lts
-use Rattle.parser.proofs.query.Reads as query-reads
-use Rattle.scan.proofs.is.Reads as is-reads
 
 is-requires : tie.Need-is-requires
 is-requires c κs = search needs

@@ -2,8 +2,6 @@
 use borrow.Author.Tests.{eq-eqb, ne-eqb}
 use Rattle.compile.proofs.rooms.verdict.Statement.{statement}
 use Rattle.compile.proofs.rooms.verdict.Tie as tie
-use Rattle.compile.proofs.rooms.verdict.Reads as reads
-use Rattle.compile.proofs.rooms.verdict.Lts as lts
 
 returns : tie.Need-returns
 returns c = rw (ne-eqb (c .before .args .st .verdict) 0 (c .if1 .taken))
