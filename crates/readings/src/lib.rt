@@ -1,1 +1,1 @@
-// What compiles keeps to the plan: it is a query form, and its plan and pool are within their limits. This crate has no code: see specs/.
+// One text reads in one way, so compile and select have one outcome for each input. This crate has no code: see specs/.

@@ -1,0 +1,58 @@
+-- Document 01's starred sample rows, as outcomes of select, and of compile and then run: one table under one theorem.
+-- Assumes nothing.
+use Prim.Native.Nat.{ℕ}
+use mathlib.Core.Path.{_≡_, refl, sym, subst}
+use mathlib.Core.List.{List, [], _∷_}
+use Rattle.definition.specs.Outcomes.{CompileOutcome, RunOutcome, Runs, Selects, runBy}
+use Rattle.definition.specs.Outcomes.Reading.{form}
+use Rattle.definition.specs.Sample.{sampleTable, sampleText}
+use Rattle.definition.specs.Gives.{Gives}
+use Rattle.definition.specs.Rows.{Row, AllGive, starredRows, starred}
+use Rattle.readings.specs.Readings.{CompilesOnly, SelectsOnly}
+use Rattle.demands.specs.Lists.{Listed}
+use Rattle.demands.specs.Cases.{accepted-lists}
+use Rattle.demands.specs.Written.{planIn, poolIn, only-holds}
+use Rattle.demands.specs.Running.{select-gives, held-runs}
+
+-- A row's bytes s and nodes ns on a table T with the text X, for every list and start position.
+pub record Answers (s T X ns : List ℕ) : Type 0 where
+  -- select has an outcome that lists the nodes
+  pub some : (L : List ℕ) (at : ℕ) → (o : RunOutcome) × Selects s T X L at o × Listed ns L at o
+  -- and it is what select answers
+  pub select : (L : List ℕ) (at : ℕ) (o : RunOutcome) → SelectsOnly s T X L at o → Listed ns L at o
+  -- what compile wrote, where it succeeds, runs so too
+  pub run : (P R : List ℕ) (c : CompileOutcome) → CompilesOnly s P R c → c .refusal ≡ 0 → (L : List ℕ) (at : ℕ) (o : RunOutcome)
+      → Runs (planIn c) (poolIn c) T X L at o → Listed ns L at o
+
+module _ {s T X ns : List ℕ} (g : Gives s T X ns) where
+  -- the definition's outcome for the row's form
+  lists : (L : List ℕ) (at : ℕ) → Listed ns L at (runBy (form (g .query)) T X L at)
+  lists L at = subst (λ (l : List ℕ). Listed l L at (runBy (form (g .query)) T X L at)) (g .selects) (accepted-lists (g .query) T X L at (g .table))
+
+  -- what select answers, since its contract leaves no other outcome
+  selects : (L : List ℕ) (at : ℕ) (o : RunOutcome) → SelectsOnly s T X L at o → Listed ns L at o
+  selects L at o k = subst (Listed ns L at) (sym (select-gives (g .query) (g .reads) k)) (lists L at)
+
+  -- a run of what compile wrote, which is the plan of the row's form
+  runs : (P R : List ℕ) (c : CompileOutcome) → CompilesOnly s P R c → c .refusal ≡ 0 → (L : List ℕ) (at : ℕ) (o : RunOutcome)
+      → Runs (planIn c) (poolIn c) T X L at o → Listed ns L at o
+  runs P R c k z L at o r =
+      subst (Listed ns L at) (sym (held-runs (g .query) T X L at (g .reads) (only-holds (g .query) k (g .reads) z) r)) (lists L at)
+
+  pub row-answers : Answers s T X ns
+  row-answers = record { some = λ L at. (runBy (form (g .query)) T X L at, record { reading = form (g .query); reads = g .reads; is = refl }, lists L at); select = selects; run = runs }
+
+-- ---- the rows
+
+-- every row of a table of rows, on the sample table
+abbrev pub AllAnswer : List Row → Type 0
+AllAnswer [] = Unit {0}
+AllAnswer (r ∷ rs) = Answers (r .bytes) sampleTable sampleText (r .nodes) × AllAnswer rs
+
+all-answer : (rs : List Row) → AllGive rs → AllAnswer rs
+all-answer [] g = tt
+all-answer (r ∷ rs) g = (row-answers (g .0), all-answer rs (g .1))
+
+-- every starred row is what select answers, and what compile and run answer
+pub starred-answers : AllAnswer starredRows
+starred-answers = all-answer starredRows starred

@@ -1,0 +1,1 @@
+// What is proved of the product as a whole, over the definition alone: one outcome for each input, plans that run as the definition says, and plan bytes from elsewhere. This crate has no code: see specs/, and there Demands.antt.
