@@ -1,105 +1,19 @@
 #!/usr/bin/env python3
 """Writes stdin and stdout of the program probe, beside this file: lines of calls, and the answers that document 01 asks for.
 
-The rules of a table are written here once more, plainly and apart from the definition and the code, so that the three are held
-against each other. Run it with no arguments; it always writes the same files.
+The rules are written once more in tools/, plainly and apart from the definition and the code, so that the three are held against each other. queries.py
+has the queries. Run it with no arguments; it always writes the same files.
 """
-import os, random, struct
+import os, random, struct, sys
 
-NODES, TEXT, LINE = 8192, 65536, 524800
+HERE = os.path.dirname(os.path.abspath(__file__))
+sys.dont_write_bytecode = True
+sys.path[:0] = [HERE, os.path.join(HERE, "..", "..", "tools")]
+import plans, queries, reference
+from tables import FLOAT, INTEGER, LIST, MAP, STRING, build, check, named, parents
+
+NODES, TEXT, LINE, QUERY, PLAN, PLACES = 8192, 65536, 524800, 8192, 65536, 65535
 TABLE = 24 * NODES
-NULL, FALSE, TRUE, INTEGER, FLOAT, STRING, LIST, MAP = range(8)
-
-
-# ---- document 01's rules
-
-def is_utf8(s):
-    try:
-        s.decode("utf-8", "strict")
-        return True
-    except UnicodeDecodeError:
-        return False
-
-
-def is_part(text, start, size):
-    return start + size <= len(text) and is_utf8(text[start:start + size])
-
-
-def check(table, text):
-    """None if the table is accepted, 9, or (10, node)."""
-    if not table or len(table) % 24 or len(table) // 24 > 65535 or len(text) > 16777216:
-        return 9
-    nodes = [struct.unpack_from("<BBHIIIII", table, at) for at in range(0, len(table), 24)]
-    parent, keys, begin = {}, {}, 1
-    for i, (kind, depth, zero2, start, size, zero12, low, high) in enumerate(nodes):
-        if kind > 7 or depth > 63 or zero2 or zero12:
-            return 10, i
-        if kind in (NULL, FALSE, TRUE) and (low or high):
-            return 10, i
-        if kind == FLOAT and high >> 20 & 2047 == 2047:
-            return 10, i
-        if kind == STRING and not is_part(text, low, high):
-            return 10, i
-        if kind in (LIST, MAP):
-            if high == 0 and low != 0:
-                return 10, i
-            if high != 0 and (low != begin or low + high > len(nodes)):
-                return 10, i
-            if kind == MAP and high > 1024:
-                return 10, i
-        if i == 0:
-            if depth or start or size:
-                return 10, i
-        else:
-            if i not in parent:
-                return 10, i
-            up = parent[i]
-            if depth != nodes[up][1] + 1:
-                return 10, i
-            if nodes[up][0] == MAP:
-                key = text[start:start + size]
-                if not is_part(text, start, size) or key in keys[up]:
-                    return 10, i
-                keys[up].add(key)
-            elif start or size:
-                return 10, i
-        if kind in (LIST, MAP):
-            keys[i] = set()
-            for child in range(begin, begin + high):
-                parent[child] = i
-            begin += high
-    return None
-
-
-def parents(table):
-    """The parents of the nodes of an accepted table."""
-    out, begin = {}, 1
-    for i in range(len(table) // 24):
-        kind, high = table[24 * i], struct.unpack_from("<I", table, 24 * i + 20)[0]
-        if kind in (LIST, MAP):
-            for child in range(begin, begin + high):
-                out[child] = i
-            begin += high
-    return out
-
-
-def named(table, text, node, key):
-    """(0, part) or (refusal, empty)."""
-    wrong = check(table, text)
-    if wrong is not None:
-        return (wrong if wrong == 9 else 10), b""
-    if node >= len(table) // 24:
-        return 15, b""
-    if key:
-        up = parents(table).get(node)
-        if up is None or table[24 * up] != MAP:
-            return 15, b""
-        start, size = struct.unpack_from("<II", table, 24 * node + 4)
-    else:
-        if table[24 * node] != STRING:
-            return 15, b""
-        start, size = struct.unpack_from("<II", table, 24 * node + 16)
-    return 0, text[start:start + size]
 
 
 # ---- the program's lines
@@ -138,53 +52,82 @@ def number(s):
 def answer(line):
     if len(line) > LINE:
         return "too long"
+    name, *rest = line.split(b" ")
+    rooms = ROOMS.get(name, [])
+    if len(rest) != len(rooms) or not rooms:
+        return "bad line"
     try:
-        name, *rest = line.split(b" ")
-        if name == b"table" and len(rest) == 2:
-            wrong = check(word(rest[0], TABLE), word(rest[1], TEXT))
-            return "ok" if wrong is None else "refused 9" if wrong == 9 else "refused 10 %d" % wrong[1]
-        if name in (b"text", b"key") and len(rest) == 3:
-            node = number(rest[2])
-            refusal, part = named(word(rest[0], TABLE), word(rest[1], TEXT), node, name == b"key")
-            return "refused %d" % refusal if refusal else "ok " + (part.hex() or "-")
+        values = [number(w) if room is None else word(w, room) for w, room in zip(rest, rooms)]
+        return globals()["answer_" + name.decode()](*values)
     except TooLong:
         return "too long"
     except Bad:
-        pass
-    return "bad line"
+        return "bad line"
 
 
-# ---- tables made from values
+# the room of each word of a call, None for a number
+ROOMS = {
+    b"table": [TABLE, TEXT],
+    b"text": [TABLE, TEXT, None],
+    b"key": [TABLE, TEXT, None],
+    b"compile": [QUERY, None, None],
+    b"plan": [PLAN, PLAN],
+    b"run": [PLAN, PLAN, TABLE, TEXT, None, None],
+    b"select": [QUERY, TABLE, TEXT, None, None],
+}
 
-def build(value):
-    """The table and the text of a Python value. Dicts are maps, and bytes are texts and keys."""
-    records, text, queue, begin = [], b"", [(value, 0, 0, 0)], 1
-    while queue:
-        v, depth, start, size = queue.pop(0)
-        low = high = 0
-        if v is None or v is False or v is True:
-            kind = {None: NULL, False: FALSE, True: TRUE}[v]
-        elif isinstance(v, int):
-            kind = INTEGER
-            low, high = struct.unpack("<II", struct.pack("<q", v))
-        elif isinstance(v, float):
-            kind = FLOAT
-            low, high = struct.unpack("<II", struct.pack("<d", v))
-        elif isinstance(v, bytes):
-            kind, low, high = STRING, len(text), len(v)
-            text += v
-        else:
-            kind = MAP if isinstance(v, dict) else LIST
-            high = len(v)
-            low = begin if high else 0
-            begin += high
-            for item in v.items() if kind == MAP else ((b"", x) for x in v):
-                at = len(text) if kind == MAP else 0
-                text += item[0]
-                queue.append((item[1], depth + 1, at, len(item[0])))
-        records.append(struct.pack("<BBHIIIII", kind, depth, 0, start, size, 0, low, high))
-    return b"".join(records), text
 
+def shown(data):
+    return data.hex() or "-"
+
+
+def answer_table(table, text):
+    wrong = check(table, text)
+    return "ok" if wrong is None else "refused 9" if wrong == 9 else "refused 10 %d" % wrong[1]
+
+
+def answer_part(table, text, node, key):
+    refusal, part = named(table, text, node, key)
+    return "refused %d" % refusal if refusal else "ok " + shown(part)
+
+
+def answer_text(table, text, node):
+    return answer_part(table, text, node, False)
+
+
+def answer_key(table, text, node):
+    return answer_part(table, text, node, True)
+
+
+def answer_compile(query, plan_room, pool_room):
+    if plan_room > PLAN or pool_room > PLAN:
+        raise TooLong
+    refusal, plan, pool = reference.compile(query, plan_room, pool_room)
+    return "refused %d %d %d" % (refusal, plan, pool) if refusal else "ok %s %s" % (shown(plan), shown(pool))
+
+
+def answer_plan(plan, pool):
+    return "ok" if plans.check(plan, pool) else "refused 11"
+
+
+def answer_run(plan, pool, table, text, length, start):
+    if length > PLACES:
+        raise TooLong
+    return listed(*reference.run(plan, pool, table, text, length, start))
+
+
+def answer_select(query, table, text, length, start):
+    if length > PLACES:
+        raise TooLong
+    return listed(*reference.select(query, table, text, length, start))
+
+
+def listed(refusal, n, places):
+    head = "refused %d %d" % (refusal, n) if refusal else "ok %d" % n
+    return " ".join([head] + [str(places.get(i, ".")) for i in range(max(places, default=-1) + 1)])
+
+
+# ---- tables and what is put into them
 
 def put(table, node, at, new):
     at += 24 * node
@@ -379,9 +322,123 @@ def write_lines():
     say(b"text", hexed(one), hexed(fill[:40]), 0)
 
 
+# ---- compile, plan, run and select
+
+def compile_lines():
+    r = random.Random(20260203)
+    every = [(w, q.encode()) for w, qs in queries.COMPILED for q in qs] + [(w, q) for w, qs in queries.RAW for q in qs]
+    for i, (wanted, query) in enumerate(every):
+        refusal, plan, pool = reference.compile(query, PLAN, PLAN)
+        assert refusal == wanted, (query, refusal, wanted)
+        if refusal:
+            say(b"compile", hexed(query), *r.choice([(PLAN, PLAN), (0, 0), (100, 7)]))
+            continue
+        n, m = len(plan), len(pool)
+        say(b"compile", hexed(query), *r.choice([(PLAN, PLAN), (n, m), (n + 3, m + 1)]))
+        if i % 4 == 0:
+            say(b"compile", hexed(query), *r.choice([(n - 1, m), (0, 0), (n - 1, PLAN), (n - 1, m - 1 if m else 0)]))
+        if i % 4 == 2 and m:
+            say(b"compile", hexed(query), *r.choice([(n, m - 1), (PLAN, 0), (PLAN, m - 1)]))
+        if n < 5000:
+            say(b"plan", hexed(plan), hexed(pool))
+            say(b"plan", *map(hexed, changed(r, plan, pool)))
+    say(b"compile", hexed(b"$"), PLAN + 1, 0)
+    say(b"compile", hexed(b"$"), 0, PLAN + 1)
+    say(b"compile", hexed(b"a" * (QUERY + 1)), 0, 0)
+
+
+def changed(r, plan, pool):
+    """A plan and a pool with one byte changed, left out or put in."""
+    if pool and r.randrange(4) == 0:
+        at = r.randrange(len(pool))
+        return plan, r.choice([pool[:at] + bytes([r.randrange(256)]) + pool[at + 1:], pool[:at] + pool[at + 1:], pool + b"a"])
+    at = r.randrange(len(plan))
+    new = bytes([r.choice([0, 1, 2, 3, 4, 5, 6, 8, 9, 10, 16, 19, 20, 21, 22, 24, 25, 255])])
+    return r.choice([plan[:at] + new + plan[at + 1:], plan[:at] + plan[at + 1:], plan[:at] + new + plan[at:]]), pool
+
+
+def plan_lines():
+    wild, slice_, test = bytes.fromhex("03010008"), bytes.fromhex("03010007") + bytes(25), bytes.fromhex("030100090300020a18")
+    for middle in (slice_ + wild * 16376, slice_ + test + wild * 16374):
+        say(b"plan", hexed(b"\x01" + middle + b"\x0a"), b"-")
+    for size in (65535, 65536):
+        say(b"plan", hexed(b"\x01\x03\x01\x00\x05\x00\x00" + struct.pack("<H", size % 65536) + b"\x0a"), hexed(b"a" * size))
+    say(b"plan", b"-", b"-")
+    say(b"plan", b"010a", b"-")
+    say(b"plan", b"010a", b"61")
+    say(b"plan", b"020a", b"-")
+
+
+def select_lines():
+    r = random.Random(20260204)
+    for document, texts in queries.SELECTED:
+        table, text = build(document)
+        t, x = hexed(table), hexed(text)
+        for query in map(str.encode, texts):
+            n = reference.select(query, table, text, PLACES, 0)[1]
+            plan, pool = plans.translate(reference.form(query))
+            length, start = r.choice([(n, 0), (n + 2, 0), (n + 3, 2), (n + 1, 1), (4096, 0), (n + 7, 0)])
+            say(b"select", hexed(query), t, x, length, start)
+            length, start = r.choice([(n, 0), (n + 3, 2), (max(n, 1) - 1, 0), (n + 1, 2), (n, n), (n, n + 1), (n // 2 + 4, 4)])
+            say(b"run", hexed(plan), hexed(pool), t, x, length, start)
+
+
+def order_lines():
+    """Which refusal comes first, and the limits of a list."""
+    table, text = build(queries.SAMPLE)
+    t, x, bad, wrong = hexed(table), hexed(text), hexed(table[1:]), hexed(put(table, 3, 0, b"\x08"))
+    plan, pool = map(hexed, plans.translate(reference.form(b"$..*")))
+    for length, start in ((0, 0), (0, 1), (5, 0), (5, 1), (5, 5), (5, 6), (4, 0), (3, 1), (4, 4), (9, 4), (9, 5), (300, 295), (300, 296), (65535, 0), (65535, 65535), (65535, 65536), (65536, 0),
+                          (5, 10 ** 18), (5, 10 ** 19), (10 ** 18, 0), (0, 0)):
+        for query in (b"$..*", b"$.x", b"$"):
+            say(b"select", hexed(query), t, x, length, start)
+        say(b"run", plan, pool, t, x, length, start)
+    for query in (b"$", b"$[", b"$[?foo()]", b"$[?count(@)]", b"$[?match('a','b')]", b"$[?@==1e23]", b"[" * 33, b"\xff", b"a" * 4097):
+        for these in (t, bad, wrong, b"-"):
+            for length, start in ((0, 0), (3, 1), (3, 4)):
+                say(b"select", hexed(query), these, x, length, start)
+    for code in (plan, b"020a", b"-", plan[:-2]):
+        for these in (t, bad, wrong, b"-"):
+            for length, start in ((0, 0), (7, 1), (3, 1), (3, 4)):
+                say(b"run", code, pool, these, x, length, start)
+    wide = hexed(b"\x06" + bytes(15) + u32(1) + u32(NODES - 1) + (b"\x01\x01" + bytes(22)) * (NODES - 1))
+    say(b"select", hexed(b"$[-1,0,8191,1]"), wide, b"-", 4, 1)
+    say(b"select", hexed(b"$"), t, x, 65535, 65534)
+    many = b"$" + b"[*,*]" * 6
+    small, empty = map(hexed, build([[[[[[1]]]]]]))
+    for length, start in ((64, 0), (63, 0), (70, 6), (70, 7), (1, 0), (0, 0)):
+        say(b"select", hexed(many), small, empty, length, start)
+
+
+def word_lines():
+    """The words of these calls."""
+    table, text = build(queries.SAMPLE)
+    t, x, q = hexed(table), hexed(text), hexed(b"$.a[1]")
+    plan, pool = map(hexed, plans.translate(reference.form(b"$.a[1]")))
+    good = [(b"compile", q, b"22", b"1"), (b"plan", plan, pool), (b"run", plan, pool, t, x, b"3", b"1"), (b"select", q, t, x, b"3", b"1")]
+    for words in good:
+        lines.append(b" ".join(words))
+        lines.append(b" ".join(words) + b" ")
+        lines.append(b" ".join(words) + b"\r")
+        lines.append(b" ".join(words[:-1]))
+        lines.append(b" ".join(words + (b"1",)))
+        lines.append(words[0].upper() + b" " + b" ".join(words[1:]))
+        lines.append(words[0] + b"s " + b" ".join(words[1:]))
+        lines.append(words[0])
+        for i in range(1, len(words)):
+            for new in (b"", b"zz", b"-1", b"1"[:i % 2] + b"0x", b"--", b"5g"):
+                lines.append(b" ".join(words[:i] + (new,) + words[i + 1:]))
+    over = b"00" * (PLAN + 1)
+    lines.extend([b"plan - " + over, b"run " + over + b" zz zz zz zz zz", b"select " + b"24" * (QUERY + 1) + b" zz zz 0 0", b"select zz " + b"24" * (QUERY + 1) + b" - 0 0"])
+
+
 write_lines()
-here = os.path.dirname(os.path.abspath(__file__))
-with open(os.path.join(here, "stdin"), "wb") as f:
+compile_lines()
+plan_lines()
+select_lines()
+order_lines()
+word_lines()
+with open(os.path.join(HERE, "stdin"), "wb") as f:
     f.write(b"\n".join(lines))
-with open(os.path.join(here, "stdout"), "w") as f:
+with open(os.path.join(HERE, "stdout"), "w") as f:
     f.writelines(answer(line) + "\n" for line in lines)

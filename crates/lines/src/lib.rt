@@ -1,4 +1,8 @@
 // Words on a line of bytes: where a word ends, hexadecimal byte strings and decimal numbers, read and written.
+//
+//     words    the words of a line one after the other
+pub mod words;
+
 ghost use mathlib.Core.Path.{_≡_};
 ghost use Prim.Native.Nat.{ℕ, _+_, _*_, _-_, _/_, _%_, _<_, _≤_};
 ghost use lib.ListN.{length};

@@ -1,0 +1,50 @@
+// The calls table, text and key.
+use crate::calls;
+use console::output;
+use lines::words;
+use lines::words::NumberWord;
+use table::TableChecked;
+
+// What the lent number holds before a call.
+const NOT_SET: u8 = 255;
+
+// Answers table.
+pub fn check(table: &[u8], text: &[u8]) {
+    match table::check_table(table, text) {
+        TableChecked::Accepted => output::text(b"ok\n"),
+        TableChecked::WrongSize => output::text(b"refused 9\n"),
+        TableChecked::WrongNode(node) => {
+            output::text(b"refused 10");
+            output::next_number(node);
+            output::newline();
+        }
+    }
+}
+
+// Answers text and key, whose node begins at a place.
+pub fn node(line: &[u8], from: usize, table: &[u8], text: &[u8], key: bool) {
+    let NumberWord::Is(node, _) = words::number(line, from) else {
+        calls::bad_line();
+        return;
+    };
+    let mut number = NOT_SET;
+    if key {
+        let part = table::key_of_node(table, text, node, &mut number);
+        show_part(part, number);
+    } else {
+        let part = table::text_of_node(table, text, node, &mut number);
+        show_part(part, number);
+    }
+}
+
+// Writes a part, or the refusal.
+fn show_part(part: &[u8], number: u8) {
+    if number == 0 {
+        output::text(b"ok ");
+        output::bytes(part);
+    } else {
+        output::text(b"refused");
+        output::next_number(number as usize);
+    }
+    output::newline();
+}

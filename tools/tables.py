@@ -1,0 +1,129 @@
+"""Tables of values in plain Python, apart from the definition and the code: document 01's rules, and the table of a value."""
+import struct
+
+NULL, FALSE, TRUE, INTEGER, FLOAT, STRING, LIST, MAP = range(8)
+
+
+# ---- document 01's rules
+
+def is_utf8(s):
+    try:
+        s.decode("utf-8", "strict")
+        return True
+    except UnicodeDecodeError:
+        return False
+
+
+def is_part(text, start, size):
+    return start + size <= len(text) and is_utf8(text[start:start + size])
+
+
+def check(table, text):
+    """None if the table is accepted, 9, or (10, node)."""
+    if not table or len(table) % 24 or len(table) // 24 > 65535 or len(text) > 16777216:
+        return 9
+    nodes = [struct.unpack_from("<BBHIIIII", table, at) for at in range(0, len(table), 24)]
+    parent, keys, begin = {}, {}, 1
+    for i, (kind, depth, zero2, start, size, zero12, low, high) in enumerate(nodes):
+        if kind > 7 or depth > 63 or zero2 or zero12:
+            return 10, i
+        if kind in (NULL, FALSE, TRUE) and (low or high):
+            return 10, i
+        if kind == FLOAT and high >> 20 & 2047 == 2047:
+            return 10, i
+        if kind == STRING and not is_part(text, low, high):
+            return 10, i
+        if kind in (LIST, MAP):
+            if high == 0 and low != 0:
+                return 10, i
+            if high != 0 and (low != begin or low + high > len(nodes)):
+                return 10, i
+            if kind == MAP and high > 1024:
+                return 10, i
+        if i == 0:
+            if depth or start or size:
+                return 10, i
+        else:
+            if i not in parent:
+                return 10, i
+            up = parent[i]
+            if depth != nodes[up][1] + 1:
+                return 10, i
+            if nodes[up][0] == MAP:
+                key = text[start:start + size]
+                if not is_part(text, start, size) or key in keys[up]:
+                    return 10, i
+                keys[up].add(key)
+            elif start or size:
+                return 10, i
+        if kind in (LIST, MAP):
+            keys[i] = set()
+            for child in range(begin, begin + high):
+                parent[child] = i
+            begin += high
+    return None
+
+
+def parents(table):
+    """The parents of the nodes of an accepted table."""
+    out, begin = {}, 1
+    for i in range(len(table) // 24):
+        kind, high = table[24 * i], struct.unpack_from("<I", table, 24 * i + 20)[0]
+        if kind in (LIST, MAP):
+            for child in range(begin, begin + high):
+                out[child] = i
+            begin += high
+    return out
+
+
+def named(table, text, node, key):
+    """(0, part) or (refusal, empty)."""
+    wrong = check(table, text)
+    if wrong is not None:
+        return (wrong if wrong == 9 else 10), b""
+    if node >= len(table) // 24:
+        return 15, b""
+    if key:
+        up = parents(table).get(node)
+        if up is None or table[24 * up] != MAP:
+            return 15, b""
+        start, size = struct.unpack_from("<II", table, 24 * node + 4)
+    else:
+        if table[24 * node] != STRING:
+            return 15, b""
+        start, size = struct.unpack_from("<II", table, 24 * node + 16)
+    return 0, text[start:start + size]
+
+
+# ---- tables made from values
+
+def build(value):
+    """The table and the text of a Python value. Dicts are maps; texts and keys are bytes, or strings that are encoded in UTF-8."""
+    records, text, queue, begin = [], b"", [(value, 0, 0, 0)], 1
+    while queue:
+        v, depth, start, size = queue.pop(0)
+        v = v.encode() if isinstance(v, str) else v
+        low = high = 0
+        if v is None or v is False or v is True:
+            kind = {None: NULL, False: FALSE, True: TRUE}[v]
+        elif isinstance(v, int):
+            kind = INTEGER
+            low, high = struct.unpack("<II", struct.pack("<q", v))
+        elif isinstance(v, float):
+            kind = FLOAT
+            low, high = struct.unpack("<II", struct.pack("<d", v))
+        elif isinstance(v, bytes):
+            kind, low, high = STRING, len(text), len(v)
+            text += v
+        else:
+            kind = MAP if isinstance(v, dict) else LIST
+            high = len(v)
+            low = begin if high else 0
+            begin += high
+            for item in v.items() if kind == MAP else ((b"", x) for x in v):
+                key = item[0].encode() if isinstance(item[0], str) else item[0]
+                at = len(text) if kind == MAP else 0
+                text += key
+                queue.append((item[1], depth + 1, at, len(key)))
+        records.append(struct.pack("<BBHIIIII", kind, depth, 0, start, size, 0, low, high))
+    return b"".join(records), text
