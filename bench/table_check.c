@@ -1,13 +1,11 @@
 // Nanoseconds per node of the table check, beside a bare pass that adds up the same bytes, in one run.
 // The bare pass is made twice and timed the second time, so that each is timed with the table in the caches.
 // Tables: many small maps; 63 maps of 1,024 members, with any keys and with keys of one bucket; one list of numbers.
-#include <stdint.h>
+#include "../include/stewpebble.h"
 #include <stdio.h>
 #include <stdlib.h>
 #include <string.h>
 #include <time.h>
-
-extern uint32_t stewpebble_check_table(const uint8_t *table, size_t table_length, const uint8_t *text, size_t text_length, uint64_t *node);
 
 enum { RECORD = 24, MOST = 65535, TEXT_ROOM = 1 << 20 };
 

@@ -1,8 +1,17 @@
 // The operations as functions that a C or Rust engine links: plain numbers and slices, each thin over a proved operation, with its contract carried over.
+// include/stewpebble.h declares them for C.
 ghost use mathlib.Core.Path.{_≡_};
-ghost use Rattle.definition.specs.TableOutcomes.{tableOutcome};
-ghost use Rattle.exports.specs.Outcomes.{told};
+ghost use Prim.Native.Nat.{ℕ};
+ghost use Rattle.definition.specs.TableOutcomes.{tableOutcome, textOutcome, keyOutcome};
+ghost use Rattle.definition.specs.Outcomes.{CompileOutcome, Compiles, RunOutcome, Runs, Selects, ChecksPlan};
+ghost use Rattle.table.specs.Outcomes.{answered};
+ghost use Rattle.definition.specs.Bytes.{part};
+ghost use Rattle.definition.specs.Tables.{lowWord, highWord, keyStart, keyLength};
+ghost use Rattle.exports.specs.Outcomes.{told, Placed, compiled, ranTo, Tells};
+use run::Ran;
+use select::Selection;
 use table::TableChecked;
+use table::records;
 
 // Table check: the refusal, 0 for none; the node of refusal 10 is set, and 0 otherwise.
 #[no_mangle]
@@ -22,5 +31,148 @@ pub extern "C" fn stewpebble_check_table(table: &[u8], text: &[u8], node: &mut u
             *node = i as u64;
             10
         }
+    }
+}
+
+// Text of a node: the refusal, 0 for none; where the part of the lent text that holds it starts and its length are set, and 0 and 0 with every refusal.
+#[no_mangle]
+pub extern "C" fn stewpebble_text_of_node(
+    table: &[u8],
+    text: &[u8],
+    node: usize,
+    start: &mut u64,
+    length: &mut u64,
+) -> u32
+    ensures answers { λ r. ⌜ answered (part (now (text .entry)) (now (start .exit)) (now (length .exit))) r ≡ textOutcome (now (table .entry)) (now (text .entry)) node ⌝ }
+    ensures place { λ r. ⌜ Placed r (lowWord (now (table .entry)) node) (highWord (now (table .entry)) node) (now (start .exit)) (now (length .exit)) ⌝ }
+{
+    let mut number = 0u8;
+    table::text_of_node(table, text, node, &mut number);
+    if number != 0 {
+        *start = 0;
+        *length = 0;
+        return number as u32;
+    }
+    *start = records::low_word(table, node) as u64;
+    *length = records::high_word(table, node) as u64;
+    0
+}
+
+// Key of a node, handed out as the text is.
+#[no_mangle]
+pub extern "C" fn stewpebble_key_of_node(
+    table: &[u8],
+    text: &[u8],
+    node: usize,
+    start: &mut u64,
+    length: &mut u64,
+) -> u32
+    ensures answers { λ r. ⌜ answered (part (now (text .entry)) (now (start .exit)) (now (length .exit))) r ≡ keyOutcome (now (table .entry)) (now (text .entry)) node ⌝ }
+    ensures place { λ r. ⌜ Placed r (keyStart (now (table .entry)) node) (keyLength (now (table .entry)) node) (now (start .exit)) (now (length .exit)) ⌝ }
+{
+    let mut number = 0u8;
+    table::key_of_node(table, text, node, &mut number);
+    if number != 0 {
+        *start = 0;
+        *length = 0;
+        return number as u32;
+    }
+    *start = records::key_start(table, node) as u64;
+    *length = records::key_length(table, node) as u64;
+    0
+}
+
+// Compile: the refusal, 0 for none; the lengths of plan and pool are set, also where refusal 12 names them, and 0 otherwise.
+#[no_mangle]
+pub extern "C" fn stewpebble_compile(
+    query: &[u8],
+    plan: &mut [u8],
+    pool: &mut [u8],
+    planned: &mut u64,
+    pooled: &mut u64,
+) -> u32
+    ensures answers { λ r. ⌜ Compiles (now (query .entry)) (now (plan .entry)) (now (pool .entry)) (compiled r (now (planned .exit)) (now (pooled .exit)) (now (plan .exit)) (now (pool .exit))) ⌝ }
+    ensures only { λ r. ⌜ ((o : CompileOutcome) → Compiles (now (query .entry)) (now (plan .entry)) (now (pool .entry)) o → o ≡ compiled r (now (planned .exit)) (now (pooled .exit)) (now (plan .exit)) (now (pool .exit))) ⌝ }
+{
+    let c = compile::compile(query, plan, pool);
+    *planned = c.plan as u64;
+    *pooled = c.pool as u64;
+    c.refusal as u32
+}
+
+// Plan check: 11, or 0 where the plan and the pool are the translation of a query form.
+#[no_mangle]
+pub extern "C" fn stewpebble_check_plan(plan: &[u8], pool: &[u8]) -> u32
+    ensures answers { λ r. ⌜ ChecksPlan (now (plan .entry)) (now (pool .entry)) r ⌝ }
+    ensures only { λ r. ⌜ ((n : ℕ) → ChecksPlan (now (plan .entry)) (now (pool .entry)) n → n ≡ r) ⌝ }
+{
+    if plan::check_plan(plan, pool) {
+        return 0;
+    }
+    11
+}
+
+// The numbers of a run's answer: the refusal, 0 for none; the number of nodes selected, and 0 with every refusal; the node of refusal 10, and 0 otherwise.
+fn tell(ran: Ran, count: &mut u64, node: &mut u64) -> u32
+    ensures { λ r. ⌜ Tells ran r (now (count .exit)) (now (node .exit)) ⌝ }
+{
+    *count = 0;
+    *node = 0;
+    match ran {
+        Ran::Selected(n) => {
+            *count = n as u64;
+            0
+        }
+        Ran::WrongPlan => 11,
+        Ran::WrongSize => 9,
+        Ran::WrongNode(i) => {
+            *node = i as u64;
+            10
+        }
+        Ran::WrongStart => 14,
+        Ran::NoRoom => 13,
+    }
+}
+
+// Run: the refusal, 0 for none; the number of nodes selected is set, and 0 with every refusal; the node of refusal 10 is set, and 0 otherwise.
+#[no_mangle]
+pub extern "C" fn stewpebble_run(
+    plan: &[u8],
+    pool: &[u8],
+    table: &[u8],
+    text: &[u8],
+    list: &mut [u32],
+    start: usize,
+    count: &mut u64,
+    node: &mut u64,
+) -> u32
+    ensures answers { λ r. ⌜ Runs (now (plan .entry)) (now (pool .entry)) (now (table .entry)) (now (text .entry)) (now (list .entry)) start (ranTo r (now (count .exit)) (now (node .exit)) (now (list .exit))) ⌝ }
+    ensures only { λ r. ⌜ ((o : RunOutcome) → Runs (now (plan .entry)) (now (pool .entry)) (now (table .entry)) (now (text .entry)) (now (list .entry)) start o → o ≡ ranTo r (now (count .exit)) (now (node .exit)) (now (list .exit))) ⌝ }
+{
+    let ran = run::run(plan, pool, table, text, list, start);
+    tell(ran, count, node)
+}
+
+// Select: the refusal, 0 for none, with the same numbers as those of run.
+#[no_mangle]
+pub extern "C" fn stewpebble_select(
+    query: &[u8],
+    table: &[u8],
+    text: &[u8],
+    list: &mut [u32],
+    start: usize,
+    count: &mut u64,
+    node: &mut u64,
+) -> u32
+    ensures answers { λ r. ⌜ Selects (now (query .entry)) (now (table .entry)) (now (text .entry)) (now (list .entry)) start (ranTo r (now (count .exit)) (now (node .exit)) (now (list .exit))) ⌝ }
+    ensures only { λ r. ⌜ ((o : RunOutcome) → Selects (now (query .entry)) (now (table .entry)) (now (text .entry)) (now (list .entry)) start o → o ≡ ranTo r (now (count .exit)) (now (node .exit)) (now (list .exit))) ⌝ }
+{
+    match select::select(query, table, text, list, start) {
+        Selection::Refused(refusal) => {
+            *count = 0;
+            *node = 0;
+            refusal as u32
+        }
+        Selection::Ran(ran) => tell(ran, count, node),
     }
 }

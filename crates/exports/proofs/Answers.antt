@@ -1,0 +1,83 @@
+-- What an operation answered, as the exported function hands it out. Assumes nothing.
+use Prim.Native.Nat.{ℕ}
+use native.Mathlib.Omega.{arith}
+use mathlib.Core.Path.{_≡_, refl, sym, ap, ap₂, _∙_, subst}
+use mathlib.Core.List.{List, []}
+use mathlib.Core.Bool.{Bool, true, false, cond}
+use lib.Dec.{eqb}
+use borrow.Author.Tests.{ne-eqb}
+use Rattle.definition.specs.Bytes.{part}
+use Rattle.definition.specs.Tables.{Checked}
+use Rattle.definition.specs.Tables.Checked.{accepted, sized, wrongAt}
+use Rattle.definition.specs.TableOutcomes.{PartOutcome, partBy, foundPart, refusedPart}
+use Rattle.definition.specs.Outcomes.{RunOutcome, Runs, Selects, ChecksPlan}
+use Rattle.plan.specs.Checks.{refusal}
+use Rattle.run.specs.declared.Ran.{Ran}
+use Rattle.run.specs.Outcomes.{ran}
+use Rattle.select.specs.declared.Selection.{Selection}
+use Rattle.select.specs.Selections.{selected}
+use Rattle.spelled.specs.One.{checks-one, runs-one}
+use Rattle.table.specs.Outcomes.{answered}
+use Rattle.exports.specs.Outcomes.{Placed}
+
+-- ---- parts of the text
+
+-- the number that comes with a part
+number-of : {s : List ℕ} {k : ℕ} {o : PartOutcome} → answered s k ≡ o → k ≡ o .number
+number-of e = ap (λ (o : PartOutcome). o .number) e
+
+module _ (t s : List ℕ) (k : ℕ) where
+  -- with 0 there is such a text, and it is the part
+  found-part : (c : Checked) (b : Bool) → answered s k ≡ partBy c b t → k ≡ 0 → (b ≡ true) × (answered t 0 ≡ partBy c b t)
+  unfolding partBy foundPart refusedPart
+  found-part accepted true e h = (refl, refl)
+  found-part accepted false e h = let m = number-of e in absurd (omega (arith, m, h))
+  found-part sized b e h = let m = number-of e in absurd (omega (arith, m, h))
+  found-part (wrongAt i) b e h = let m = number-of e in absurd (omega (arith, m, h))
+
+  pub has-part : (c : Checked) (b : Bool) → answered s k ≡ partBy c b t → k ≡ 0 → b ≡ true
+  has-part c b e h = found-part c b e h .0
+
+  -- with any other number the part is empty
+  refused-part : (c : Checked) (b : Bool) → answered s k ≡ partBy c b t → (k ≡ 0 → ⊥) → answered [] k ≡ partBy c b t
+  unfolding partBy foundPart refusedPart
+  refused-part accepted true e h = absurd (h (number-of e))
+  refused-part accepted false e h = ap (answered []) (number-of e)
+  refused-part sized b e h = ap (answered []) (number-of e)
+  refused-part (wrongAt i) b e h = ap (answered []) (number-of e)
+
+module _ (c : Checked) (b : Bool) (X s : List ℕ) (at n k : ℕ) (e : answered s k ≡ partBy c b (part X at n)) where
+  -- the start and the length that the record names are handed out
+  pub hands-part : {x y : ℕ} → k ≡ 0 → x ≡ at → y ≡ n → (answered (part X x y) 0 ≡ partBy c b (part X at n)) × Placed 0 at n x y
+  hands-part h f g = (ap₂ (λ (i j : ℕ). answered (part X i j) 0) f g ∙ found-part (part X at n) s k c b e h .1, record { starts = f; long = g })
+
+  -- a refusal hands out 0 and 0
+  pub hands-none : (k ≡ 0 → ⊥) → (answered [] k ≡ partBy c b (part X at n)) × Placed k at n 0 0
+  hands-none h =
+      let f = ne-eqb k 0 h in
+      (refused-part (part X at n) s k c b e h, record { starts = sym (ap (λ (x : Bool). cond x at 0) f); long = sym (ap (λ (x : Bool). cond x n 0) f) })
+
+-- ---- plan check
+
+pub checks-as : {plan pool : List ℕ} {b b' : Bool} → ChecksPlan plan pool (refusal b) → b ≡ b' → ChecksPlan plan pool (refusal b') × ((n : ℕ) → ChecksPlan plan pool n → n ≡ refusal b')
+checks-as {plan} {pool} {b' = b'} a e =
+    let k : ChecksPlan plan pool (refusal b') = subst (λ (x : Bool). ChecksPlan plan pool (refusal x)) e a in
+    (k, λ n m. checks-one m k)
+
+-- ---- run and select
+
+-- an answer's numbers, from the case that it is
+pub tells : {r r' : Ran} → r ≡ r' → (L : List ℕ) → ran r' L ≡ ran r L
+tells e L = ap (λ (x : Ran). ran x L) (sym e)
+
+module _ {plan pool T X L : List ℕ} {at : ℕ} {o o' : RunOutcome} where
+  pub runs-as : Runs plan pool T X L at o → o' ≡ o → Runs plan pool T X L at o' × ((x : RunOutcome) → Runs plan pool T X L at x → x ≡ o')
+  runs-as a e = (subst (Runs plan pool T X L at) (sym e) a, λ x b. runs-one b a ∙ sym e)
+
+module _ {s T X L : List ℕ} {at : ℕ} {o o' : RunOutcome} where
+  pub selects-as : Selects s T X L at o → ((x : RunOutcome) → Selects s T X L at x → x ≡ o) → o' ≡ o → Selects s T X L at o' × ((x : RunOutcome) → Selects s T X L at x → x ≡ o')
+  selects-as a only e = (subst (Selects s T X L at) (sym e) a, λ x b. only x b ∙ sym e)
+
+-- what a selection comes to, from the case that it is
+pub selects-told : {r r' : Selection} → r ≡ r' → (L : List ℕ) → selected r' L ≡ selected r L
+selects-told e L = ap (λ (x : Selection). selected x L) (sym e)

@@ -1,0 +1,65 @@
+-- The numbers are those that document 01 names for each answer of a run. Assumes nothing.
+use borrow.Author.Needs.{needs}
+use Rattle.run.specs.Outcomes.{ran}
+use Rattle.exports.proofs.Answers.{tells}
+use Rattle.exports.proofs.tell.Statement.{statement}
+use Rattle.exports.proofs.tell.Tie as tie
+
+enum-known-ran : tie.Need-enum-known-ran
+enum-known-ran c = search needs
+
+enum-told : tie.Need-enum-told
+enum-told c = search needs
+
+enum-told-2 : tie.Need-enum-told-2
+enum-told-2 c = search needs
+
+enum-known-ran-2 : tie.Need-enum-known-ran-2
+enum-known-ran-2 c = search needs
+
+enum-told-3 : tie.Need-enum-told-3
+enum-told-3 c = search needs
+
+enum-told-4 : tie.Need-enum-told-4
+enum-told-4 c = search needs
+
+returns : tie.Need-returns
+unfolding ran
+returns c = tells (c .before .ran .given .1)
+
+returns-2 : tie.Need-returns-2
+unfolding ran
+returns-2 c = tells (c .enum-told .given .1)
+
+returns-3 : tie.Need-returns-3
+unfolding ran
+returns-3 c = tells (c .enum-told2 .given .1)
+
+returns-4 : tie.Need-returns-4
+unfolding ran
+returns-4 c = tells (c .before .ran2 .given .1)
+
+returns-5 : tie.Need-returns-5
+unfolding ran
+returns-5 c = tells (c .enum-told3 .given .1)
+
+returns-6 : tie.Need-returns-6
+unfolding ran
+returns-6 c = tells (c .enum-told4 .given .1)
+
+pub tell-spec : {M : Type 1} → statement M
+tell-spec =
+    tie.close
+    (tie.spec
+    enum-known-ran
+    enum-told
+    enum-told-2
+    enum-known-ran-2
+    enum-told-3
+    enum-told-4
+    returns
+    returns-2
+    returns-3
+    returns-4
+    returns-5
+    returns-6)

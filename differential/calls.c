@@ -1,0 +1,87 @@
+// Calls every function of include/stewpebble.h on document 01's sample table, {"a":[10,20.0,30],"b":"é"}, and compares the answers with that document.
+#include "../include/stewpebble.h"
+#include <stdio.h>
+#include <string.h>
+
+static uint8_t table[6 * 24];
+static const uint8_t text[] = "ab\xc3\xa9";
+enum { TEXT = 4 };
+
+static void record(int i, int kind, int depth, uint32_t key, uint32_t key_length, uint32_t low, uint32_t high) {
+    uint32_t words[6] = {kind + 256 * depth, key, key_length, 0, low, high};
+    memcpy(table + 24 * i, words, 24);
+}
+
+static int calls, wrong;
+
+static void expect(const char *what, uint64_t got, uint64_t want) {
+    calls++;
+    if (got != want) {
+        wrong++;
+        printf("%s: %llu and not %llu\n", what, (unsigned long long)got, (unsigned long long)want);
+    }
+}
+
+#define BYTES(s) (const uint8_t *)(s), sizeof(s) - 1
+
+int main(void) {
+    record(0, 7, 0, 0, 0, 1, 2);
+    record(1, 6, 1, 0, 1, 3, 3);
+    record(2, 5, 1, 1, 1, 2, 2);
+    record(3, 3, 2, 0, 0, 10, 0);
+    record(4, 4, 2, 0, 0, 0, 0x40340000);
+    record(5, 3, 2, 0, 0, 30, 0);
+    uint8_t plan[256], pool[64];
+    uint32_t list[4] = {99, 99, 99, 99};
+    uint64_t a = 7, b = 7;
+
+    expect("table check", stewpebble_check_table(table, sizeof table, text, TEXT, &a), 0);
+    expect("its node", a, 0);
+    table[24] = 9;
+    expect("table check of a wrong kind", stewpebble_check_table(table, sizeof table, text, TEXT, &a), 10);
+    expect("its node", a, 1);
+    table[24] = 6;
+
+    static const uint8_t sample[] = {1, 3, 1, 0, 5, 0, 0, 1, 0, 3, 1, 0, 6, 1, 0, 0, 0, 0, 0, 0, 0, 10};
+    expect("compile", stewpebble_compile(BYTES("$.a[1]"), plan, sizeof plan, pool, sizeof pool, &a, &b), 0);
+    expect("its plan's length", a, sizeof sample);
+    expect("its pool's length", b, 1);
+    expect("its plan", memcmp(plan, sample, sizeof sample), 0);
+    expect("its pool", pool[0], 'a');
+    expect("plan check", stewpebble_check_plan(plan, a, pool, b), 0);
+    expect("plan check of a part", stewpebble_check_plan(plan, a - 1, pool, b), 11);
+    expect("run", stewpebble_run(plan, sizeof sample, pool, 1, table, sizeof table, text, TEXT, list, 4, 2, &a, &b), 0);
+    expect("its count", a, 1);
+    expect("its node", b, 0);
+    expect("its list", list[2], 4);
+    expect("the places around", list[0] + list[1] + list[3], 297);
+    expect("run of no plan", stewpebble_run(plan, 0, pool, 1, table, sizeof table, text, TEXT, list, 4, 0, &a, &b), 11);
+    expect("compile in small rooms", stewpebble_compile(BYTES("$.a[1]"), plan, 21, pool, sizeof pool, &a, &b), 12);
+    expect("its plan's length", a, sizeof sample);
+    expect("its pool's length", b, 1);
+    expect("compile of no query", stewpebble_compile(BYTES("$.a["), plan, sizeof plan, pool, sizeof pool, &a, &b), 4);
+    expect("its plan's length", a, 0);
+
+    expect("select", stewpebble_select(BYTES("$.a[::-1]"), table, sizeof table, text, TEXT, list, 4, 0, &a, &b), 0);
+    expect("its count", a, 3);
+    expect("its list", list[0] * 100 + list[1] * 10 + list[2], 543);
+    expect("select with too few places", stewpebble_select(BYTES("$..*"), table, sizeof table, text, TEXT, list, 4, 1, &a, &b), 13);
+    expect("its count", a, 0);
+    expect("its list", list[1] * 100 + list[2] * 10 + list[3], 123);
+    expect("select from beyond the list", stewpebble_select(BYTES("$"), table, sizeof table, text, TEXT, list, 4, 5, &a, &b), 14);
+    expect("select by an unknown function", stewpebble_select(BYTES("$[?foo()]"), table, sizeof table, text, TEXT, list, 4, 0, &a, &b), 6);
+
+    expect("text of a node", stewpebble_text_of_node(table, sizeof table, text, TEXT, 2, &a, &b), 0);
+    expect("its start", a, 2);
+    expect("its length", b, 2);
+    expect("text of a list", stewpebble_text_of_node(table, sizeof table, text, TEXT, 1, &a, &b), 15);
+    expect("its start", a, 0);
+    expect("its length", b, 0);
+    expect("key of a node", stewpebble_key_of_node(table, sizeof table, text, TEXT, 2, &a, &b), 0);
+    expect("its start", a, 1);
+    expect("its length", b, 1);
+    expect("key of the root", stewpebble_key_of_node(table, sizeof table, text, TEXT, 0, &a, &b), 15);
+    expect("its length", b, 0);
+    printf("%d answers of the C boundary, %d wrong\n", calls, wrong);
+    return wrong != 0;
+}

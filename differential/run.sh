@@ -1,0 +1,31 @@
+#!/usr/bin/env bash
+# Calls every function of the C boundary, and compares compile with the given Rust text on random and damaged queries.
+#
+#   ORACLE=DIR differential/run.sh [COUNT [SEED]]             the comparison; COUNT is 1000000 and SEED is 1 where they are not given
+#   ORACLE=DIR differential/run.sh vectors                    some of the queries with their refusals, as crates/compile_vectors reads them
+#
+# ORACLE names the folder in which cargo built the given Rust text as the library `rustoracle` (docs/DIFFERENCES.md, "How the Rust column was obtained").
+# NATIVE_ARCHIVE names a tool that compiles a proved library for this machine, as for bench/run.sh; on x86-64 it need not be set.
+set -euo pipefail
+cd "$(dirname "$0")/.."
+: "${ORACLE:?names the folder of the built Rust text}"
+mkdir -p target/differential
+archive=target/differential/libexports.a
+if [ -n "${NATIVE_ARCHIVE:-}" ]; then
+    "$NATIVE_ARCHIVE" exports "$archive" >&2
+else
+    rt staticlib exports >&2
+    cp target/staticlib/libexports.a "$archive"
+fi
+cc -O2 -Wall -o target/differential/calls differential/calls.c "$archive"
+target/differential/calls >&2
+built=$ORACLE/target/release
+rustc -O --edition 2021 -o target/differential/compile differential/compile.rs \
+    --extern rustoracle="$built/librustoracle.rlib" -L dependency="$built/deps" -C link-arg="$archive"
+if [ "${1:-}" = vectors ]; then
+    cd crates/compile_vectors
+    ../../target/differential/compile 300000 1 sample 660 >stdin
+    awk '{ print $2 == 0 ? "ok" : "refused " $2 } END { print NR " queries, 0 answers differ" }' stdin >stdout
+else
+    target/differential/compile "${1:-1000000}" "${2:-1}"
+fi
