@@ -1,7 +1,9 @@
 // Measures the stack that the deepest runs take: the least stack, to 16 KiB, on which each of them ends.
 //   plan    128 nested filters, each a query from `$` of 62 wildcards and the next filter, on a table of depth 63: the deepest plan that plan check takes
-//   query   the same with 32 brackets, in the 4,096 bytes that a query may have: the deepest query that compiles; compiled, then run
+//   query   32 queries from `$` inside each other, with descendants and a comparison in front of each: compiled, then run
+//   select  the same by select
 // Each try runs in a process of its own, on a thread with a stack of the given size.
+#define _GNU_SOURCE
 #include <pthread.h>
 #include <stdint.h>
 #include <stdio.h>
@@ -18,13 +20,14 @@ static uint8_t table[(DEPTH + 1) * 24], text[1], plan[65535], pool[65535], query
 static size_t plan_length, pool_length, query_length;
 static uint32_t list[16];
 
-// A list in a list, 63 times, and a number inside.
+// A list in a list, 63 times, and the number 1 inside.
 static void make_table(void) {
     for (uint32_t i = 0; i <= DEPTH; i++) {
         uint8_t *r = table + i * 24;
         r[0] = i < DEPTH ? 6 : 3;
         r[1] = (uint8_t)i;
         uint32_t first = i < DEPTH ? i + 1 : 0, count = i < DEPTH ? 1 : 0;
+        if (i == DEPTH) first = 1;
         memcpy(r + 16, &first, 4);
         memcpy(r + 20, &count, 4);
     }
@@ -49,23 +52,25 @@ static uint8_t *code(uint8_t *p, int n) {
 
 static void make_plan(int n) { plan_length = (size_t)(code(plan, n) - plan); pool_length = 0; }
 
-// The same as a query's text, with n brackets.
-static void make_query(int n) {
+// `$`, 31 times `..[?@==1&&$`, then `..[?@==1&&$==$]` and the brackets that are open.
+static void make_query(void) {
     char *p = (char *)query;
-    for (int i = 0; i < n; i++) {
-        *p++ = '$';
-        for (int k = 0; k < WILD; k++) { *p++ = '.'; *p++ = '*'; }
-        if (i + 1 < n) { *p++ = '['; *p++ = '?'; }
-    }
-    for (int i = 0; i + 1 < n; i++) *p++ = ']';
+    *p++ = '$';
+    for (int i = 0; i < 31; i++) p = stpcpy(p, "..[?@==1&&$");
+    p = stpcpy(p, "..[?@==1&&$==$]");
+    for (int i = 0; i < 31; i++) *p++ = ']';
     query_length = (size_t)(p - (char *)query);
 }
 
 static uint32_t answer;
-static int compiling;
+static int compiling, selecting;
 static void *work(void *unused) {
     (void)unused;
     uint64_t a = 0, b = 0;
+    if (selecting) {
+        answer = stewpebble_select(query, query_length, table, sizeof table, text, 0, list, 16, 0, &a, &b);
+        return 0;
+    }
     if (compiling) {
         answer = stewpebble_compile(query, query_length, plan, sizeof plan, pool, sizeof pool, &a, &b);
         if (answer) return 0;
@@ -84,7 +89,7 @@ static int ends_on(size_t size) {
         pthread_attr_setstacksize(&attr, size);
         if (pthread_create(&thread, &attr, work, 0)) _exit(2);
         pthread_join(thread, 0);
-        _exit(answer == 0 ? 0 : 3);
+        _exit(answer == 0 || answer == 13 ? 0 : 3);
     }
     int status;
     waitpid(child, &status, 0);
@@ -104,12 +109,14 @@ static void measure(const char *name) {
 
 int main(void) {
     make_table();
-    make_plan(127);
+    make_plan(128);
     printf("plan of %zu bytes\n", plan_length);
     measure("plan");
-    make_query(32);
+    make_query();
     printf("query of %zu bytes\n", query_length);
     compiling = 1;
     measure("query");
+    selecting = 1;
+    measure("select");
     return 0;
 }
