@@ -41,13 +41,13 @@ const ALIKE: &str = "as the Rust text";
 const GRAMMAR: &str = "as the Rust text, by grammar";
 const RANGE: &str = "as the Rust text, by range";
 
-enum Rust {
+pub enum Rust {
     Ok(Query),
     Kind(u32, &'static str),
     Panic,
 }
 
-fn rust(parser: &JSONPathParser, query: &str) -> Rust {
+pub fn rust(parser: &JSONPathParser, query: &str) -> Rust {
     match catch_unwind(AssertUnwindSafe(|| parser.parse(query))) {
         Err(_) => Rust::Panic,
         Ok(Ok(q)) => Rust::Ok(q),
@@ -63,7 +63,7 @@ fn rust(parser: &JSONPathParser, query: &str) -> Rust {
 // ---- document 01, from the query's text and the Rust text's tree
 
 // Bracket count: outside quoted text `[` and `(` add one, `]` and `)` take one, never below 0.
-fn too_deep(query: &[u8]) -> bool {
+pub fn too_deep(query: &[u8]) -> bool {
     let (mut depth, mut i) = (0, 0);
     while i < query.len() {
         match query[i] {
@@ -86,7 +86,7 @@ fn too_deep(query: &[u8]) -> bool {
 }
 
 // Whether a float literal of an accepted query is beyond the exact range. Numbers, names and quoted texts are told apart by their first bytes.
-fn beyond(query: &[u8]) -> bool {
+pub fn beyond(query: &[u8]) -> bool {
     let digits = |mut i: usize| {
         while i < query.len() && query[i].is_ascii_digit() {
             i += 1;
@@ -139,7 +139,7 @@ fn beyond(query: &[u8]) -> bool {
     false
 }
 
-fn calls_in_segment(s: &Segment) -> bool {
+pub fn calls_in_segment(s: &Segment) -> bool {
     match s {
         Segment::Root {} => false,
         Segment::Child { left, selectors } | Segment::Recursive { left, selectors } => {
@@ -188,7 +188,7 @@ fn without_escapes(query: &str) -> String {
 }
 
 // Two \uXXXX side by side, which the Rust text joins.
-fn neighbours(query: &str) -> bool {
+pub fn neighbours(query: &str) -> bool {
     query.as_bytes().windows(8).any(|w| &w[..2] == b"\\u" && &w[6..] == b"\\u")
 }
 
@@ -236,8 +236,8 @@ fn expected(parser: &JSONPathParser, query: &[u8]) -> Expected {
 
 // ---- the plan of the Rust text's tree
 
-struct Writer {
-    pool: Vec<u8>,
+pub struct Writer {
+    pub pool: Vec<u8>,
 }
 
 impl Writer {
@@ -248,7 +248,7 @@ impl Writer {
         self.pool.extend(s.as_bytes());
     }
 
-    fn query(&mut self, kind: u8, q: &Query, out: &mut Vec<u8>) {
+    pub fn query(&mut self, kind: u8, q: &Query, out: &mut Vec<u8>) {
         out.push(kind);
         self.segments(&q.segments, out);
         out.push(0x0A);
@@ -362,7 +362,7 @@ impl Writer {
 
 // ---- queries
 
-struct Random(u64);
+pub struct Random(pub u64);
 
 impl Random {
     fn next(&mut self) -> u64 {
@@ -372,15 +372,15 @@ impl Random {
         z ^ (z >> 31)
     }
 
-    fn below(&mut self, n: usize) -> usize {
+    pub fn below(&mut self, n: usize) -> usize {
         (self.next() % n as u64) as usize
     }
 
-    fn one_in(&mut self, n: usize) -> bool {
+    pub fn one_in(&mut self, n: usize) -> bool {
         self.below(n) == 0
     }
 
-    fn of<T: Copy>(&mut self, xs: &[T]) -> T {
+    pub fn of<T: Copy>(&mut self, xs: &[T]) -> T {
         xs[self.below(xs.len())]
     }
 }
@@ -406,10 +406,10 @@ const DAMAGE: &[&str] = &[
     "count(", "length(", "true", "null", "\\u0041", "\u{0}", "\u{b}",
 ];
 
-struct Maker {
-    random: Random,
+pub struct Maker {
+    pub random: Random,
     // One in so many choices goes wrong; 0 for none.
-    wrong: usize,
+    pub wrong: usize,
 }
 
 impl Maker {
@@ -751,7 +751,7 @@ impl Maker {
         }
     }
 
-    fn whole(&mut self) -> String {
+    pub fn whole(&mut self) -> String {
         let mut out = String::new();
         out.push_str(if self.slip() { self.random.of(&["", "@", " $", "$$", "\u{feff}$"]) } else { "$" });
         self.segments(&mut out, 3);
@@ -845,7 +845,7 @@ impl Maker {
 
 // ---- the comparison
 
-fn hex(bytes: &[u8]) -> String {
+pub fn hex(bytes: &[u8]) -> String {
     bytes.iter().map(|b| format!("{b:02x}")).collect()
 }
 

@@ -1,7 +1,8 @@
 #!/usr/bin/env bash
-# Calls every function of the C boundary, and compares compile with the given Rust text on random and damaged queries.
+# Calls every function of the C boundary, and compares compile, select and run with the given Rust text on random queries and documents.
 #
-#   ORACLE=DIR differential/run.sh [COUNT [SEED]]             the comparison; COUNT is 1000000 and SEED is 1 where they are not given
+#   ORACLE=DIR differential/run.sh [COUNT [SEED]]             compile, on random and damaged queries; COUNT is 1000000 and SEED is 1 where they are not given
+#   ORACLE=DIR differential/run.sh select [COUNT [SEED]]      select and run, on random documents; the same for COUNT and SEED
 #   ORACLE=DIR differential/run.sh vectors                    some of the queries with their refusals, as crates/compile_vectors reads them
 #
 # ORACLE names the folder in which cargo built the given Rust text as the library `rustoracle` (docs/DIFFERENCES.md, "How the Rust column was obtained").
@@ -20,6 +21,13 @@ fi
 cc -O2 -Wall -o target/differential/calls differential/calls.c "$archive"
 target/differential/calls >&2
 built=$ORACLE/target/release
+if [ "${1:-}" = select ]; then
+    rustc -O --edition 2021 --crate-type rlib --crate-name stewpebble --out-dir target/differential rust/src/lib.rs
+    rustc -O --edition 2021 -o target/differential/select differential/select.rs \
+        --extern rustoracle="$built/librustoracle.rlib" -L "$built/deps" -L target/differential -C link-arg="$archive"
+    target/differential/select "${2:-1000000}" "${3:-1}"
+    exit
+fi
 rustc -O --edition 2021 -o target/differential/compile differential/compile.rs \
     --extern rustoracle="$built/librustoracle.rlib" -L dependency="$built/deps" -C link-arg="$archive"
 if [ "${1:-}" = vectors ]; then
