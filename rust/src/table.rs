@@ -177,19 +177,37 @@ impl Table {
 
     /// The value of a node, with all that is below it; none if there is no such node.
     pub fn value(&self, node: u32) -> Option<Value> {
-        let at = (node as usize).checked_mul(24)?;
-        let record = self.records.get(at..at + 24)?;
-        let payload = u64::from_le_bytes(record[16..24].try_into().ok()?);
+        let (kind, payload) = self.record(node)?;
         let (first, count) = (payload as u32, (payload >> 32) as u32);
-        Some(match record[0] {
+        Some(match kind {
             0 => Value::Null,
             1 => Value::Bool(false),
             2 => Value::Bool(true),
             3 => Value::Int(payload as i64),
             4 => Value::Float(f64::from_bits(payload)),
-            5 => Value::Text(self.text(node).ok()?.to_owned()),
+            5 => Value::Text(self.slice(first, count)?),
             6 => Value::List((first..first + count).map(|i| self.value(i)).collect::<Option<_>>()?),
-            _ => Value::Map((first..first + count).map(|i| Some((self.key(i).ok()?.to_owned(), self.value(i)?))).collect::<Option<_>>()?),
+            _ => Value::Map((first..first + count).map(|i| Some((self.name(i)?, self.value(i)?))).collect::<Option<_>>()?),
         })
+    }
+
+    // The library's text and key check the whole table at each call. The table of a `Table` was right when it was made,
+    // so a value, which takes a text or a key for each of its nodes, reads them from the records.
+
+    fn record(&self, node: u32) -> Option<(u8, u64)> {
+        let at = (node as usize).checked_mul(24)?;
+        let record = self.records.get(at..at + 24)?;
+        Some((record[0], u64::from_le_bytes(record[16..24].try_into().ok()?)))
+    }
+
+    fn name(&self, node: u32) -> Option<String> {
+        let at = (node as usize).checked_mul(24)?;
+        let record = self.records.get(at..at + 24)?;
+        self.slice(u32::from_le_bytes(record[4..8].try_into().ok()?), u32::from_le_bytes(record[8..12].try_into().ok()?))
+    }
+
+    fn slice(&self, start: u32, length: u32) -> Option<String> {
+        let part = self.texts.get(start as usize..)?.get(..length as usize)?;
+        Some(std::str::from_utf8(part).ok()?.to_owned())
     }
 }

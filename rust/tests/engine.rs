@@ -99,6 +99,12 @@ fn values_there_and_back() {
 }
 
 #[test]
+fn large_values_there_and_back() {
+    let value = Value::List((0..20000).map(|i| Value::Map(vec![("k".to_owned(), Value::Text(i.to_string()))])).collect());
+    assert_eq!(Table::from_value(&value).unwrap().value(0).unwrap(), value);
+}
+
+#[test]
 fn values_without_a_table() {
     let mut deep = Value::Null;
     for _ in 0..64 {
