@@ -280,3 +280,6 @@ rooms-long {s} h p l = let n = passed-short s h in record { plan = omega arith; 
 
 pub rooms-short : {s P L : List ℕ} → early s ≡ 0 → length s ≤ 256 → length P ≡ 3840 → length L ≡ 256 → Rooms s P L
 rooms-short {s} h n p l = record { plan = omega arith; pool = omega arith; small = omega arith; smallPool = omega arith; utf8 = passed-utf8 s h }
+
+pub rooms-brief : {s P L : List ℕ} → early s ≡ 0 → length s ≤ 64 → length P ≡ 960 → length L ≡ 64 → Rooms s P L
+rooms-brief {s} h n p l = record { plan = omega arith; pool = omega arith; small = omega arith; smallPool = omega arith; utf8 = passed-utf8 s h }

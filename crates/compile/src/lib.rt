@@ -5,6 +5,10 @@ pub mod rooms;
 ghost use mathlib.Core.Path.{_≡_};
 ghost use Rattle.definition.specs.Outcomes.{CompileOutcome, Compiles};
 ghost use Rattle.compile.specs.Steps.{outcome};
+use rooms::BRIEF;
+use rooms::NO_BYTE;
+use rooms::SHORT;
+use rooms::compile_brief;
 use rooms::compile_long;
 use rooms::compile_short;
 use rooms::early_refusal;
@@ -15,9 +19,6 @@ pub struct Compiled {
     pub plan: usize,
     pub pool: usize,
 }
-
-// A query of at most this many bytes is read in small rooms, which take little time to clear.
-const SHORT: usize = 256;
 
 // "Compile: 1, 2, 3, 4 by grammar, then the first of 4, 5, 6 in the Rust's walk, then 7, 8, 12." There is one outcome for each input.
 pub fn compile(query: &[u8], plan: &mut [u8], pool: &mut [u8]) -> Compiled
@@ -32,8 +33,13 @@ pub fn compile(query: &[u8], plan: &mut [u8], pool: &mut [u8]) -> Compiled
             pool: 0,
         };
     }
+    if query.len() <= BRIEF {
+        return compile_brief(query, plan, pool);
+    }
     if query.len() <= SHORT {
         return compile_short(query, plan, pool);
     }
-    compile_long(query, plan, pool)
+    // 0 for every query, since it is UTF-8; but LLVM cannot tell.
+    let again = query[0] / NO_BYTE;
+    compile_long(query, plan, pool, again)
 }

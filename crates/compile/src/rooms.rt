@@ -22,13 +22,28 @@ const ROOT: u8 = b'$';
 // The item with which the plan of a query that begins at `$` starts.
 const FROM_ROOT: u8 = 1;
 
-const PLAN_ROOM: usize = 61440;
+// A byte that no UTF-8 text has.
+pub const NO_BYTE: u8 = 255;
 
-const POOL_ROOM: usize = 4096;
+// A query is read in the smallest rooms that are sure to take it, since rooms are cleared first: 15 bytes of plan and one of pool for each byte.
+// These take every query.
+pub const PLAN_ROOM: usize = 61440;
 
-const SHORT_PLAN_ROOM: usize = 3840;
+pub const POOL_ROOM: usize = 4096;
 
-const SHORT_POOL_ROOM: usize = 256;
+// These take a query of at most 256 bytes.
+pub const SHORT: usize = 256;
+
+pub const SHORT_PLAN_ROOM: usize = 3840;
+
+pub const SHORT_POOL_ROOM: usize = 256;
+
+// These take a query of at most 64 bytes.
+pub const BRIEF: usize = 64;
+
+pub const BRIEF_PLAN_ROOM: usize = 960;
+
+pub const BRIEF_POOL_ROOM: usize = 64;
 
 // The refusals before the grammar, in their order; 0 where there is none.
 pub fn early_refusal(query: &[u8]) -> u8
@@ -153,6 +168,15 @@ fn compile_in(
     }
 }
 
+pub fn compile_brief(query: &[u8], plan: &mut [u8], pool: &mut [u8]) -> Compiled
+    requires { ⌜ (length (now query) ≤ 64) × (early (now query) ≡ 0) ⌝ }
+    ensures { λ r. ⌜ CompilesOnly (now (query .entry)) (now (plan .entry)) (now (pool .entry)) (outcome r (now (plan .exit)) (now (pool .exit))) ⌝ }
+{
+    let mut room = [0u8; BRIEF_PLAN_ROOM];
+    let mut texts = [0u8; BRIEF_POOL_ROOM];
+    compile_in(query, &mut room, &mut texts, plan, pool)
+}
+
 pub fn compile_short(query: &[u8], plan: &mut [u8], pool: &mut [u8]) -> Compiled
     requires { ⌜ (length (now query) ≤ 256) × (early (now query) ≡ 0) ⌝ }
     ensures { λ r. ⌜ CompilesOnly (now (query .entry)) (now (plan .entry)) (now (pool .entry)) (outcome r (now (plan .exit)) (now (pool .exit))) ⌝ }
@@ -162,10 +186,16 @@ pub fn compile_short(query: &[u8], plan: &mut [u8], pool: &mut [u8]) -> Compiled
     compile_in(query, &mut room, &mut texts, plan, pool)
 }
 
-pub fn compile_long(query: &[u8], plan: &mut [u8], pool: &mut [u8]) -> Compiled
+// The rooms for every query fill 16 pages of the stack, and a frame that has them is touched page by page on entry. LLVM would join this function
+// into its caller, and every compile would pay for that; a function that calls itself it leaves alone. `again` says how often this one does, which
+// changes nothing of the answer.
+pub fn compile_long(query: &[u8], plan: &mut [u8], pool: &mut [u8], again: u8) -> Compiled
     requires { ⌜ early (now query) ≡ 0 ⌝ }
     ensures { λ r. ⌜ CompilesOnly (now (query .entry)) (now (plan .entry)) (now (pool .entry)) (outcome r (now (plan .exit)) (now (pool .exit))) ⌝ }
 {
+    if 0 < again {
+        return compile_long(query, plan, pool, again - 1);
+    }
     let mut room = [0u8; PLAN_ROOM];
     let mut texts = [0u8; POOL_ROOM];
     compile_in(query, &mut room, &mut texts, plan, pool)

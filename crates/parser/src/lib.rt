@@ -372,15 +372,13 @@ fn operand(s: &[u8], plan: &mut [u8], pool: &mut [u8], st: State) -> Step
     if is(s, at, 36) {
         return query(s, plan, pool, moved(st, at + 1), 1);
     }
-    match read_word(s, at) {
-        End::Nothing(_) => write_literal(s, plan, pool, st),
-        End::At(e) => {
-            if is(s, e, 40) {
-                return function(s, plan, pool, moved(st, e + 1), named_at(s, at, e));
-            }
-            write_keyword(s, plan, st, e)
-        }
+    let End::At(e) = read_word(s, at) else {
+        return write_literal(s, plan, pool, st);
+    };
+    if is(s, e, 40) {
+        return function(s, plan, pool, moved(st, e + 1), named_at(s, at, e));
     }
+    write_keyword(s, plan, st, e)
 }
 
 // segments behind "@" or "$", as a query that starts with the given item; tells the flag of an operand

@@ -7,6 +7,15 @@ ghost use Rattle.definition.specs.Outcomes.{RunOutcome, Selects, early};
 ghost use Rattle.compile.specs.Steps.{Rooms};
 ghost use Rattle.readings.specs.Readings.{SelectsOnly};
 ghost use Rattle.select.specs.Selections.{selected};
+use compile::rooms::BRIEF;
+use compile::rooms::BRIEF_PLAN_ROOM;
+use compile::rooms::BRIEF_POOL_ROOM;
+use compile::rooms::NO_BYTE;
+use compile::rooms::PLAN_ROOM;
+use compile::rooms::POOL_ROOM;
+use compile::rooms::SHORT;
+use compile::rooms::SHORT_PLAN_ROOM;
+use compile::rooms::SHORT_POOL_ROOM;
 use compile::rooms::early_refusal;
 use compile::rooms::parse;
 use compile::rooms::verdict;
@@ -21,16 +30,6 @@ pub enum Selection {
     // What running its plan comes to.
     Ran(Ran),
 }
-
-const SHORT: usize = 256;
-
-const PLAN_ROOM: usize = 61440;
-
-const POOL_ROOM: usize = 4096;
-
-const SHORT_PLAN_ROOM: usize = 3840;
-
-const SHORT_POOL_ROOM: usize = 256;
 
 // A query that no early refusal meets, read in the two rooms given.
 fn select_in(
@@ -61,6 +60,21 @@ fn select_in(
     }
 }
 
+fn select_brief(
+    query: &[u8],
+    table: &[u8],
+    text: &[u8],
+    list: &mut [u32],
+    start: usize,
+) -> Selection
+    requires { ⌜ (length (now query) ≤ 64) × (early (now query) ≡ 0) ⌝ }
+    ensures { λ r. ⌜ SelectsOnly (now (query .entry)) (now (table .entry)) (now (text .entry)) (now (list .entry)) start (selected r (now (list .exit))) ⌝ }
+{
+    let mut room = [0u8; BRIEF_PLAN_ROOM];
+    let mut texts = [0u8; BRIEF_POOL_ROOM];
+    select_in(query, &mut room, &mut texts, table, text, list, start)
+}
+
 fn select_short(
     query: &[u8],
     table: &[u8],
@@ -76,10 +90,21 @@ fn select_short(
     select_in(query, &mut room, &mut texts, table, text, list, start)
 }
 
-fn select_long(query: &[u8], table: &[u8], text: &[u8], list: &mut [u32], start: usize) -> Selection
+// As compile::rooms::compile_long, it calls itself so that LLVM does not join it into its caller.
+fn select_long(
+    query: &[u8],
+    table: &[u8],
+    text: &[u8],
+    list: &mut [u32],
+    start: usize,
+    again: u8,
+) -> Selection
     requires { ⌜ early (now query) ≡ 0 ⌝ }
     ensures { λ r. ⌜ SelectsOnly (now (query .entry)) (now (table .entry)) (now (text .entry)) (now (list .entry)) start (selected r (now (list .exit))) ⌝ }
 {
+    if 0 < again {
+        return select_long(query, table, text, list, start, again - 1);
+    }
     let mut room = [0u8; PLAN_ROOM];
     let mut texts = [0u8; POOL_ROOM];
     select_in(query, &mut room, &mut texts, table, text, list, start)
@@ -94,8 +119,13 @@ pub fn select(query: &[u8], table: &[u8], text: &[u8], list: &mut [u32], start: 
     if refusal != 0 {
         return Selection::Refused(refusal);
     }
+    if query.len() <= BRIEF {
+        return select_brief(query, table, text, list, start);
+    }
     if query.len() <= SHORT {
         return select_short(query, table, text, list, start);
     }
-    select_long(query, table, text, list, start)
+    // 0 for every query, since it is UTF-8; but LLVM cannot tell.
+    let again = query[0] / NO_BYTE;
+    select_long(query, table, text, list, start, again)
 }

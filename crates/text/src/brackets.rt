@@ -1,4 +1,4 @@
-// The bracket count of refusal 3: over the raw bytes of a query, in one pass.
+// The bracket count of refusal 3: over the raw bytes of a query, in one pass, up to where it is settled.
 ghost use mathlib.Core.Bool.{_||_};
 ghost use mathlib.Core.Path.{_≡_};
 ghost use Prim.Native.Nat.{_≤_};
@@ -78,7 +78,8 @@ pub fn too_deep(s: &[u8]) -> bool
     let mut p = Place::Outside;
     let mut n = 0;
     let mut i = 0;
-    while i < s.len() {
+    // A byte adds at most one, so the pass ends where the bytes that are left cannot bring the count above the limit.
+    while MAX_BRACKETS - n < s.len() - i {
         let b = s[i];
         n = count_after(p, n, b);
         if MAX_BRACKETS < n {

@@ -22,6 +22,12 @@ loop-holds : tie.Need-loop-holds Inv-loop μ-loop
 unfolding tooDeep
 loop-holds c = (omega arith, omega arith, refl)
 
+sub-loop : tie.Need-sub-loop Inv-loop μ-loop
+sub-loop c = search needs
+
+sub-loop-2 : tie.Need-sub-loop-2 Inv-loop μ-loop
+sub-loop-2 c = search needs
+
 shared-slice-read-b : tie.Need-shared-slice-read-b Inv-loop μ-loop
 shared-slice-read-b c = search needs
 
@@ -62,6 +68,8 @@ too-deep-spec =
     Inv-loop
     μ-loop
     loop-holds
+    sub-loop
+    sub-loop-2
     shared-slice-read-b
     count-after-requires
     returns

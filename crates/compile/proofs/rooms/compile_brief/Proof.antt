@@ -1,9 +1,9 @@
--- `compile::rooms::compile_long` meets its contract: rooms of its own are large enough for the query.
+-- `compile::rooms::compile_brief` meets its contract: rooms of its own are large enough for the query.
 use mathlib.Core.Path.{refl}
-use Rattle.compile.proofs.Answers.{rooms-long}
+use Rattle.compile.proofs.Answers.{rooms-brief}
 use borrow.Author.Needs.{needs}
-use Rattle.compile.proofs.rooms.compile_long.Statement.{statement}
-use Rattle.compile.proofs.rooms.compile_long.Tie as tie
+use Rattle.compile.proofs.rooms.compile_brief.Statement.{statement}
+use Rattle.compile.proofs.rooms.compile_brief.Tie as tie
 
 slice-aggregate-compile-in : tie.Need-slice-aggregate-compile-in
 slice-aggregate-compile-in c = search needs
@@ -12,7 +12,7 @@ slice-aggregate-compile-in-2 : tie.Need-slice-aggregate-compile-in-2
 slice-aggregate-compile-in-2 c = search needs
 
 compile-in-requires : tie.Need-compile-in-requires
-compile-in-requires c κs = (rooms-long (c .before .before .before .before .before .before .before .pre) refl refl, c .before .before .before .before .before .before .before .pre)
+compile-in-requires c κs = (rooms-brief (c .before .before .before .before .before .before .before .pre .1) (c .before .before .before .before .before .before .before .pre .0) refl refl, c .before .before .before .before .before .before .before .pre .1)
 
 same-length : tie.Need-same-length
 same-length c = search needs
@@ -23,8 +23,8 @@ same-length-2 c = search needs
 returns : tie.Need-returns
 returns c = search needs
 
-pub compile-long-spec : {M : Type 1} → statement M
-compile-long-spec =
+pub compile-brief-spec : {M : Type 1} → statement M
+compile-brief-spec =
     tie.close
     (tie.spec
     slice-aggregate-compile-in
