@@ -3,38 +3,37 @@
 use Prim.Native.Nat.{ℕ, _+_, _≤_, _<_}
 use mathlib.Core.Path.{_≡_}
 use mathlib.Core.List.{List, [], _∷_}
-use mathlib.Core.Bool.{Bool as Bits, cond, _&&_}
-use lib.Dec.{eqb, leb}
+use mathlib.Core.Bool.{Bool as Bits, true, false, _&&_}
+use lib.Dec.{leb}
 use lib.IntN.{pos}
 use lib.ListN.{length, getD}
-use Rattle.definition.specs.Limits.{maxPlan, maxNodes, maxInt}
+use Rattle.definition.specs.Limits.{maxPlan, maxInt}
 use Rattle.definition.specs.Values.{Json}
-use Rattle.definition.specs.Forms.{Segments, Selectors, Selector, Test, manySelectors}
-use Rattle.definition.specs.Plans.{codeSegments, codeSelectors, codeSelector, codeTest}
+use Rattle.definition.specs.Forms.{Segments, Test}
+use Rattle.definition.specs.Plans.{codeSegments, codeTest}
 use Rattle.definition.specs.Tables.{nodeCount, nodeAt}
 use Rattle.definition.specs.Compare.{Value, nodeValue}
-use Rattle.definition.specs.Evaluation.{lengthValue, keep, evalSegments, evalSelectors, evalSelector, evalTest}
+use Rattle.definition.specs.Evaluation.{lengthValue, evalSegments, evalTest}
 use Rattle.tables.specs.Accepted.{Accepted}
-use Rattle.slices.specs.Walks.{Inside, walked}
-use Rattle.slices.specs.declared.Walk.{Walk}
 use Rattle.walks.specs.States.{st}
-use Rattle.walks.specs.Nodes.{nodes}
 use Rattle.walks.specs.Emits.{go}
-use Rattle.walks.specs.Steps.{below}
-use Rattle.walks.specs.Ranges.{picked}
+use Rattle.walks.specs.Steps.{kept}
 use Rattle.walks.specs.Founds.{Found}
-use Rattle.walks.specs.Items.{SegmentsAt, SelectorsAt, SelectorAt, TestAt}
+use Rattle.walks.specs.Items.{SegmentsAt, TestAt}
 use Rattle.walks.specs.Todos.{QueryAt}
 use Rattle.equal.specs.Means.{meaning, Pair, Fine}
 use Rattle.equal.specs.declared.Operand.{Operand}
 use Rattle.steps.specs.Leaves.{Doing, capFor}
 use Rattle.steps.specs.declared.Regs.{Regs}
+use Rattle.visits.specs.Visits.{capLimit, Given, Query, Paused, over}
+use Rattle.visits.specs.declared.Stop.{Stop}
+use Rattle.tasks.specs.Tasks.{Work, Stands, Later}
+use Rattle.tasks.specs.Weights.{maxTasks, total}
+use Rattle.tasks.specs.Asks.{AskTurn as AskAny}
+use Rattle.tasks.specs.declared.Task.{Task}
+use Rattle.tasks.specs.declared.Pos.{Pos}
 
 -- ---- what every function of the walk asks
-
--- a cap is below 2^62, so that one more than it is a number of the machine
-abbrev pub capLimit : ℕ
-capLimit = 4611686018427387904
 
 -- the plan, the pool and the table, the two nodes, and a list of len places of which the next is to be set
 pub record Asked (P L S X : List ℕ) (root node len at cap : ℕ) : Type 0 where
@@ -47,13 +46,6 @@ pub record Asked (P L S X : List ℕ) (root node len at cap : ℕ) : Type 0 wher
   pub wide : len ≤ cap + 1
   pub small : cap < capLimit
 
--- a node's number goes into the next of len places
-pub record AskPush (len at node cap : ℕ) : Type 0 where
-  pub room : at ≤ cap + 1
-  pub wide : len ≤ cap + 1
-  pub small : cap < capLimit
-  pub number : node ≤ maxNodes
-
 -- ---- segments from one node
 
 pub record AskSegments (P L : List ℕ) (pc : ℕ) : Type 0 where
@@ -65,73 +57,10 @@ abbrev pub DoneSegments : ℕ → List ℕ → List ℕ → List ℕ → List �
 DoneSegments cap P L S X root node pc l at l′ r =
     (f : Segments) (k : ℕ) → SegmentsAt P L pc k f → st cap l′ r ≡ go f (nodeAt S X root) (nodeAt S X node ∷ []) (st cap l at)
 
--- ---- the n selectors at p on one node, and the segments at rest behind them
-
-pub record Standing (P L : List ℕ) (p n rest : ℕ) (ss : Selectors) (q : Segments) (k k′ : ℕ) : Type 0 where
-  pub selectors : SelectorsAt P L p k ss
-  pub number : manySelectors ss ≡ n
-  pub place : p + length (codeSelectors ss k) ≡ rest
-  pub after : SegmentsAt P L rest k′ q
-
-pub record AskSelectors (P L : List ℕ) (p n rest : ℕ) : Type 0 where
-  pub ss : Selectors
-  pub q : Segments
-  pub k : ℕ
-  pub k′ : ℕ
-  pub stands : Standing P L p n rest ss q k k′
-
-abbrev pub DoneSelectors : ℕ → List ℕ → List ℕ → List ℕ → List ℕ → ℕ → ℕ → ℕ → ℕ → ℕ → List ℕ → ℕ → List ℕ → ℕ → Type 0
-DoneSelectors cap P L S X root node p n rest l at l′ r =
-    (ss : Selectors) (q : Segments) (k k′ : ℕ) → Standing P L p n rest ss q k k′
-    → st cap l′ r ≡ go q (nodeAt S X root) (evalSelectors ss (nodeAt S X root) (nodeAt S X node)) (st cap l at)
-
--- what the selectors select: of a child segment from the node, else from it and all below it
-abbrev pub reached : ℕ → Selectors → Json → Json → List Json
-reached kind ss R N = cond (eqb kind 3) (evalSelectors ss R N) (below ss R N)
-
-abbrev pub DoneDescent : ℕ → List ℕ → List ℕ → List ℕ → List ℕ → ℕ → ℕ → ℕ → ℕ → ℕ → ℕ → List ℕ → ℕ → List ℕ → ℕ → Type 0
-DoneDescent cap P L S X root node kind p n rest l at l′ r =
-    (ss : Selectors) (q : Segments) (k k′ : ℕ) → Standing P L p n rest ss q k k′
-    → st cap l′ r ≡ go q (nodeAt S X root) (reached kind ss (nodeAt S X root) (nodeAt S X node)) (st cap l at)
-
--- ---- one selector
-
-pub record Alone (P L : List ℕ) (p rest : ℕ) (x : Selector) (q : Segments) (k k′ : ℕ) : Type 0 where
-  pub selector : SelectorAt P L p k x
-  pub place : p + length (codeSelector x k) ≤ rest
-  pub after : SegmentsAt P L rest k′ q
-
-pub record AskSelector (P L : List ℕ) (p rest : ℕ) : Type 0 where
-  pub x : Selector
-  pub q : Segments
-  pub k : ℕ
-  pub k′ : ℕ
-  pub stands : Alone P L p rest x q k k′
-
-abbrev pub DoneSelector : ℕ → List ℕ → List ℕ → List ℕ → List ℕ → ℕ → ℕ → ℕ → ℕ → List ℕ → ℕ → List ℕ → ℕ → Type 0
-DoneSelector cap P L S X root node p rest l at l′ r =
-    (x : Selector) (q : Segments) (k k′ : ℕ) → Alone P L p rest x q k k′
-    → st cap l′ r ≡ go q (nodeAt S X root) (evalSelector x (nodeAt S X root) (nodeAt S X node)) (st cap l at)
-
--- ---- over a range of children
-
--- count nodes from first on are nodes of the table
-abbrev pub AskRange : List ℕ → ℕ → ℕ → Type 0
-AskRange S first count = 0 < count → first + count ≤ nodeCount S
-
-abbrev pub DoneEach : ℕ → List ℕ → List ℕ → List ℕ → List ℕ → ℕ → ℕ → ℕ → ℕ → List ℕ → ℕ → List ℕ → ℕ → Type 0
-DoneEach cap P L S X root first count rest l at l′ r =
-    (f : Segments) (k : ℕ) → SegmentsAt P L rest k f → st cap l′ r ≡ go f (nodeAt S X root) (nodes S X first count) (st cap l at)
-
--- the places of a slice
-pub record AskPlaces (S : List ℕ) (first : ℕ) (w : Walk) : Type 0 where
-  pub count : ℕ
-  pub inside : Inside count w
-  pub range : AskRange S first count
-
-abbrev pub DonePlaces : ℕ → List ℕ → List ℕ → List ℕ → List ℕ → ℕ → ℕ → Walk → ℕ → List ℕ → ℕ → List ℕ → ℕ → Type 0
-DonePlaces cap P L S X root first w rest l at l′ r =
-    (f : Segments) (k c : ℕ) → SegmentsAt P L rest k f → Inside c w → st cap l′ r ≡ picked S X f (nodeAt S X root) first c (walked w) (st cap l at)
+-- the same where a segment stands there
+pub record AskWalk (P L : List ℕ) (pc : ℕ) : Type 0 where
+  pub query : Query P L pc
+  pub going : getD P pc 0 ≡ 0x0A → ⊥
 
 -- ---- a test
 
@@ -147,11 +76,40 @@ pub record AskTest (P L : List ℕ) (p e : ℕ) : Type 0 where
 abbrev pub DoneTest : List ℕ → List ℕ → List ℕ → List ℕ → ℕ → ℕ → ℕ → ℕ → Bits → Type 0
 DoneTest P L S X root node p e r = (t : Test) (k : ℕ) → Tested P L p e t k → r ≡ evalTest t (nodeAt S X root) (nodeAt S X node)
 
--- every child of a range for which a test holds
-abbrev pub DoneKept : ℕ → List ℕ → List ℕ → List ℕ → List ℕ → ℕ → ℕ → ℕ → ℕ → ℕ → ℕ → List ℕ → ℕ → List ℕ → ℕ → Type 0
-DoneKept cap P L S X root first count p e rest l at l′ r =
-    (t : Test) (k : ℕ) (f : Segments) (k′ : ℕ) → Tested P L p e t k → SegmentsAt P L rest k′ f
-    → st cap l′ r ≡ go f (nodeAt S X root) (keep (λ m. evalTest t (nodeAt S X root) m) (nodes S X first count)) (st cap l at)
+-- ---- the nodes of a range for which a test holds
+
+pub record AskKept (P L S X : List ℕ) (root i e rest len at cap : ℕ) : Type 0 where
+  pub given : Given P L S X
+  pub root-in : root < nodeCount S
+  pub range : i < e → e ≤ nodeCount S
+  pub query : Query P L rest
+  pub room : at ≤ cap + 1
+  pub wide : len ≤ cap + 1
+  pub small : cap < capLimit
+
+-- Nothing is left; or all before node r .i are done, and that one, for which the test holds, needs more.
+pub record DoneKept (P L S X : List ℕ) (root i e p z rest cap : ℕ) (l : List ℕ) (at : ℕ) (l′ : List ℕ) (r : Stop) : Type 0 where
+  pub room : r .at ≤ cap + 1
+  pub ended : r .more ≡ false → (t : Test) (k : ℕ) (f : Segments) (k′ : ℕ) → Tested P L p z t k → SegmentsAt P L rest k′ f
+      → st cap l′ (r .at) ≡ over f (nodeAt S X root) (kept t (nodeAt S X root)) S X i e (st cap l at)
+  pub low : r .more ≡ true → i ≤ r .i
+  pub high : r .more ≡ true → r .i < e
+  pub again : r .more ≡ true → (t : Test) (k : ℕ) (f : Segments) (k′ : ℕ) → Tested P L p z t k → SegmentsAt P L rest k′ f
+      → over f (nodeAt S X root) (kept t (nodeAt S X root)) S X (r .i) e (st cap l′ (r .at)) ≡ over f (nodeAt S X root) (kept t (nodeAt S X root)) S X i e (st cap l at)
+  pub holds : r .more ≡ true → (t : Test) (k : ℕ) → Tested P L p z t k → evalTest t (nodeAt S X root) (nodeAt S X (r .i)) ≡ true
+  pub paused : r .more ≡ true → Paused P L S X (r .i) rest (r .node) (r .pc)
+
+-- ---- one turn of a task with a filter
+
+pub record AskTurn (P L S X : List ℕ) (root : ℕ) (t : Task) (len : ℕ) (ts : List ℕ) (h at cap : ℕ) : Type 0 where
+  pub turn : AskAny P L S X t len ts h at cap 9 9
+  pub root-in : root < nodeCount S
+
+pub record DoneTurn (P L S X : List ℕ) (root cap : ℕ) (l l′ ts ts′ : List ℕ) (h at : ℕ) (r : Pos) : Type 0 where
+  pub room : r .at ≤ cap + 1
+  pub high : r .h ≤ maxTasks
+  pub falls : total ts′ (r .h) < total ts h
+  pub goes : (low : ℕ) (ws : List Work) → Stands P L S low ts h ws → Later P L S X low (nodeAt S X root) ts′ (r .h) (st cap l′ (r .at)) ws (st cap l at)
 
 -- ---- a query in a filter's code
 

@@ -1,48 +1,30 @@
-// The walk depth first over plan items and child ranges, with no list between segments. One walk serves every mode by its cap: it stops as soon as it has
-// passed it. A selection has as many places as its cap; a query in a filter has one place, for its first node.
+// The walk depth first over plan items and child ranges, with no list between segments. What is left to do waits in a list of tasks, so that the depth of a table
+// takes no frames on the stack; only a query in a filter's code is a call inside a call. One walk serves every mode by its cap: it stops as soon as it has passed
+// it. A selection has as many places as its cap; a query in a filter has one place, for its first node.
 use crate::answers;
 use equal::Operand;
-use equal::members::Member;
-use slices::Walk;
 use steps::Regs;
 use steps::leaves;
 use steps::plans;
-use table::records;
+use tasks::Pos;
+use tasks::Task;
+use tasks::cells;
+use tasks::segments;
+use tasks::turns;
 use text::bytes;
+use visits::Stop;
 ghost use mathlib.Core.Path.{_≡_};
-ghost use Prim.Native.Nat.{_+_, _≤_};
 ghost use lib.ListN.{length};
-ghost use Rattle.walks.specs.States.{st, push as pushed};
-ghost use Rattle.run.specs.Asks.{Asked, AskPush, AskSegments, DoneSegments, AskSelectors, DoneSelectors, DoneDescent, AskSelector, DoneSelector, AskRange, DoneEach, AskPlaces, DonePlaces, AskTest, DoneTest, DoneKept, Within, AskQuery, DoneQuery};
+ghost use Rattle.run.specs.Asks.{Asked, AskSegments, DoneSegments, AskWalk, AskKept, DoneKept, AskTurn, DoneTurn, AskTest, DoneTest, Within, AskQuery, DoneQuery};
 
 const CURRENT: u8 = 0x02;
 
-const CHILD: u8 = 0x03;
-
-const INDEX: u8 = 0x06;
-
-const SLICE: u8 = 0x07;
-
-const WILDCARD: u8 = 0x08;
-
-const END: u8 = 0x0A;
-
 const LENGTH: u8 = 0x1A;
 
-// The node's number into the next place, if there is one. Once the cap is passed nothing changes.
-fn push(list: &mut [u32], at: usize, node: usize, cap: usize) -> usize
-    requires { ⌜ AskPush (length (now list)) at node cap ⌝ }
-    ensures { λ r. ⌜ st cap (now (list .exit)) r ≡ pushed node (st cap (now (list .entry)) at) ⌝ }
-{
-    if cap < at {
-        return at;
-    }
-    if at < list.len() {
-        list[at] = node as u32;
-        return at + 1;
-    }
-    at + 1
-}
+const KEPT: usize = 9;
+
+// As many tasks as a walk can have at once, of five cells each.
+const CELLS: usize = 960;
 
 // From one node, what the segments at pc select.
 pub fn evaluate_segment(
@@ -61,292 +43,213 @@ pub fn evaluate_segment(
     requires { ⌜ AskSegments (now plan) (now pool) pc ⌝ }
     ensures { λ r. ⌜ DoneSegments cap (now (plan .entry)) (now (pool .entry)) (now (table .entry)) (now (text .entry)) root node pc (now (list .entry)) at (now (list .exit)) r ⌝ }
 {
-    let k = plan[pc];
-    if k == END {
-        return push(list, at, node, cap);
+    let v = visits::visit(plan, pool, table, text, node, pc, list, at, cap);
+    if !v.more {
+        return v.at;
     }
-    let n = bytes::word16(plan, pc + 1);
-    let rest = plans::skip_selectors(plan, pc + 3, n);
-    recursive_descent(
+    walk(plan, pool, table, text, root, v.node, v.pc, list, at, cap)
+}
+
+// The same where a segment stands at pc, with cells of its own for tasks.
+fn walk(
+    plan: &[u8],
+    pool: &[u8],
+    table: &[u8],
+    text: &[u8],
+    root: usize,
+    node: usize,
+    pc: usize,
+    list: &mut [u32],
+    at: usize,
+    cap: usize,
+) -> usize
+    requires { ⌜ Asked (now plan) (now pool) (now table) (now text) root node (length (now list)) at cap ⌝ }
+    requires { ⌜ AskWalk (now plan) (now pool) pc ⌝ }
+    ensures { λ r. ⌜ DoneSegments cap (now (plan .entry)) (now (pool .entry)) (now (table .entry)) (now (text .entry)) root node pc (now (list .entry)) at (now (list .exit)) r ⌝ }
+{
+    let mut tasks = [0u16; CELLS];
+    walk_in(
         plan,
         pool,
         table,
         text,
         root,
         node,
-        k,
-        pc + 3,
-        n,
-        rest,
+        pc,
         list,
+        &mut tasks,
         at,
         cap,
     )
 }
 
-// The n selectors at p on one node, each selected node with the segments at rest.
-fn apply_selectors(
+// The same in cells that are given.
+fn walk_in(
     plan: &[u8],
     pool: &[u8],
     table: &[u8],
     text: &[u8],
     root: usize,
     node: usize,
-    p: usize,
-    n: usize,
-    rest: usize,
+    pc: usize,
     list: &mut [u32],
+    tasks: &mut [u16],
     at: usize,
     cap: usize,
 ) -> usize
     requires { ⌜ Asked (now plan) (now pool) (now table) (now text) root node (length (now list)) at cap ⌝ }
-    requires { ⌜ AskSelectors (now plan) (now pool) p n rest ⌝ }
-    ensures { λ r. ⌜ DoneSelectors cap (now (plan .entry)) (now (pool .entry)) (now (table .entry)) (now (text .entry)) root node p n rest (now (list .entry)) at (now (list .exit)) r ⌝ }
+    requires { ⌜ AskWalk (now plan) (now pool) pc ⌝ }
+    requires { ⌜ length (now tasks) ≡ 960 ⌝ }
+    ensures { λ r. ⌜ DoneSegments cap (now (plan .entry)) (now (pool .entry)) (now (table .entry)) (now (text .entry)) root node pc (now (list .entry)) at (now (list .exit)) r ⌝ }
 {
-    let mut q = p;
-    let mut m = n;
-    let mut a = at;
-    loop {
-        a = apply_selector(plan, pool, table, text, root, node, q, rest, list, a, cap);
-        if m <= 1 {
-            return a;
+    let mut s = segments::apply_selectors(
+        plan,
+        pool,
+        table,
+        text,
+        node,
+        pc,
+        list,
+        tasks,
+        0,
+        at,
+        cap,
+    );
+    while 0 < s.h {
+        let h = s.h;
+        let place = s.at;
+        if cap < place {
+            return place;
         }
-        if cap < a {
-            return a;
+        let t = cells::get(tasks, h - 1);
+        if t.kind == KEPT {
+            s = turn_filter(plan, pool, table, text, root, t, list, tasks, h, place, cap);
+        } else {
+            s = turns::turn(plan, pool, table, text, t, list, tasks, h, place, cap);
         }
-        q = plans::next_selector(plan, q);
-        m -= 1;
     }
+    s.at
 }
 
-// The n selectors at p on a node and, in a segment of the kind descendant, on all below it: "the node, then each child's descent, in table order". The two
-// kinds share a function so that a segment has few frames on the stack.
-fn recursive_descent(
+// One turn of a task over the nodes that a filter keeps.
+fn turn_filter(
     plan: &[u8],
     pool: &[u8],
     table: &[u8],
     text: &[u8],
     root: usize,
-    node: usize,
-    kind: u8,
-    p: usize,
-    n: usize,
-    rest: usize,
+    t: Task,
     list: &mut [u32],
+    tasks: &mut [u16],
+    h: usize,
     at: usize,
     cap: usize,
-) -> usize
-    requires { ⌜ Asked (now plan) (now pool) (now table) (now text) root node (length (now list)) at cap ⌝ }
-    requires { ⌜ AskSelectors (now plan) (now pool) p n rest ⌝ }
-    ensures { λ r. ⌜ DoneDescent cap (now (plan .entry)) (now (pool .entry)) (now (table .entry)) (now (text .entry)) root node kind p n rest (now (list .entry)) at (now (list .exit)) r ⌝ }
+) -> Pos
+    requires { ⌜ AskTurn (now plan) (now pool) (now table) (now text) root t (length (now list)) (now tasks) h at cap ⌝ }
+    ensures { λ r. ⌜ DoneTurn (now (plan .entry)) (now (pool .entry)) (now (table .entry)) (now (text .entry)) root cap (now (list .entry)) (now (list .exit)) (now (tasks .entry)) (now (tasks .exit)) h at r ⌝ }
 {
-    let mut a = apply_selectors(
+    let j = h - 1;
+    let rest = t.rest;
+    let e = t.b;
+    let p = t.c;
+    let z = p + 3 + bytes::word16(plan, p + 1);
+    let s = eval_filter(
         plan,
         pool,
         table,
         text,
         root,
-        node,
-        p,
-        n,
+        t.a,
+        e,
+        p + 3,
+        z,
         rest,
         list,
         at,
         cap,
     );
-    if kind == CHILD {
-        return a;
+    if !s.more {
+        return Pos { h: j, at: s.at };
     }
-    let first = records::first_child(table, node) as usize;
-    let count = records::child_count(table, node) as usize;
-    let mut i = 0;
-    while i < count {
-        if cap < a {
-            return a;
-        }
-        a = recursive_descent(
-            plan,
-            pool,
-            table,
-            text,
-            root,
-            first + i,
-            kind,
-            p,
-            n,
-            rest,
-            list,
-            a,
-            cap,
-        );
-        i += 1;
-    }
-    a
-}
-
-// The selector at p on one node, each selected node with the segments at rest.
-fn apply_selector(
-    plan: &[u8],
-    pool: &[u8],
-    table: &[u8],
-    text: &[u8],
-    root: usize,
-    node: usize,
-    p: usize,
-    rest: usize,
-    list: &mut [u32],
-    at: usize,
-    cap: usize,
-) -> usize
-    requires { ⌜ Asked (now plan) (now pool) (now table) (now text) root node (length (now list)) at cap ⌝ }
-    requires { ⌜ AskSelector (now plan) (now pool) p rest ⌝ }
-    ensures { λ r. ⌜ DoneSelector cap (now (plan .entry)) (now (pool .entry)) (now (table .entry)) (now (text .entry)) root node p rest (now (list .entry)) at (now (list .exit)) r ⌝ }
-{
-    let k = plan[p];
-    if k <= INDEX {
-        let found = leaves::select_one(plan, pool, table, text, p, node);
-        let Member::At(m) = found else {
-            return at;
-        };
-        return evaluate_segment(plan, pool, table, text, root, m, rest, list, at, cap);
-    }
-    let from = records::first_child(table, node) as usize;
-    if k == SLICE {
-        let w = leaves::slice_at(plan, table, p, node);
-        return each_place(plan, pool, table, text, root, from, w, rest, list, at, cap);
-    }
-    let n = records::child_count(table, node) as usize;
-    if k == WILDCARD {
-        return each_child(plan, pool, table, text, root, from, n, rest, list, at, cap);
-    }
-    let e = p + 3 + bytes::word16(plan, p + 1);
-    eval_filter(
+    let left = Task {
+        kind: KEPT,
+        rest,
+        a: s.i + 1,
+        b: e,
+        c: p,
+    };
+    turns::suspend(
         plan,
         pool,
         table,
         text,
-        root,
-        from,
-        n,
-        p + 3,
-        e,
-        rest,
+        left,
+        s.node,
+        s.pc,
         list,
-        at,
+        tasks,
+        j,
+        s.at,
         cap,
     )
 }
 
-// Every child of a range, with the segments at rest.
-fn each_child(
-    plan: &[u8],
-    pool: &[u8],
-    table: &[u8],
-    text: &[u8],
-    root: usize,
-    first: usize,
-    count: usize,
-    rest: usize,
-    list: &mut [u32],
-    at: usize,
-    cap: usize,
-) -> usize
-    requires { ⌜ Asked (now plan) (now pool) (now table) (now text) root root (length (now list)) at cap ⌝ }
-    requires { ⌜ AskSegments (now plan) (now pool) rest ⌝ }
-    requires { ⌜ AskRange (now table) first count ⌝ }
-    ensures { λ r. ⌜ DoneEach cap (now (plan .entry)) (now (pool .entry)) (now (table .entry)) (now (text .entry)) root first count rest (now (list .entry)) at (now (list .exit)) r ⌝ }
-{
-    let mut a = at;
-    let mut i = 0;
-    while i < count {
-        if cap < a {
-            return a;
-        }
-        a = evaluate_segment(plan, pool, table, text, root, first + i, rest, list, a, cap);
-        i += 1;
-    }
-    a
-}
-
-// The elements at the places of a slice, with the segments at rest.
-fn each_place(
-    plan: &[u8],
-    pool: &[u8],
-    table: &[u8],
-    text: &[u8],
-    root: usize,
-    first: usize,
-    walk: Walk,
-    rest: usize,
-    list: &mut [u32],
-    at: usize,
-    cap: usize,
-) -> usize
-    requires { ⌜ Asked (now plan) (now pool) (now table) (now text) root root (length (now list)) at cap ⌝ }
-    requires { ⌜ AskSegments (now plan) (now pool) rest ⌝ }
-    requires { ⌜ AskPlaces (now table) first walk ⌝ }
-    ensures { λ r. ⌜ DonePlaces cap (now (plan .entry)) (now (pool .entry)) (now (table .entry)) (now (text .entry)) root first walk rest (now (list .entry)) at (now (list .exit)) r ⌝ }
-{
-    let mut a = at;
-    let mut w = walk;
-    while 0 < w.left {
-        if cap < a {
-            return a;
-        }
-        a = evaluate_segment(
-            plan,
-            pool,
-            table,
-            text,
-            root,
-            first + w.at,
-            rest,
-            list,
-            a,
-            cap,
-        );
-        w = slices::next_place(w);
-    }
-    a
-}
-
-// Every child of a range for which the test from p up to e holds, with the segments at rest.
+// The nodes from i up to e for which the test from p up to z holds, with the query at rest, up to the first that needs more.
 fn eval_filter(
     plan: &[u8],
     pool: &[u8],
     table: &[u8],
     text: &[u8],
     root: usize,
-    first: usize,
-    count: usize,
-    p: usize,
+    i: usize,
     e: usize,
+    p: usize,
+    z: usize,
     rest: usize,
     list: &mut [u32],
     at: usize,
     cap: usize,
-) -> usize
-    requires { ⌜ Asked (now plan) (now pool) (now table) (now text) root root (length (now list)) at cap ⌝ }
-    requires { ⌜ AskTest (now plan) (now pool) p e ⌝ }
-    requires { ⌜ AskSegments (now plan) (now pool) rest ⌝ }
-    requires { ⌜ e ≤ rest ⌝ }
-    requires { ⌜ AskRange (now table) first count ⌝ }
-    ensures { λ r. ⌜ DoneKept cap (now (plan .entry)) (now (pool .entry)) (now (table .entry)) (now (text .entry)) root first count p e rest (now (list .entry)) at (now (list .exit)) r ⌝ }
+) -> Stop
+    requires { ⌜ AskKept (now plan) (now pool) (now table) (now text) root i e rest (length (now list)) at cap ⌝ }
+    requires { ⌜ AskTest (now plan) (now pool) p z ⌝ }
+    ensures { λ r. ⌜ DoneKept (now (plan .entry)) (now (pool .entry)) (now (table .entry)) (now (text .entry)) root i e p z rest cap (now (list .entry)) at (now (list .exit)) r ⌝ }
 {
     let mut a = at;
-    let mut i = 0;
-    while i < count {
+    let mut j = i;
+    while j < e {
         if cap < a {
-            return a;
+            return Stop {
+                i: j,
+                at: a,
+                node: j,
+                pc: rest,
+                more: false,
+            };
         }
-        if eval_filter_expr(plan, pool, table, text, root, first + i, p, e) {
-            a = evaluate_segment(plan, pool, table, text, root, first + i, rest, list, a, cap);
-            i += 1;
+        if eval_filter_expr(plan, pool, table, text, root, j, p, z) {
+            let v = visits::visit(plan, pool, table, text, j, rest, list, a, cap);
+            a = v.at;
+            if v.more {
+                return Stop {
+                    i: j,
+                    at: a,
+                    node: v.node,
+                    pc: v.pc,
+                    more: true,
+                };
+            }
+            j += 1;
         } else {
-            i += 1;
+            j += 1;
         }
     }
-    a
+    Stop {
+        i: e,
+        at: a,
+        node: e,
+        pc: rest,
+        more: false,
+    }
 }
 
 // Whether the test from p up to e holds of a node.

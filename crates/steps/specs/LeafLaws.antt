@@ -1,5 +1,5 @@
 -- Literals, names and indices: from the bytes that are read to what every form there says. Assumes nothing.
-use Prim.Native.Nat.{ℕ, _+_, _≤_, _<_, _^_}
+use Prim.Native.Nat.{ℕ, _+_, _-_, _≤_, _<_, _^_}
 use mathlib.Core.Path.{_≡_, refl, sym, ap, _∙_, subst}
 use mathlib.Core.List.{List, [], _∷_, append-nil}
 use mathlib.Core.Bool.{true, false}
@@ -20,7 +20,7 @@ use Rattle.definition.specs.Forms.Selector.{index}
 use Rattle.definition.specs.QueryForms.{literalRight, insideI64}
 use Rattle.definition.specs.Plans.{eight, pooled, codeLiteral, poolLiteral}
 use Rattle.definition.specs.Slices.{indexPlaces}
-use Rattle.definition.specs.Tables.{nodeCount, nodeAt, kindAt, kindList, kindMap, childCount, lowWord, isFinite}
+use Rattle.definition.specs.Tables.{nodeCount, nodeAt, depthAt, kindAt, kindList, kindMap, childCount, lowWord, isFinite}
 use Rattle.definition.specs.Compare.{Value}
 use Rattle.definition.specs.Evaluation.{literalValue, evalSelector, pick, found}
 use Rattle.tables.specs.Bools.{and-left, and-right}
@@ -187,6 +187,7 @@ module _ {P L S X : List ℕ} {p i : ℕ} (a : AskOne P L S X p i 5 5) where
             let d = name-here x k at in
             ap (λ (y : Selector). evalSelector y R (nodeAt S X i)) (d .made) ∙ ap (λ (ks : Kids). found (lookup (d .s) ks)) (members-none S X (a .tab) i (a .node-in) n);
         inside = λ m z. let q : _≡_ {A = ℕ} 0 1 = cc in absurd (omega arith);
+        deeper = λ m z. let q : _≡_ {A = ℕ} 0 1 = cc in absurd (omega arith);
       }
 
   module _ (m : kindAt S i ≡ kindMap) (j c : ℕ) (ej : j ≡ lowWord S i) (ec : c ≡ childCount S i) where
@@ -209,6 +210,12 @@ module _ {P L S X : List ℕ} {p i : ℕ} (a : AskOne P L S X p i 5 5) where
               ∙ ap (λ (z : List ℕ). found (lookup z (kids S X j c))) (sym s)
               ∙ ap found (l .is) ∙ found-member S X r;
           inside = λ t z. let b = subst (Between j c) z (l .inside) in let b1 = b .1 in let b0 = b .0 in omega (arith, range-in S X (a .tab) i (a .node-in) j c member-range (omega arith));
+          deeper = λ t z.
+              let b = subst (Between j c) z (l .inside) in
+              let b1 = b .1 in
+              let b0 = b .0 in
+              let e : j + (t - j) ≡ t = omega arith in
+              subst (λ (m : ℕ). depthAt S m ≡ depthAt S i + 1) e (child-at S X (a .tab) i (a .node-in) j c member-range (t - j) (omega arith) .1);
         }
 
 one-pick : (S X : List ℕ) (j c t : ℕ) → t < c → pick (t ∷ []) (nodes S X j c) ≡ nodeAt S X (j + t) ∷ []
@@ -244,6 +251,7 @@ module _ {P L S X : List ℕ} {p i : ℕ} (a : AskOne P L S X p i 6 6) where
       record {
         selects = λ x k R at. let d = index-here x k at in ap (λ (y : Selector). evalSelector y R (nodeAt S X i)) (d .made) ∙ no-index (d .z) R n;
         inside = λ m z. let q : _≡_ {A = ℕ} 0 1 = cc in absurd (omega arith);
+        deeper = λ m z. let q : _≡_ {A = ℕ} 0 1 = cc in absurd (omega arith);
       }
 
   module _ (j c : ℕ) (ej : j ≡ lowWord S i) (ec : c ≡ childCount S i) (z : ℤ) (o : Place) (l : placeList o ≡ indexPlaces c z) where
@@ -277,6 +285,7 @@ module _ {P L S X : List ℕ} {p i : ℕ} (a : AskOne P L S X p i 6 6) where
         record {
           selects = λ x k R at. index-places m w x k R at ∙ ap (λ (ks : List ℕ). pick ks (nodes S X j c)) (at-means o t u) ∙ one-pick S X j c t (index-at c z o t l u);
           inside = λ k y. let q : j + t ≡ k = cc in let v = element-in t u in omega arith;
+          deeper = λ k y. let q : j + t ≡ k = cc in subst (λ (m : ℕ). depthAt S m ≡ depthAt S i + 1) q (child-at S X (a .tab) i (a .node-in) j c element-range t (index-at c z o t l u) .1);
         }
 
     pub index-nothing : kindAt S i ≡ kindList → z ≡ signed64 (number (part P (p + 1) 8)) → o ≡ place.Nothing → DoneOne P L S X p i Absent
@@ -284,4 +293,5 @@ module _ {P L S X : List ℕ} {p i : ℕ} (a : AskOne P L S X p i 6 6) where
         record {
           selects = λ x k R at. index-places m w x k R at ∙ ap (λ (ks : List ℕ). pick ks (nodes S X j c)) (nothing-means o u) ∙ no-pick S X j c;
           inside = λ k y. let q : _≡_ {A = ℕ} 0 1 = cc in absurd (omega arith);
+          deeper = λ k y. let q : _≡_ {A = ℕ} 0 1 = cc in absurd (omega arith);
         }

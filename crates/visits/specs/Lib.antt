@@ -1,0 +1,6 @@
+pub mod Visits
+pub mod Overs
+pub mod Fronts
+pub mod Places
+pub mod Loops
+pub mod Turns

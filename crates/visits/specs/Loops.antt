@@ -1,0 +1,62 @@
+-- The invariants of this crate's loops: what is left to do gives the whole, for every form that stands there. Assumes nothing: these are definitions.
+use Prim.Native.Nat.{ℕ, _+_, _-_, _≤_, _<_}
+use mathlib.Core.Path.{_≡_}
+use mathlib.Core.List.{List, [], _∷_}
+use lib.ListN.{length}
+use Rattle.definition.specs.Values.{Json}
+use Rattle.definition.specs.Forms.{Segments}
+use Rattle.definition.specs.Plans.{codeSegments}
+use Rattle.definition.specs.Tables.{nodeCount, nodeAt, depthAt, kindAt, kindList}
+use Rattle.slices.specs.Walks.{Inside, walked}
+use Rattle.slices.specs.declared.Walk.{Walk}
+use Rattle.walks.specs.States.{State, st, emit}
+use Rattle.walks.specs.Emits.{go}
+use Rattle.walks.specs.Steps.{one-of}
+use Rattle.walks.specs.Items.{SegmentsAt}
+use Rattle.visits.specs.Visits.{Query, over, goes, Deep, numbersFrom}
+
+-- the query f at pc from a node is the query g at q from node m
+pub record Along (P L S X : List ℕ) (node pc m q : ℕ) (f : Segments) (k : ℕ) : Type 0 where
+  pub g : Segments
+  pub j : ℕ
+  pub at : SegmentsAt P L q j g
+  pub ends : q + length (codeSegments g j) ≡ pc + length (codeSegments f k)
+  pub same : (R : Json) (s : State) → go g R (nodeAt S X m ∷ []) s ≡ go f R (nodeAt S X node ∷ []) s
+
+-- the segments of one name or index
+pub record InReach (P L S X : List ℕ) (node pc m q : ℕ) : Type 0 where
+  pub node-in : m < nodeCount S
+  pub deeper : depthAt S node ≤ depthAt S m
+  pub later : pc ≤ q
+  pub query : Query P L q
+  pub front : (f : Segments) (k : ℕ) → SegmentsAt P L pc k f → Along P L S X node pc m q f k
+
+-- numbers from j on
+pub record InNumbers (i e cap : ℕ) (l₀ : List ℕ) (a₀ : ℕ) (l : List ℕ) (a j : ℕ) : Type 0 where
+  pub same : length l ≡ length l₀
+  pub room : a ≤ cap + 1
+  pub again : emit (numbersFrom j (e - j)) (st cap l a) ≡ emit (numbersFrom i (e - i)) (st cap l₀ a₀)
+
+-- the nodes of a range
+pub record InEach (P L S X : List ℕ) (i e rest cap : ℕ) (l₀ : List ℕ) (a₀ : ℕ) (l : List ℕ) (a j : ℕ) : Type 0 where
+  pub low : i ≤ j
+  pub same : length l ≡ length l₀
+  pub room : a ≤ cap + 1
+  pub again : (f : Segments) (k : ℕ) → SegmentsAt P L rest k f → (R : Json) → over f R one-of S X j e (st cap l a) ≡ over f R one-of S X i e (st cap l₀ a₀)
+
+-- the places of a slice
+pub record InPlaces (P L S X : List ℕ) (rest cap : ℕ) (l₀ : List ℕ) (a₀ : ℕ) (w₀ : Walk) (l : List ℕ) (a : ℕ) (w : Walk) : Type 0 where
+  pub same : length l ≡ length l₀
+  pub room : a ≤ cap + 1
+  pub fewer : w .left ≤ w₀ .left
+  pub inside : Inside (nodeCount S) w
+  pub steady : w .step ≡ w₀ .step
+  pub way : w .down ≡ w₀ .down
+  pub deep : (h : ℕ) → Deep S h (walked w₀) → Deep S h (walked w)
+  pub again : (f : Segments) (k : ℕ) → SegmentsAt P L rest k f → (R : Json) → goes f R S X (walked w) (st cap l a) ≡ goes f R S X (walked w₀) (st cap l₀ a₀)
+
+-- nodes that are neither lists nor maps
+pub record InPassed (S : List ℕ) (i e j : ℕ) : Type 0 where
+  pub low : i ≤ j
+  pub high : i ≤ e → j ≤ e
+  pub passed : (m : ℕ) → i ≤ m → m < j → kindAt S m < kindList

@@ -1,0 +1,212 @@
+-- What the functions ask and give that visit nodes with a query. Each answer holds for every form whose code stands there. P is the plan, L the pool, S the
+-- table, X the text. Assumes nothing: these are definitions.
+use Prim.Native.Nat.{ℕ, zero, suc, _+_, _*_, _-_, _≤_, _<_}
+use mathlib.Core.Path.{_≡_}
+use mathlib.Core.List.{List, [], _∷_}
+use mathlib.Core.Bool.{Bool as Bits, true, false}
+use lib.ListN.{length, getD}
+use Rattle.definition.specs.Bytes.{number, part}
+use Rattle.definition.specs.Limits.{maxPlan, maxNodes}
+use Rattle.definition.specs.Values.{Json}
+use Rattle.definition.specs.Forms.{Segments}
+use Rattle.definition.specs.Plans.{codeSegments}
+use Rattle.definition.specs.Tables.{nodeCount, nodeAt, depthAt, kindAt, kindList}
+use Rattle.tables.specs.Accepted.{Accepted}
+use Rattle.slices.specs.Walks.{Inside, walked, Next}
+use Rattle.slices.specs.declared.Walk.{Walk}
+use Rattle.walks.specs.States.{State, st}
+use Rattle.walks.specs.Emits.{go}
+use Rattle.walks.specs.Steps.{span, one-of}
+use Rattle.walks.specs.Ranges.{picked}
+use Rattle.walks.specs.Items.{SegmentsAt}
+use Rattle.visits.specs.declared.Reached.{Reached}
+use Rattle.visits.specs.declared.Visited.{Visited}
+use Rattle.visits.specs.declared.Stop.{Stop}
+use Rattle.visits.specs.declared.Halt.{Halt}
+
+-- a cap is below 2^62, so that one more than it is a number of the machine
+abbrev pub capLimit : ℕ
+capLimit = 4611686018427387904
+
+-- ---- numbers into a list
+
+-- a node's number goes into the next of len places
+pub record AskPush (len at node cap : ℕ) : Type 0 where
+  pub room : at ≤ cap + 1
+  pub wide : len ≤ cap + 1
+  pub small : cap < capLimit
+  pub number : node ≤ maxNodes
+
+pub record AskNumbers (len e at cap : ℕ) : Type 0 where
+  pub room : at ≤ cap + 1
+  pub wide : len ≤ cap + 1
+  pub small : cap < capLimit
+  pub few : e ≤ maxNodes
+
+-- c numbers from j on
+unfoldable pub numbersFrom : ℕ → ℕ → List ℕ
+numbersFrom j zero = []
+numbersFrom j (suc c) = j ∷ numbersFrom (j + 1) c
+
+-- ---- the front of a query
+
+-- some segments stand at pc
+pub record Query (P L : List ℕ) (pc : ℕ) : Type 0 where
+  pub f : Segments
+  pub k : ℕ
+  pub at : SegmentsAt P L pc k f
+
+-- the plan, the pool and the table
+pub record Given (P L S X : List ℕ) : Type 0 where
+  pub fewP : length P ≤ maxPlan
+  pub fewL : length L ≤ maxPlan
+  pub tab : Accepted S X
+
+pub record AskSingular (P : List ℕ) (pc : ℕ) : Type 0 where
+  pub few : length P ≤ maxPlan
+  pub L : List ℕ
+  pub query : Query P L pc
+
+pub record DoneSingular (P : List ℕ) (pc : ℕ) (r : Bits) : Type 0 where
+  pub child : r ≡ true → getD P pc 0 ≡ 3
+  pub alone : r ≡ true → number (part P (pc + 1) 2) ≡ 1
+  pub kind : r ≡ true → getD P (pc + 3) 0 ≤ 6
+
+pub record AskReach (P L S X : List ℕ) (node pc : ℕ) : Type 0 where
+  pub given : Given P L S X
+  pub node-in : node < nodeCount S
+  pub query : Query P L pc
+
+-- the rest of the query f at pc from where it leads
+pub record Front (P L S X : List ℕ) (node pc : ℕ) (r : Reached) (f : Segments) (k : ℕ) : Type 0 where
+  pub g : Segments
+  pub j : ℕ
+  pub at : SegmentsAt P L (r .pc) j g
+  pub ends : r .pc + length (codeSegments g j) ≡ pc + length (codeSegments f k)
+  pub found : r .some ≡ true → (R : Json) (s : State) → go g R (nodeAt S X (r .node) ∷ []) s ≡ go f R (nodeAt S X node ∷ []) s
+  pub lost : r .some ≡ false → (R : Json) (s : State) → s ≡ go f R (nodeAt S X node ∷ []) s
+
+pub record DoneReach (P L S X : List ℕ) (node pc : ℕ) (r : Reached) : Type 0 where
+  pub node-in : r .node < nodeCount S
+  pub deeper : depthAt S node ≤ depthAt S (r .node)
+  pub later : pc ≤ r .pc
+  pub front : (f : Segments) (k : ℕ) → SegmentsAt P L pc k f → Front P L S X node pc r f k
+
+-- ---- one node
+
+pub record AskVisit (P L S X : List ℕ) (node rest len at cap : ℕ) : Type 0 where
+  pub given : Given P L S X
+  pub node-in : node < nodeCount S
+  pub query : Query P L rest
+  pub room : at ≤ cap + 1
+  pub wide : len ≤ cap + 1
+  pub small : cap < capLimit
+
+-- the query at rest from a node goes on at pc from node n, with the query g
+pub record Onward (P L S X : List ℕ) (node n pc : ℕ) (f : Segments) : Type 0 where
+  pub g : Segments
+  pub j : ℕ
+  pub at : SegmentsAt P L pc j g
+  pub same : (R : Json) (s : State) → go g R (nodeAt S X n ∷ []) s ≡ go f R (nodeAt S X node ∷ []) s
+
+pub record Paused (P L S X : List ℕ) (node rest n pc : ℕ) : Type 0 where
+  pub node-in : n < nodeCount S
+  pub deeper : depthAt S node ≤ depthAt S n
+  pub later : rest ≤ pc
+  pub going : getD P pc 0 ≡ 0x0A → ⊥
+  pub onward : (f : Segments) (k : ℕ) → SegmentsAt P L rest k f → Onward P L S X node n pc f
+
+pub record DoneVisit (P L S X : List ℕ) (node rest cap : ℕ) (l : List ℕ) (at : ℕ) (l′ : List ℕ) (r : Visited) : Type 0 where
+  pub room : r .at ≤ cap + 1
+  pub ended : r .more ≡ false → (f : Segments) (k : ℕ) → SegmentsAt P L rest k f → (R : Json) → st cap l′ (r .at) ≡ go f R (nodeAt S X node ∷ []) (st cap l at)
+  pub places : r .more ≡ true → l′ ≡ l
+  pub next : r .more ≡ true → r .at ≡ at
+  pub paused : r .more ≡ true → Paused P L S X node rest (r .node) (r .pc)
+
+-- ---- the children of a range
+
+-- what is emitted for the nodes that h gives of each of the nodes from i up to e
+abbrev pub over : Segments → Json → (Json → List Json) → List ℕ → List ℕ → ℕ → ℕ → State → State
+over f R h S X i e s = span f R h S X (0 + i) (e - i) s
+
+pub record AskEach (P L S X : List ℕ) (i e rest len at cap : ℕ) : Type 0 where
+  pub given : Given P L S X
+  pub range : i < e → e ≤ nodeCount S
+  pub query : Query P L rest
+  pub room : at ≤ cap + 1
+  pub wide : len ≤ cap + 1
+  pub small : cap < capLimit
+
+-- Nothing is left; or all before child r .i are done, and that child needs more.
+pub record DoneEach (P L S X : List ℕ) (i e rest cap : ℕ) (l : List ℕ) (at : ℕ) (l′ : List ℕ) (r : Stop) : Type 0 where
+  pub room : r .at ≤ cap + 1
+  pub ended : r .more ≡ false → (f : Segments) (k : ℕ) → SegmentsAt P L rest k f → (R : Json) → st cap l′ (r .at) ≡ over f R one-of S X i e (st cap l at)
+  pub low : r .more ≡ true → i ≤ r .i
+  pub high : r .more ≡ true → r .i < e
+  pub again : r .more ≡ true → (f : Segments) (k : ℕ) → SegmentsAt P L rest k f → (R : Json) → over f R one-of S X (r .i) e (st cap l′ (r .at)) ≡ over f R one-of S X i e (st cap l at)
+  pub paused : r .more ≡ true → Paused P L S X (r .i) rest (r .node) (r .pc)
+
+-- ---- the places of a slice
+
+-- what is emitted for some nodes in turn
+unfoldable pub goes : Segments → Json → List ℕ → List ℕ → List ℕ → State → State
+goes f R S X [] s = s
+goes f R S X (n ∷ ns) s = goes f R S X ns (go f R (nodeAt S X n ∷ []) s)
+
+pub record AskPlaces (P L S X : List ℕ) (w : Walk) (rest len at cap : ℕ) : Type 0 where
+  pub given : Given P L S X
+  pub inside : Inside (nodeCount S) w
+  pub query : Query P L rest
+  pub room : at ≤ cap + 1
+  pub wide : len ≤ cap + 1
+  pub small : cap < capLimit
+
+-- each of some nodes is so deep in the table that the stack has room there
+unfoldable pub Deep : List ℕ → ℕ → List ℕ → Type 0
+Deep S h [] = Unit {0}
+Deep S h (n ∷ ns) = (h ≤ 3 * depthAt S n) × Deep S h ns
+
+pub record DonePlaces (P L S X : List ℕ) (w : Walk) (rest cap : ℕ) (l : List ℕ) (at : ℕ) (l′ : List ℕ) (r : Halt) : Type 0 where
+  pub room : r .at ≤ cap + 1
+  pub ended : r .more ≡ false → (f : Segments) (k : ℕ) → SegmentsAt P L rest k f → (R : Json) → st cap l′ (r .at) ≡ goes f R S X (walked w) (st cap l at)
+  pub some : r .more ≡ true → 0 < r .walk .left
+  pub fewer : r .more ≡ true → r .walk .left ≤ w .left
+  pub inside : r .more ≡ true → Inside (nodeCount S) (r .walk)
+  pub steady : r .more ≡ true → r .walk .step ≡ w .step
+  pub way : r .more ≡ true → r .walk .down ≡ w .down
+  pub deep : r .more ≡ true → (h : ℕ) → Deep S h (walked w) → Deep S h (walked (r .walk))
+  pub again : r .more ≡ true → (f : Segments) (k : ℕ) → SegmentsAt P L rest k f → (R : Json) → goes f R S X (walked (r .walk)) (st cap l′ (r .at)) ≡ goes f R S X (walked w) (st cap l at)
+  pub paused : r .more ≡ true → Paused P L S X (r .walk .at) rest (r .node) (r .pc)
+
+-- r is the walk w without its first place, with the same step in the same direction
+pub record Further (w r : Walk) : Type 0 where
+  pub next : Next w r
+  pub near : r .at ≤ maxNodes
+  pub steady : r .step ≡ w .step
+  pub way : r .down ≡ w .down
+
+-- the places of a walk in a range of c nodes from first on, as nodes
+pub record AskPlaced (S : List ℕ) (first : ℕ) (w : Walk) : Type 0 where
+  pub few : nodeCount S ≤ maxNodes
+  pub c : ℕ
+  pub inside : Inside c w
+  pub range : 0 < c → first + c ≤ nodeCount S
+
+pub record DonePlaced (S : List ℕ) (first : ℕ) (w r : Walk) : Type 0 where
+  pub left : r .left ≡ w .left
+  pub way : r .down ≡ w .down
+  pub near : r .step ≤ maxNodes
+  pub here : r .at ≤ maxNodes
+  pub inside : (c : ℕ) → Inside c w → (0 < c → first + c ≤ nodeCount S) → Inside (nodeCount S) r
+  pub picks : (c : ℕ) → Inside c w → (X : List ℕ) (f : Segments) (R : Json) (s : State) → goes f R S X (walked r) s ≡ picked S X f R first c (walked w) s
+  pub deep : (c : ℕ) → Inside c w → (h : ℕ) → ((k : ℕ) → k < c → h ≤ 3 * depthAt S (first + k)) → Deep S h (walked r)
+
+-- ---- children without children
+
+pub record AskContainer (S : List ℕ) (i e : ℕ) : Type 0 where
+  pub range : i < e → e ≤ nodeCount S
+
+pub record DoneContainer (S : List ℕ) (i e r : ℕ) : Type 0 where
+  pub low : i ≤ r
+  pub high : i ≤ e → r ≤ e
+  pub passed : (m : ℕ) → i ≤ m → m < r → kindAt S m < kindList

@@ -1,0 +1,339 @@
+// The parts of a walk that need neither a filter nor a list of what is left to do: a node's number into a list; the segments of one name or index at the
+// front of a query; one node, the children of a range, or the places of a slice, each with a query, up to the first that needs more.
+use equal::members::Member;
+use slices::Walk;
+use steps::leaves;
+use steps::plans;
+use table::records;
+use text::bytes;
+ghost use mathlib.Core.Path.{_≡_};
+ghost use Prim.Native.Nat.{_-_, _<_};
+ghost use lib.ListN.{length};
+ghost use Rattle.definition.specs.Limits.{maxNodes};
+ghost use Rattle.slices.specs.Walks.{Inside};
+ghost use Rattle.walks.specs.States.{st, push as pushed, emit};
+ghost use Rattle.visits.specs.Visits.{AskPush, AskReach, DoneReach, AskSingular, DoneSingular, AskVisit, DoneVisit, AskEach, DoneEach, AskPlaces, DonePlaces, AskPlaced, DonePlaced, AskNumbers, numbersFrom, AskContainer, DoneContainer, Further};
+
+const CHILD: u8 = 0x03;
+
+const INDEX: u8 = 0x06;
+
+const END: u8 = 0x0A;
+
+const KIND_LIST: u8 = 6;
+
+// Where the segments of one name or index at the front of a query lead: a node and the place of what follows. `some` is false where there is no such node.
+pub struct Reached {
+    pub node: usize,
+    pub pc: usize,
+    pub some: bool,
+}
+
+// One node with a query: the next place of the list and, where more is to be done, the node and the place in the plan where it goes on.
+pub struct Visited {
+    pub at: usize,
+    pub node: usize,
+    pub pc: usize,
+    pub more: bool,
+}
+
+// The children of a range with a query: the next place of the list and, where child i needs more, the node and the place in the plan where it goes on.
+pub struct Stop {
+    pub i: usize,
+    pub at: usize,
+    pub node: usize,
+    pub pc: usize,
+    pub more: bool,
+}
+
+// The same of the places of a slice, which are nodes: the first of `walk` needs more.
+pub struct Halt {
+    pub walk: Walk,
+    pub at: usize,
+    pub node: usize,
+    pub pc: usize,
+    pub more: bool,
+}
+
+// The node's number into the next place, if there is one. Once the cap is passed nothing changes.
+pub fn push(list: &mut [u32], at: usize, node: usize, cap: usize) -> usize
+    requires { ⌜ AskPush (length (now list)) at node cap ⌝ }
+    ensures { λ r. ⌜ st cap (now (list .exit)) r ≡ pushed node (st cap (now (list .entry)) at) ⌝ }
+{
+    if cap < at {
+        return at;
+    }
+    if at < list.len() {
+        list[at] = node as u32;
+        return at + 1;
+    }
+    at + 1
+}
+
+// The numbers from i up to e, one after the other.
+pub fn push_each(list: &mut [u32], i: usize, e: usize, at: usize, cap: usize) -> usize
+    requires { ⌜ AskNumbers (length (now list)) e at cap ⌝ }
+    ensures { λ r. ⌜ st cap (now (list .exit)) r ≡ emit (numbersFrom i (e - i)) (st cap (now (list .entry)) at) ⌝ }
+{
+    let mut a = at;
+    let mut j = i;
+    while j < e {
+        a = push(list, a, j, cap);
+        j += 1;
+    }
+    a
+}
+
+// Whether a child segment of one selector, a name or an index, stands at pc.
+fn singular(plan: &[u8], pc: usize) -> bool
+    requires { ⌜ AskSingular (now plan) pc ⌝ }
+    ensures { λ r. ⌜ DoneSingular (now (plan .entry)) pc r ⌝ }
+{
+    if plan[pc] != CHILD {
+        return false;
+    }
+    if bytes::word16(plan, pc + 1) != 1 {
+        return false;
+    }
+    plan[pc + 3] <= INDEX
+}
+
+// From a node along the segments of one name or index at pc.
+pub fn reach(plan: &[u8], pool: &[u8], table: &[u8], text: &[u8], node: usize, pc: usize) -> Reached
+    requires { ⌜ AskReach (now plan) (now pool) (now table) (now text) node pc ⌝ }
+    ensures { λ r. ⌜ DoneReach (now (plan .entry)) (now (pool .entry)) (now (table .entry)) (now (text .entry)) node pc r ⌝ }
+{
+    let mut m = node;
+    let mut q = pc;
+    while singular(plan, q) {
+        let found = leaves::select_one(plan, pool, table, text, q + 3, m);
+        let Member::At(n) = found else {
+            return Reached {
+                node: m,
+                pc: q,
+                some: false,
+            };
+        };
+        m = n;
+        q = plans::next_selector(plan, q + 3);
+    }
+    Reached {
+        node: m,
+        pc: q,
+        some: true,
+    }
+}
+
+// One node with the query at rest: pushed, or nothing, or what is left.
+pub fn visit(
+    plan: &[u8],
+    pool: &[u8],
+    table: &[u8],
+    text: &[u8],
+    node: usize,
+    rest: usize,
+    list: &mut [u32],
+    at: usize,
+    cap: usize,
+) -> Visited
+    requires { ⌜ AskVisit (now plan) (now pool) (now table) (now text) node rest (length (now list)) at cap ⌝ }
+    ensures { λ r. ⌜ DoneVisit (now (plan .entry)) (now (pool .entry)) (now (table .entry)) (now (text .entry)) node rest cap (now (list .entry)) at (now (list .exit)) r ⌝ }
+{
+    let r = reach(plan, pool, table, text, node, rest);
+    let m = r.node;
+    let pc = r.pc;
+    if !r.some {
+        return Visited {
+            at,
+            node: m,
+            pc,
+            more: false,
+        };
+    }
+    if plan[pc] != END {
+        return Visited {
+            at,
+            node: m,
+            pc,
+            more: true,
+        };
+    }
+    let a = push(list, at, m, cap);
+    Visited {
+        at: a,
+        node: m,
+        pc,
+        more: false,
+    }
+}
+
+// The nodes from i up to e with the query at rest, up to the first that needs more.
+pub fn each_child(
+    plan: &[u8],
+    pool: &[u8],
+    table: &[u8],
+    text: &[u8],
+    i: usize,
+    e: usize,
+    rest: usize,
+    list: &mut [u32],
+    at: usize,
+    cap: usize,
+) -> Stop
+    requires { ⌜ AskEach (now plan) (now pool) (now table) (now text) i e rest (length (now list)) at cap ⌝ }
+    ensures { λ r. ⌜ DoneEach (now (plan .entry)) (now (pool .entry)) (now (table .entry)) (now (text .entry)) i e rest cap (now (list .entry)) at (now (list .exit)) r ⌝ }
+{
+    let mut a = at;
+    let mut j = i;
+    while j < e {
+        if cap < a {
+            return Stop {
+                i: j,
+                at: a,
+                node: j,
+                pc: rest,
+                more: false,
+            };
+        }
+        let v = visit(plan, pool, table, text, j, rest, list, a, cap);
+        a = v.at;
+        if v.more {
+            return Stop {
+                i: j,
+                at: a,
+                node: v.node,
+                pc: v.pc,
+                more: true,
+            };
+        }
+        j += 1;
+    }
+    Stop {
+        i: e,
+        at: a,
+        node: e,
+        pc: rest,
+        more: false,
+    }
+}
+
+// A walk without its first place, with the same step in the same direction. Where none is left it stands at 0, so that the place is always small.
+pub fn further(w: Walk) -> Walk
+    requires { ⌜ (0 < w .left) × Inside maxNodes w ⌝ }
+    ensures { λ r. ⌜ Further w r ⌝ }
+{
+    let step = w.step;
+    let down = w.down;
+    let n = slices::next_place(w);
+    let left = n.left;
+    if left == 0 {
+        return Walk {
+            at: 0,
+            left,
+            step,
+            down,
+        };
+    }
+    Walk {
+        at: n.at,
+        left,
+        step,
+        down,
+    }
+}
+
+// The nodes that are the places of a walk, with the query at rest, up to the first that needs more.
+pub fn each_place(
+    plan: &[u8],
+    pool: &[u8],
+    table: &[u8],
+    text: &[u8],
+    walk: Walk,
+    rest: usize,
+    list: &mut [u32],
+    at: usize,
+    cap: usize,
+) -> Halt
+    requires { ⌜ AskPlaces (now plan) (now pool) (now table) (now text) walk rest (length (now list)) at cap ⌝ }
+    ensures { λ r. ⌜ DonePlaces (now (plan .entry)) (now (pool .entry)) (now (table .entry)) (now (text .entry)) walk rest cap (now (list .entry)) at (now (list .exit)) r ⌝ }
+{
+    let mut a = at;
+    let mut w = walk;
+    while 0 < w.left {
+        if cap < a {
+            return Halt {
+                walk: w,
+                at: a,
+                node: 0,
+                pc: rest,
+                more: false,
+            };
+        }
+        let v = visit(plan, pool, table, text, w.at, rest, list, a, cap);
+        a = v.at;
+        if v.more {
+            return Halt {
+                walk: w,
+                at: a,
+                node: v.node,
+                pc: v.pc,
+                more: true,
+            };
+        }
+        w = further(w);
+    }
+    Halt {
+        walk: w,
+        at: a,
+        node: 0,
+        pc: rest,
+        more: false,
+    }
+}
+
+// The places of a walk in a range of children, as nodes. The step of a single place says nothing and is left out, so that every number is small.
+pub fn placed(table: &[u8], first: usize, walk: Walk) -> Walk
+    requires { ⌜ AskPlaced (now table) first walk ⌝ }
+    ensures { λ r. ⌜ DonePlaced (now (table .entry)) first walk r ⌝ }
+{
+    let left = walk.left;
+    let down = walk.down;
+    if left == 0 {
+        return Walk {
+            at: 0,
+            left,
+            step: 0,
+            down,
+        };
+    }
+    let at = first + walk.at;
+    if left == 1 {
+        return Walk {
+            at,
+            left,
+            step: 0,
+            down,
+        };
+    }
+    Walk {
+        at,
+        left,
+        step: walk.step,
+        down,
+    }
+}
+
+// The first node from i on that is a list or a map, or e: the others have nothing below them.
+pub fn next_container(table: &[u8], i: usize, e: usize) -> usize
+    requires { ⌜ AskContainer (now table) i e ⌝ }
+    ensures { λ r. ⌜ DoneContainer (now (table .entry)) i e r ⌝ }
+{
+    let mut j = i;
+    while j < e {
+        if KIND_LIST <= records::kind(table, j) {
+            return j;
+        }
+        j += 1;
+    }
+    j
+}
