@@ -1,6 +1,6 @@
 #!/usr/bin/env bash
-# Measures the table check and the stack of the deepest runs and, where ORACLE names the folder in which cargo built the given Rust text (as for
-# differential/run.sh), compile beside that text's parse. NATIVE_ARCHIVE names a tool that compiles a proved library for this machine
+# Measures the table check, the stack of the deepest runs and the growth of hostile queries and, where ORACLE names the folder in which cargo built the given
+# Rust text (as for differential/run.sh), compile beside that text's parse. NATIVE_ARCHIVE names a tool that compiles a proved library for this machine
 # (called as: NATIVE_ARCHIVE CRATE OUT.a, from the repository's root); on x86-64 the archive of
 # `rt staticlib exports` serves, and nothing need be set.
 set -euo pipefail
@@ -17,6 +17,8 @@ cc -O2 -Wall -o target/bench/table_check bench/table_check.c "$archive"
 target/bench/table_check
 cc -O2 -Wall -pthread -o target/bench/stack bench/stack.c "$archive"
 target/bench/stack
+cc -O2 -Wall -o target/bench/hostile bench/hostile.c "$archive"
+target/bench/hostile
 if [ -n "${ORACLE:-}" ]; then
     built=$ORACLE/target/release
     rustc -O --edition 2021 -o target/bench/compile bench/compile.rs \

@@ -4,6 +4,7 @@
 #   ORACLE=DIR differential/run.sh [COUNT [SEED]]             compile, on random and damaged queries; COUNT is 1000000 and SEED is 1 where they are not given
 #   ORACLE=DIR differential/run.sh select [COUNT [SEED]]      select and run, on random documents; the same for COUNT and SEED
 #   ORACLE=DIR differential/run.sh vectors                    some of the queries with their refusals, as crates/compile_vectors reads them
+#   ORACLE=DIR differential/run.sh select-vectors             some of the queries on small documents with their nodes, as crates/select_vectors reads them
 #
 # ORACLE names the folder in which cargo built the given Rust text as the library `rustoracle` (docs/DIFFERENCES.md, "How the Rust column was obtained").
 # NATIVE_ARCHIVE names a tool that compiles a proved library for this machine, as for bench/run.sh; on x86-64 it need not be set.
@@ -21,11 +22,17 @@ fi
 cc -O2 -Wall -o target/differential/calls differential/calls.c "$archive"
 target/differential/calls >&2
 built=$ORACLE/target/release
-if [ "${1:-}" = select ]; then
+if [ "${1:-}" = select ] || [ "${1:-}" = select-vectors ]; then
     rustc -O --edition 2021 --crate-type rlib --crate-name stewpebble --out-dir target/differential rust/src/lib.rs
     rustc -O --edition 2021 -o target/differential/select differential/select.rs \
         --extern rustoracle="$built/librustoracle.rlib" -L "$built/deps" -L target/differential -C link-arg="$archive"
-    target/differential/select "${2:-1000000}" "${3:-1}"
+    if [ "$1" = select ]; then
+        target/differential/select "${2:-1000000}" "${3:-1}"
+        exit
+    fi
+    cd crates/select_vectors
+    ../../target/differential/select 100000 1 sample 1 >stdin
+    awk '{ printf $5 == 0 ? "ok" : "refused " $5; for (i = 6; i <= NF; i++) printf " " $i; print "" } END { print NR " cases, 0 answers differ" }' stdin >stdout
     exit
 fi
 rustc -O --edition 2021 -o target/differential/compile differential/compile.rs \

@@ -1,6 +1,9 @@
 //! Evaluates random queries on random documents by this engine, through its C boundary, and by the given Rust text, and compares the nodes.
 //!
-//!     select COUNT SEED      compares COUNT pairs of a document and a query; writes the counts and the smallest case that no row of docs/DIFFERENCES.md explains
+//!     select COUNT SEED               compares COUNT pairs of a document and a query; writes the counts and the smallest case that no row of
+//!                                     docs/DIFFERENCES.md explains
+//!     select COUNT SEED sample SHARE  compares the cases of sample.rs and COUNT pairs of small documents and queries, and writes those of them that
+//!                                     crates/select_vectors replays: of each feature about SHARE cases
 //!
 //! The Rust text evaluates each query twice: on plain values, which are compared by kind and content, and on handlers that carry node numbers.
 //! Where its comparisons are not document 01's (rows C1 to C7), its answer cannot be taken as it is. So `Walk` evaluates the Rust text's tree once more, with
@@ -9,6 +12,7 @@
 
 #[allow(dead_code)]
 mod compile;
+mod sample;
 
 extern crate loro_common;
 extern crate stewpebble;
@@ -1084,8 +1088,20 @@ fn add(counts: &mut BTreeMap<String, usize>, what: &str) {
     }
 }
 
-// One document and one query; none where it is left out: the walk would be too long, or it is one of two in three queries that plainly select nothing.
-fn case(parser: &JSONPathParser, random: &mut Random, doc: &Doc, query: &str, counts: &mut Counts) -> Option<Result<(), String>> {
+// What document 01 asks for, which the Rust text and this engine were held against.
+struct Case {
+    refusal: u32,
+    nodes: Vec<usize>,
+    // The rows of docs/DIFFERENCES.md by which the Rust text's answer is another one, or a dash.
+    rows: String,
+    // How the two compare.
+    how: String,
+    tree: Option<Query>,
+}
+
+// One document and one query; none where it is left out: the walk would be too long, or, unless all are asked for, it is one of two in three queries that
+// plainly select nothing.
+fn case(parser: &JSONPathParser, random: &mut Random, doc: &Doc, query: &str, all: bool, counts: &mut Counts) -> Option<Result<Case, String>> {
     let bytes = query.as_bytes();
     let (refusal, why, tree) = match rust(parser, query) {
         Rust::Kind(k, _) => (k, "as the Rust text", None),
@@ -1099,16 +1115,28 @@ fn case(parser: &JSONPathParser, random: &mut Random, doc: &Doc, query: &str, co
         return Some(Err(format!("compile: {got} and not {refusal}")));
     }
     if refusal != 0 {
-        add(&mut counts.cases, &format!("refused {refusal} {why}"));
-        return Some(refused(&Call::Select(bytes), doc, refusal));
+        let how = format!("refused {refusal} {why}");
+        add(&mut counts.cases, &how);
+        let rows = if tree.is_some() { why.replace(' ', "") } else { "-".into() };
+        return Some(refused(&Call::Select(bytes), doc, refusal).map(|()| Case { refusal, nodes: Vec::new(), rows, how, tree }));
     }
-    let tree = tree?;
+    evaluated(random, doc, &Compiled { query: bytes, plan, pool }, tree?, all, counts)
+}
+
+// A query that passes, with its plan and its pool.
+struct Compiled<'a> {
+    query: &'a [u8],
+    plan: Vec<u8>,
+    pool: Vec<u8>,
+}
+
+fn evaluated(random: &mut Random, doc: &Doc, compiled: &Compiled, tree: Query, all: bool, counts: &mut Counts) -> Option<Result<Case, String>> {
     let (want, walk) = Walk::of(doc, &tree, false);
     if walk.steps > MOST_STEPS {
         return None;
     }
     let rows = walk.rows;
-    if want.is_empty() && rows.is_empty() && !random.one_in(3) {
+    if want.is_empty() && rows.is_empty() && !all && !random.one_in(3) {
         return None;
     }
     let mut as_rust = want.clone();
@@ -1124,7 +1152,8 @@ fn case(parser: &JSONPathParser, random: &mut Random, doc: &Doc, query: &str, co
         Err(what) => return Some(Err(what)),
     };
     add(&mut counts.cases, &how);
-    Some(with_lists(random, doc, bytes, &plan, &pool, &want, counts))
+    let differ = if want == as_rust { "-".into() } else { rows.into_iter().collect::<Vec<_>>().join(",") };
+    Some(with_lists(random, doc, compiled, &want, counts).map(|()| Case { refusal: 0, nodes: want, rows: differ, how, tree: Some(tree) }))
 }
 
 // The Rust text's nodes against those that document 01 asks for, and how the two compare.
@@ -1153,7 +1182,8 @@ fn with_rust(doc: &Doc, tree: &Query, want: &[usize], as_rust: &[usize], rows: &
 }
 
 // This engine's nodes, by select and by compile and run, into lists of random lengths from random start positions.
-fn with_lists(random: &mut Random, doc: &Doc, query: &[u8], plan: &[u8], pool: &[u8], want: &[usize], counts: &mut Counts) -> Result<(), String> {
+fn with_lists(random: &mut Random, doc: &Doc, compiled: &Compiled, want: &[usize], counts: &mut Counts) -> Result<(), String> {
+    let Compiled { query, plan, pool } = compiled;
     // Every place is there in the first call; in the second there may be too few, or the start position may be beyond the list.
     let start = random.below(4);
     let length = start + want.len() + random.below(3);
@@ -1242,6 +1272,9 @@ fn run() -> bool {
     let words: Vec<String> = std::env::args().collect();
     let count: usize = words[1].parse().expect("a count");
     let seed: u64 = words[2].parse().expect("a seed");
+    if words.len() > 3 {
+        return sample::write(count, seed, words[4].parse().expect("a share"));
+    }
     let parser = JSONPathParser::new();
     let mut random = Random(seed);
     let mut maker = Maker { random: Random(seed ^ 0x5555), wrong: 0 };
@@ -1259,12 +1292,12 @@ fn run() -> bool {
             if query.len() > 4096 || too_deep(query.as_bytes()) || any && neighbours(&query) || !seen.insert(query.clone()) {
                 continue;
             }
-            match case(&parser, &mut random, &doc, &query, &mut counts) {
+            match case(&parser, &mut random, &doc, &query, false, &mut counts) {
                 None => {
                     left += 1;
                     continue;
                 }
-                Some(Ok(())) => {}
+                Some(Ok(_)) => {}
                 Some(Err(what)) => {
                     differences += 1;
                     let size = query.len() + doc.json.len();
