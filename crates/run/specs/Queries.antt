@@ -1,5 +1,5 @@
 -- A query in a filter's code: where it begins, that the walk from there is what is asked for, and what the registers hold behind it. Assumes nothing.
-use Prim.Native.Nat.{ℕ, _+_, _≤_, _<_}
+use Prim.Native.Nat.{ℕ, _+_, _≤_, _<_, min}
 use mathlib.Core.Path.{_≡_, refl, ap, _∙_, subst}
 use mathlib.Core.List.{List, [], _∷_}
 use mathlib.Core.Bool.{Bool as Bits, true, false, cond}
@@ -10,19 +10,23 @@ use borrow.Author.Tests.{eq-eqb, ne-eqb}
 use Rattle.definition.specs.Limits.{maxInt}
 use Rattle.definition.specs.Values.{Json}
 use Rattle.definition.specs.Forms.{Segments}
+use Rattle.definition.specs.Plans.{codeSegments}
 use Rattle.definition.specs.Tables.{nodeCount, nodeAt}
 use Rattle.definition.specs.Evaluation.{evalSegments}
 use Rattle.tables.specs.Accepted.{Accepted}
-use Rattle.walks.specs.States.{State, st, emit}
+use Rattle.walks.specs.States.{State, st, push, emit}
+use Rattle.walks.specs.Steps.{segment-end}
 use Rattle.walks.specs.Segments.{ids}
 use Rattle.walks.specs.Emits.{go}
-use Rattle.walks.specs.Items.{SegmentsAt}
+use Rattle.walks.specs.Items.{SegmentsAt, is-end}
 use Rattle.walks.specs.Founds.{Found, found-at}
 use Rattle.walks.specs.Todos.{QueryAt, todo-in, at-query}
 use Rattle.equal.specs.Means.{meaning}
 use Rattle.steps.specs.Ends.{DonePast}
 use Rattle.steps.specs.Leaves.{Doing, beginsAt, capFor}
 use Rattle.steps.specs.declared.Regs.{Regs}
+use Rattle.visits.specs.Visits.{DoneReach}
+use Rattle.visits.specs.declared.Reached.{Reached}
 use Rattle.run.specs.Asks.{AskQuery, DoneQuery, DoneAnswer}
 
 -- ---- where a query begins, and its cap
@@ -50,6 +54,10 @@ cap-small cap m e = let w = cap-by (eqb m 0x19) (eqb m 0x1B) in omega arith
 
 -- ---- the query that stands there
 
+-- z is where the query at p ends
+abbrev pub Past : List ℕ → List ℕ → ℕ → ℕ → Type 0
+Past P L p z = (f : Segments) (k : ℕ) → SegmentsAt P L p k f → z ≡ p + length (codeSegments f k)
+
 module _ (P L S X : List ℕ) (root node : ℕ) (s : Regs) (from : ℕ) (b : from ≡ beginsAt (getD P (s .q) 0) root node) where
   query-here : (e : ℕ) (want : Bits) → Doing P L S X s e (nodeAt S X root) (nodeAt S X node) want → s .q < e → getD P (s .q) 0 ≤ 2
       → QueryAt P L (s .q) e (nodeAt S X root) (nodeAt S X node) (s .acc) (meaning S X L (s .x)) (meaning S X L (s .y)) want (nodeAt S X from)
@@ -58,7 +66,7 @@ module _ (P L S X : List ℕ) (root node : ℕ) (s : Regs) (from : ℕ) (b : fro
       (λ z. ap (nodeAt S X) (b ∙ begins-root _ root node z)) (λ z. ap (nodeAt S X) (b ∙ begins-node _ root node z))
 
   -- what the answer to what is asked of the query leaves
-  pub query-done : (a : AskQuery P L S X root node s) (mode z n first : ℕ) (r : Regs) → DonePast P (s .q + 1) z → mode ≡ getD P z 0 → DoneAnswer S X s mode z n first r
+  pub query-done : (a : AskQuery P L S X root node s) (mode z n first : ℕ) (r : Regs) → Past P L (s .q + 1) z → mode ≡ getD P z 0 → DoneAnswer S X s mode z n first r
       → ((mode ≡ 0x1A → ⊥) → (f : Segments) (k : ℕ) → SegmentsAt P L (s .q + 1) k f → Found S X (evalSegments f (nodeAt S X from) (nodeAt S X from ∷ [])) (capFor mode) n first)
       → DoneQuery P L S X root node s r
   query-done a mode z n first r p m d f =
@@ -67,7 +75,7 @@ module _ (P L S X : List ℕ) (root node : ℕ) (s : Regs) (from : ℕ) (b : fro
         further = d .further;
         goes = λ e want t u.
             let y = query-here e want t u (a .kind) in
-            d .goes P L e (nodeAt S X root) (nodeAt S X node) want (nodeAt S X from) y (p (y .f) (y .k) (y .at .holds)) m (λ l. f l (y .f) (y .k) (y .at));
+            d .goes P L e (nodeAt S X root) (nodeAt S X node) want (nodeAt S X from) y (p (y .f) (y .k) (y .at)) m (λ l. f l (y .f) (y .k) (y .at));
       }
 
 -- some query stands there, and behind it a byte
@@ -76,7 +84,7 @@ pub record Here (P L : List ℕ) (q : ℕ) : Type 0 where
   pub f : Segments
   pub k : ℕ
   pub at : SegmentsAt P L (q + 1) k f
-  pub ends : (z : ℕ) → DonePast P (q + 1) z → (q < z) × (z < length P)
+  pub ends : (z : ℕ) → Past P L (q + 1) z → (q < z) × (z < length P)
 
 pub here : {P L S X : List ℕ} {root node : ℕ} {s : Regs} → AskQuery P L S X root node s → Here P L (s .q)
 here {P} {L} {S} {X} {root} {node} {s} a =
@@ -87,7 +95,7 @@ here {P} {L} {S} {X} {root} {node} {s} a =
       f = y .f;
       k = y .k;
       at = y .at;
-      ends = λ z p. let e = p (y .f) (y .k) (y .at .holds) in (omega arith, omega arith);
+      ends = λ z p. let e = p (y .f) (y .k) (y .at) in (omega arith, omega arith);
     }
 
 -- what the walk finds with one place
@@ -109,3 +117,29 @@ nested-head S X tab from cap h l n f e =
     let y = found-at S X tab from h f cap l n e in
     let m = y .number in
     head-by S (evalSegments f (nodeAt S X from) (nodeAt S X from ∷ [])) cap n l (omega arith) (λ v. y .inside (omega arith)) e
+
+-- ---- where the names and indices at its front lead
+
+module _ (P L S X : List ℕ) (tab : Accepted S X) (from q : ℕ) (h : from < nodeCount S) (r : Reached) (d : DoneReach P L S X from (q + 1) r) where
+  pub past-of : (z : ℕ) → DonePast P (r .pc) z → Past P L (q + 1) z
+  past-of z p f k a = let y = d .front f k a in p (y .g) (y .j) (y .at .holds) ∙ y .ends
+
+  -- to nothing
+  pub found-lost : r .some ≡ false → (mode : ℕ) (f : Segments) (k : ℕ) → SegmentsAt P L (q + 1) k f → Found S X (evalSegments f (nodeAt S X from) (nodeAt S X from ∷ [])) (capFor mode) 0 0
+  found-lost e mode f k a = found-at S X tab from h f (capFor mode) (0 ∷ []) 0 (d .front f k a .lost e (nodeAt S X from) (st (capFor mode) (0 ∷ []) 0))
+
+  -- to its end
+  one-pushed : (cap n : ℕ) → st cap (n ∷ []) 1 ≡ push n (st cap (0 ∷ []) 0)
+  unfolding push
+  one-pushed cap n = let e : 1 ≡ min (0 + 1) (cap + 1) = omega arith in λ i. record { cap = cap; places = n ∷ []; next = e i }
+
+  pub found-one : r .some ≡ true → getD P (r .pc) 0 ≡ 0x0A → (mode : ℕ) (f : Segments) (k : ℕ) → SegmentsAt P L (q + 1) k f → Found S X (evalSegments f (nodeAt S X from) (nodeAt S X from ∷ [])) (capFor mode) 1 (r .node)
+  found-one e z mode f k a =
+      let y = d .front f k a in
+      found-at S X tab from h f (capFor mode) (r .node ∷ []) 1
+      (one-pushed (capFor mode) (r .node) ∙ segment-end S X tab (y .g) (nodeAt S X from) (r .node) (d .node-in) _ (is-end P (r .pc) (y .j) (y .g) (y .at .holds) z) ∙ y .found e (nodeAt S X from) _)
+
+  -- to where a walk begins
+  pub walk-found : r .some ≡ true → (cap : ℕ) (l : List ℕ) (n : ℕ) → ((g : Segments) (j : ℕ) → SegmentsAt P L (r .pc) j g → st cap l n ≡ go g (nodeAt S X from) (nodeAt S X (r .node) ∷ []) (st cap (0 ∷ []) 0))
+      → (f : Segments) (k : ℕ) → SegmentsAt P L (q + 1) k f → st cap l n ≡ go f (nodeAt S X from) (nodeAt S X from ∷ []) (st cap (0 ∷ []) 0)
+  walk-found e cap l n w f k a = let y = d .front f k a in w (y .g) (y .j) (y .at) ∙ y .found e (nodeAt S X from) _

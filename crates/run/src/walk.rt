@@ -19,6 +19,8 @@ ghost use Rattle.run.specs.Asks.{Asked, AskSegments, DoneSegments, AskWa
 
 const CURRENT: u8 = 0x02;
 
+const END: u8 = 0x0A;
+
 const LENGTH: u8 = 0x1A;
 
 const KEPT: usize = 9;
@@ -284,7 +286,8 @@ fn eval_filter_expr(
     s.acc
 }
 
-// The query in a filter's code at s.q, with what is asked of it: "a query inside it is evaluated by the same rules".
+// The query in a filter's code at s.q, with what is asked of it: "a query inside it is evaluated by the same rules". Where names and indices lead to its end, or
+// to nothing, no walk is needed.
 fn eval_query(
     plan: &[u8],
     pool: &[u8],
@@ -299,16 +302,24 @@ fn eval_query(
     ensures { λ r. ⌜ DoneQuery (now (plan .entry)) (now (pool .entry)) (now (table .entry)) (now (text .entry)) root node s r ⌝ }
 {
     let q = s.q;
-    let k = plan[q];
-    let z = plans::past_query(plan, q + 1);
+    let from = leaves::begins(plan[q], root, node);
+    let r = visits::reach(plan, pool, table, text, from, q + 1);
+    let m = r.node;
+    let pc = r.pc;
+    let z = plans::past_query(plan, pc);
     let mode = plan[z];
     if mode == LENGTH {
         return answers::to_registers(table, text, s, mode, z, 0, 0);
     }
-    let from = leaves::begins(k, root, node);
+    if !r.some {
+        return answers::to_registers(table, text, s, mode, z, 0, 0);
+    }
+    if plan[pc] == END {
+        return answers::to_registers(table, text, s, mode, z, 1, m);
+    }
     let cap = leaves::cap_of(mode);
     let mut one = [0u32; 1];
-    let n = evaluate_segment(plan, pool, table, text, from, from, q + 1, &mut one, 0, cap);
+    let n = walk(plan, pool, table, text, from, m, pc, &mut one, 0, cap);
     let head = one[0];
     answers::to_registers(table, text, s, mode, z, n, head as usize)
 }

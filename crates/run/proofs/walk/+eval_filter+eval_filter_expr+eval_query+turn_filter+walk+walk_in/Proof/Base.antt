@@ -10,8 +10,6 @@ use Rattle.run.proofs.walk.eval_filter_expr.Reads as eval-filter-expr
 use Rattle.run.proofs.walk.eval_filter_expr.Kinds as eval-filter-expr-kinds
 use Rattle.run.proofs.walk.eval_query.Reads as eval-query
 use Rattle.run.proofs.walk.eval_query.Kinds as eval-query-kinds
-use Rattle.run.proofs.walk.evaluate_segment.Reads as evaluate-segment
-use Rattle.run.proofs.walk.evaluate_segment.Kinds as evaluate-segment-kinds
 use Rattle.run.proofs.walk.turn_filter.Reads as turn-filter
 use Rattle.run.proofs.walk.turn_filter.Kinds as turn-filter-kinds
 use Rattle.run.proofs.walk.walk.Reads as walk
@@ -31,9 +29,6 @@ abbrev pub μ-eval-filter-expr : Measures 4 eval-filter-expr-kinds.ps ℕ
 
 abbrev pub μ-eval-query : Measures 4 eval-query-kinds.ps ℕ
 μ-eval-query κs a = left (a .0 .now) (a .1 .1 .1 .1 .1 .1 .0 .q) + 1
-
-abbrev pub μ-evaluate-segment : Measures 5 evaluate-segment-kinds.ps ℕ
-μ-evaluate-segment κs a = left (a .0 .now) (a .1 .1 .1 .1 .1 .1 .0) + 6
 
 abbrev pub μ-turn-filter : Measures 6 turn-filter-kinds.ps ℕ
 μ-turn-filter κs a = left (a .0 .now) (a .1 .1 .1 .1 .1 .0 .c) + 3
@@ -61,12 +56,6 @@ eval-query-at t = and 4 eval-query-kinds.ps (is 4 eval-query-kinds.ps μ-eval-qu
 
 abbrev pub eval-query-below : ℕ → In 4 eval-query-kinds.ps
 eval-query-below t = and 4 eval-query-kinds.ps (falls 4 eval-query-kinds.ps _<_ μ-eval-query t) eval-query.Pre
-
-abbrev pub evaluate-segment-at : ℕ → In 5 evaluate-segment-kinds.ps
-evaluate-segment-at t = and 5 evaluate-segment-kinds.ps (is 5 evaluate-segment-kinds.ps μ-evaluate-segment t) evaluate-segment.Pre
-
-abbrev pub evaluate-segment-below : ℕ → In 5 evaluate-segment-kinds.ps
-evaluate-segment-below t = and 5 evaluate-segment-kinds.ps (falls 5 evaluate-segment-kinds.ps _<_ μ-evaluate-segment t) evaluate-segment.Pre
 
 abbrev pub turn-filter-at : ℕ → In 6 turn-filter-kinds.ps
 turn-filter-at t = and 6 turn-filter-kinds.ps (is 6 turn-filter-kinds.ps μ-turn-filter t) turn-filter.Pre

@@ -1,10 +1,10 @@
 -- The answers of `eval_filter_expr` in the walk's cycle of calls. The loop keeps that what is left of the filter's code gives the test's answer. Assumes nothing.
-use Rattle.run.proofs.walk.+eval_filter+eval_filter_expr+eval_query+evaluate_segment+turn_filter+walk+walk_in.Lts-eval_filter_expr as lts
+use Rattle.run.proofs.walk.+eval_filter+eval_filter_expr+eval_query+turn_filter+walk+walk_in.Lts-eval_filter_expr as lts
 use Prim.Native.Nat.{ℕ, _-_}
 use Rattle.run.proofs.walk.eval_filter_expr.Reads as eval-filter-expr
 use Rattle.run.proofs.walk.eval_query.Reads as eval-query
 use Rattle.steps.proofs.leaves.plain_expr.Reads as plain-expr-reads
-use Rattle.run.proofs.walk.+eval_filter+eval_filter_expr+eval_query+evaluate_segment+turn_filter+walk+walk_in.Proof.Base.{eval-filter-expr-at, eval-query-below}
+use Rattle.run.proofs.walk.+eval_filter+eval_filter_expr+eval_query+turn_filter+walk+walk_in.Proof.Base.{eval-filter-expr-at, eval-query-below}
 use native.Mathlib.Omega.{arith}
 use Rattle.walks.specs.Todos.{todo-start, todo-in, todo-end}
 use Rattle.run.specs.Loops.{InTest}
