@@ -713,11 +713,11 @@ static void edges(void) {
         r = run(query.at, query.n, 0, 0, 0, 0, table.at, table.n, text.at, 0, 4, 0);
         CHECK(r.refusal == 0 && r.first == 1);
     }
-    // the deepest plan, on a stack of 4 MiB, and one that is too deep
+    // the deepest plan, on a stack of 1 MiB, and one that is too deep
     nested(&deep_plan, 128);
     pthread_attr_t attributes;
     pthread_t thread;
-    pthread_attr_init(&attributes), pthread_attr_setstacksize(&attributes, 4 << 20);
+    pthread_attr_init(&attributes), pthread_attr_setstacksize(&attributes, 1 << 20);
     if (pthread_create(&thread, &attributes, deepest, 0) == 0) pthread_join(thread, 0);
     nested(&deep_plan, 129);
     CHECK(check_plan(deep_plan.at, deep_plan.n, pool.at, 0) == 11);

@@ -10,6 +10,7 @@ use tasks::Pos;
 use tasks::Task;
 use tasks::cells;
 use tasks::segments;
+use tasks::segments::KEPT;
 use tasks::turns;
 use text::bytes;
 use visits::Stop;
@@ -22,8 +23,6 @@ const CURRENT: u8 = 0x02;
 const END: u8 = 0x0A;
 
 const LENGTH: u8 = 0x1A;
-
-const KEPT: usize = 9;
 
 // As many tasks as a walk can have at once, of five cells each.
 const CELLS: usize = 960;

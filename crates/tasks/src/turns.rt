@@ -3,20 +3,14 @@ use crate::Pos;
 use crate::Task;
 use crate::cells;
 use crate::segments;
+use crate::segments::BELOW;
+use crate::segments::DOWN;
+use crate::segments::EACH;
+use crate::segments::SELECTORS;
 use slices::Walk;
 use steps::plans;
 ghost use lib.ListN.{length};
 ghost use Rattle.tasks.specs.Asks.{AskSuspend, DoneSuspend, AskTurn, DoneTurn};
-
-const SELECTORS: usize = 3;
-
-const BELOW: usize = 4;
-
-const DOWN: usize = 6;
-
-const UP: usize = 7;
-
-const EACH: usize = 8;
 
 // Task j waits as t, and above it comes the segment at pc on a node.
 pub fn suspend(
