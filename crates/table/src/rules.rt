@@ -4,7 +4,7 @@ ghost use mathlib.Core.Option.{some};
 ghost use mathlib.Core.Bool.{true};
 ghost use Prim.Native.Nat.{_<_, _+_};
 ghost use Rattle.definition.specs.Tables.{nodeCount, kindAt, kindMap, firstChild, goodPart, headRight, isFinite, rangeRight, payloadRight, noKey, memberRight, placeRight, nodeRight};
-ghost use Rattle.table.specs.Words.{Child, MembersBefore, Kept};
+ghost use Rattle.table.specs.Words.{Child, MembersBefore, Kept, AsciiIf};
 use crate::keys;
 use crate::records;
 use text::encoding;
@@ -34,14 +34,18 @@ const FLOAT_UNIT: u64 = 4503599627370496;
 
 const FLOAT_ONES: u64 = 2047;
 
-// Whether a part of the text lies inside it and is UTF-8.
-pub fn good_part(text: &[u8], at: u32, size: u32) -> bool
+// Whether a part of the text lies inside it and is UTF-8. Where the text is known to be ASCII, the part is not looked at.
+pub fn good_part(text: &[u8], at: u32, size: u32, ascii: bool) -> bool
+    requires { ⌜ AsciiIf «ascii» (now text) ⌝ }
     ensures { λ r. ⌜ r ≡ goodPart (now (text .entry)) at size ⌝ }
 {
     let start = at as usize;
     let end = start + size as usize;
     if text.len() < end {
         return false;
+    }
+    if ascii {
+        return true;
     }
     encoding::is_utf8(&text[start..end])
 }
@@ -90,8 +94,9 @@ pub fn range_right(table: &[u8], node: usize, first: usize) -> bool
 }
 
 // Bytes 16-23, as the kind asks; first is where the range of a container's children must begin.
-pub fn payload_right(table: &[u8], text: &[u8], node: usize, first: usize) -> bool
+pub fn payload_right(table: &[u8], text: &[u8], node: usize, first: usize, ascii: bool) -> bool
     requires { ⌜ (node < nodeCount (now table)) × (first ≡ firstChild (now table) node) ⌝ }
+    requires { ⌜ AsciiIf «ascii» (now text) ⌝ }
     ensures { λ r. ⌜ r ≡ payloadRight (now (table .entry)) (now (text .entry)) node ⌝ }
 {
     let k = records::kind(table, node);
@@ -109,6 +114,7 @@ pub fn payload_right(table: &[u8], text: &[u8], node: usize, first: usize) -> bo
             text,
             records::low_word(table, node),
             records::high_word(table, node),
+            ascii,
         );
     }
     if k == KIND_LIST {
@@ -140,10 +146,12 @@ fn member_right(
     from: usize,
     heads: &mut [u16],
     links: &mut [u16],
+    ascii: bool,
 ) -> bool
     requires { ⌜ Child (now table) node parent from ⌝ }
     requires { ⌜ (kindAt (now table) parent ≡ kindMap) × MembersBefore (now table) (now text) from node ⌝ }
     requires { ⌜ Kept (now table) (now text) node parent from (now heads) (now links) ⌝ }
+    requires { ⌜ AsciiIf «ascii» (now text) ⌝ }
     ensures { λ r. ⌜ r ≡ memberRight (now (table .entry)) (now (text .entry)) parent node ⌝ }
     ensures { λ r. ⌜ (r ≡ true → Kept (now (table .entry)) (now (text .entry)) (node + 1) parent from (now (heads .exit)) (now (links .exit))) ⌝ }
 {
@@ -151,6 +159,7 @@ fn member_right(
         text,
         records::key_start(table, node),
         records::key_length(table, node),
+        ascii,
     ) {
         return false;
     }
@@ -169,10 +178,12 @@ pub fn place_right(
     from: usize,
     heads: &mut [u16],
     links: &mut [u16],
+    ascii: bool,
 ) -> bool
     requires { ⌜ Child (now table) node parent from ⌝ }
     requires { ⌜ (kindAt (now table) parent ≡ kindMap → MembersBefore (now table) (now text) from node) ⌝ }
     requires { ⌜ Kept (now table) (now text) node parent from (now heads) (now links) ⌝ }
+    requires { ⌜ AsciiIf «ascii» (now text) ⌝ }
     ensures { λ r. ⌜ r ≡ placeRight (now (table .entry)) (now (text .entry)) node (some parent) ⌝ }
     ensures { λ r. ⌜ (r ≡ true → Kept (now (table .entry)) (now (text .entry)) (node + 1) parent from (now (heads .exit)) (now (links .exit))) ⌝ }
 {
@@ -182,7 +193,7 @@ pub fn place_right(
         return false;
     }
     if records::kind(table, parent) == KIND_MAP {
-        return member_right(table, text, node, parent, from, heads, links);
+        return member_right(table, text, node, parent, from, heads, links, ascii);
     }
     no_key(table, node)
 }
@@ -195,7 +206,7 @@ pub fn root_right(table: &[u8], text: &[u8]) -> bool
     if !head_right(table, 0) {
         return false;
     }
-    if !payload_right(table, text, 0, 1) {
+    if !payload_right(table, text, 0, 1, false) {
         return false;
     }
     if records::depth(table, 0) != 0 {

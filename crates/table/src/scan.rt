@@ -5,12 +5,13 @@ ghost use Rattle.definition.specs.Limits.{maxNodes};
 ghost use Rattle.definition.specs.Tables.{nodeCount, firstChild, leastWrong, byLeast};
 ghost use Rattle.definition.specs.TableOutcomes.{reportTable};
 ghost use Rattle.tables.specs.Least.{RightBelow};
-ghost use Rattle.table.specs.Words.{NodeAt, HasParent, CursorAt, ParentAt, Before, NodeFound};
+ghost use Rattle.table.specs.Words.{NodeAt, HasParent, CursorAt, ParentAt, Before, NodeFound, AsciiIf};
 ghost use Rattle.table.specs.Outcomes.{reported};
 use crate::TableChecked;
 use crate::buckets;
 use crate::records;
 use crate::rules;
+use text::encoding;
 
 const RECORD: usize = 24;
 
@@ -54,10 +55,12 @@ fn check_node(
     cursor: Cursor,
     heads: &mut [u16],
     links: &mut [u16],
+    ascii: bool,
 ) -> NodeChecked
     requires { ⌜ NodeAt (now table) node first ⌝ }
     requires { ⌜ Before (now table) (now text) node cursor (now heads) (now links) ⌝ }
     requires { ⌜ RightBelow (now table) (now text) node ⌝ }
+    requires { ⌜ AsciiIf «ascii» (now text) ⌝ }
     ensures { λ r. ⌜ NodeFound (now (table .entry)) (now (text .entry)) node (now (heads .exit)) (now (links .exit)) r ⌝ }
 {
     if first <= node {
@@ -66,13 +69,13 @@ fn check_node(
     if !rules::head_right(table, node) {
         return NodeChecked::Wrong;
     }
-    if !rules::payload_right(table, text, node, first) {
+    if !rules::payload_right(table, text, node, first, ascii) {
         return NodeChecked::Wrong;
     }
     let found = to_parent(table, node, cursor);
     let parent = found.parent;
     let from = found.from;
-    if !rules::place_right(table, text, node, parent, from, heads, links) {
+    if !rules::place_right(table, text, node, parent, from, heads, links, ascii) {
         return NodeChecked::Wrong;
     }
     NodeChecked::Next(found)
@@ -86,9 +89,11 @@ fn rest(
     root: Cursor,
     heads: &mut [u16],
     links: &mut [u16],
+    ascii: bool,
 ) -> TableChecked
     requires { ⌜ (start ≡ firstChild (now table) 1) × Before (now table) (now text) 1 root (now heads) (now links) ⌝ }
     requires { ⌜ (0 < nodeCount (now table)) × (nodeCount (now table) ≤ maxNodes) × RightBelow (now table) (now text) 1 ⌝ }
+    requires { ⌜ AsciiIf «ascii» (now text) ⌝ }
     ensures { λ r. ⌜ reported r ≡ reportTable (byLeast (leastWrong (now (table .entry)) (now (text .entry)) 0 (nodeCount (now (table .entry))))) ⌝ }
 {
     let count = table.len() / RECORD;
@@ -96,7 +101,7 @@ fn rest(
     let mut first = start;
     let mut node = 1;
     while node < count {
-        match check_node(table, text, node, first, cursor, heads, links) {
+        match check_node(table, text, node, first, cursor, heads, links, ascii) {
             NodeChecked::Next(found) => {
                 cursor = found;
                 first += records::child_count(table, node) as usize;
@@ -111,14 +116,15 @@ fn rest(
 }
 
 // The same, with room for chains of which none is begun.
-fn with_chains(table: &[u8], text: &[u8], start: usize, root: Cursor) -> TableChecked
+fn with_chains(table: &[u8], text: &[u8], start: usize, root: Cursor, ascii: bool) -> TableChecked
     requires { ⌜ (start ≡ firstChild (now table) 1) × CursorAt (now table) 1 root ⌝ }
     requires { ⌜ (0 < nodeCount (now table)) × (nodeCount (now table) ≤ maxNodes) × RightBelow (now table) (now text) 1 ⌝ }
+    requires { ⌜ AsciiIf «ascii» (now text) ⌝ }
     ensures { λ r. ⌜ reported r ≡ reportTable (byLeast (leastWrong (now (table .entry)) (now (text .entry)) 0 (nodeCount (now (table .entry))))) ⌝ }
 {
     let mut heads = [0u16; buckets::BUCKETS];
     let mut links = [0u16; MAX_MEMBERS];
-    rest(table, text, start, root, &mut heads, &mut links)
+    rest(table, text, start, root, &mut heads, &mut links, ascii)
 }
 
 // The whole pass.
@@ -139,5 +145,6 @@ pub fn scan(table: &[u8], text: &[u8]) -> TableChecked
             from: 1,
             end,
         },
+        encoding::short_ascii(text, table.len()),
     )
 }

@@ -17,6 +17,7 @@ use Rattle.utf8.specs.Bytes.{by-test, Lead, lead, after-one, after-two, after-t
 use Rattle.utf8.specs.Bytes.Lead.{one, two, three, four, wrong}
 use Rattle.utf8.specs.Encode.{utf8-ascii}
 use Rattle.text.specs.Chars.{tailsPass, tailsLength, lengthAfter, charLength, isAscii, asciiRun, stepLength}
+use Rattle.text.proofs.Ascii.{every-part}
 
 -- ---- first bytes
 
@@ -178,6 +179,10 @@ utf8-plain [] e = refl
 utf8-plain (b ∷ s) e =
     let t = and-eq-true-iff (isAscii b) (every isAscii s) .0 e in
     utf8-ascii b s (ltb-true b 0x80 (t .0)) ∙ utf8-plain s (t .1)
+
+-- and so is each part of it
+pub utf8-plain-part : (s : List ℕ) (at n : ℕ) → every isAscii s ≡ true → isUtf8 (part s at n) ≡ true
+utf8-plain-part s at n e = utf8-plain (part s at n) (every-part isAscii s at n e)
 
 -- a run of ASCII bytes is passed at once
 run-split : (n : ℕ) (s : List ℕ) → asciiRun n s ≡ true → isUtf8 s ≡ isUtf8 (drop n s)

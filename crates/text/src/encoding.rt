@@ -181,6 +181,16 @@ fn all_ascii(s: &[u8]) -> bool
     ascii4(s, s.len() - 4)
 }
 
+// Whether s has at most n bytes and is ASCII throughout. A longer s is not looked at.
+pub fn short_ascii(s: &[u8], n: usize) -> bool
+    ensures { λ r. ⌜ (r ≡ true → every isAscii (now (s .entry)) ≡ true) ⌝ }
+{
+    if n < s.len() {
+        return false;
+    }
+    all_ascii(s)
+}
+
 // Whether s is UTF-8.
 pub fn is_utf8(s: &[u8]) -> bool
     ensures { λ r. ⌜ r ≡ isUtf8 (now (s .entry)) ⌝ }

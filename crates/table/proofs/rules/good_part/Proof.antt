@@ -1,9 +1,10 @@
--- The part is tested once it is known to lie inside the text. Assumes nothing.
+-- A part of an ASCII text is UTF-8; one of another text is tested, once it is known to lie inside the text. Assumes nothing.
 use native.Mathlib.Omega.{arith}
 use mathlib.Core.Path.{refl, sym, _∙_}
 use Prim.Native.Nat.{_+_}
-use Rattle.tables.specs.Rights.{part-past}
+use Rattle.tables.specs.Rights.{part-past, part-inside}
 use Rattle.tables.specs.Keys.{part-tested}
+use Rattle.text.proofs.States.{utf8-plain-part}
 use borrow.Author.Needs.{needs}
 use Rattle.table.proofs.rules.good_part.Statement.{statement}
 use Rattle.table.proofs.rules.good_part.Tie as tie
@@ -13,6 +14,12 @@ add-end c = search needs
 
 returns : tie.Need-returns
 returns c = let a = c .before .before .args in sym (part-past (a .text .now) (a .at) (a .size) (omega arith))
+
+returns-2 : tie.Need-returns-2
+returns-2 c =
+    let s = c .before .before .before in
+    let a = s .args in
+    sym (part-inside (a .text .now) (a .at) (a .size) (omega arith) ∙ utf8-plain-part (a .text .now) (a .at) (a .size) (s .pre (c .if2 .taken)))
 
 sub-is-utf8 : tie.Need-sub-is-utf8
 sub-is-utf8 c = search needs
@@ -26,9 +33,9 @@ part-is-utf8-end c = search needs
 is-utf8-requires : tie.Need-is-utf8-requires
 is-utf8-requires c κs = search needs
 
-returns-2 : tie.Need-returns-2
-returns-2 c =
-    let a = c .before .before .before .before .args in
+returns-3 : tie.Need-returns-3
+returns-3 c =
+    let a = c .before .before .before .before .before .args in
     c .is-utf8 .ensures ∙ part-tested (a .text .now) (a .at) (a .size) (a .at + a .size) refl (omega arith)
 
 pub good-part-spec : {M : Type 1} → statement M
@@ -37,8 +44,9 @@ good-part-spec =
     (tie.spec
     add-end
     returns
+    returns-2
     sub-is-utf8
     part-is-utf8-start
     part-is-utf8-end
     is-utf8-requires
-    returns-2)
+    returns-3)

@@ -44,7 +44,7 @@ returns-2 c =
     let g = sym (c .before .before .before .before .good-part .ensures ∙ ap₂ (goodPart (a .text .now)) (c .before .before .before .before .before .before .key-start .ensures) (c .before .before .before .before .before .key-length .ensures)) ∙ not-false _ (c .before .before .before .if1 .left) in
     let w = c .before .before .high-word .ensures in
     let t = c .before .if2 .taken in
-    (c .key-differs .ensures ∙ ap (λ (x : ℕ). keyDiffers (a .table .now) (a .text .now) (a .node) x (a .node - x)) (s .pre .0 .from-is) ∙ sym (member-good (a .table .now) (a .text .now) (a .node) (a .parent) g), λ _. kept-plain (a .table .now) (a .text .now) (a .node) (a .parent) (a .from) (a .heads .now) (a .links .now) (s .pre .1 .1) (λ l. let m = l .many in omega arith))
+    (c .key-differs .ensures ∙ ap (λ (x : ℕ). keyDiffers (a .table .now) (a .text .now) (a .node) x (a .node - x)) (s .pre .0 .from-is) ∙ sym (member-good (a .table .now) (a .text .now) (a .node) (a .parent) g), λ _. kept-plain (a .table .now) (a .text .now) (a .node) (a .parent) (a .from) (a .heads .now) (a .links .now) (s .pre .1 .1 .0) (λ l. let m = l .many in omega arith))
 
 joins-chain-requires : tie.Need-joins-chain-requires
 joins-chain-requires c κs =
@@ -56,7 +56,7 @@ joins-chain-requires c κs =
     let t = c .before .before .if2 .left in
     let n = s .pre .0 .node-in in
     let m = s .pre .0 .small in
-    (record { inside = k; from-le = s .pre .0 .from-le; few = s .pre .1 .0 .1 .few; small = omega arith }, s .pre .1 .1 .chained (record { is-map = s .pre .1 .0 .0; many = omega arith }))
+    (record { inside = k; from-le = s .pre .0 .from-le; few = s .pre .1 .0 .1 .few; small = omega arith }, s .pre .1 .1 .0 .chained (record { is-map = s .pre .1 .0 .0; many = omega arith }))
 
 same-length : tie.Need-same-length
 same-length c = search needs

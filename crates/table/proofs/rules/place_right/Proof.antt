@@ -63,7 +63,7 @@ returns-3 c =
     let s = c .before .before .before .before .before .before .before .before .before .before in
     let a = s .args in
     let t = c .before .if2 .left in
-    (c .no-key .ensures ∙ sym (place-plain (a .table .now) (a .text .now) (a .node) (a .parent) (omega arith) (omega arith)), λ _. kept-plain (a .table .now) (a .text .now) (a .node) (a .parent) (a .from) (a .heads .now) (a .links .now) (s .pre .1 .1) (λ l. let m = l .is-map in omega arith))
+    (c .no-key .ensures ∙ sym (place-plain (a .table .now) (a .text .now) (a .node) (a .parent) (omega arith) (omega arith)), λ _. kept-plain (a .table .now) (a .text .now) (a .node) (a .parent) (a .from) (a .heads .now) (a .links .now) (s .pre .1 .1 .0) (λ l. let m = l .is-map in omega arith))
 
 pub place-right-spec : {M : Type 1} → statement M
 place-right-spec =

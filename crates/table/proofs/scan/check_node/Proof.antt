@@ -44,7 +44,7 @@ place-right-requires c κs =
     let a = s .args in
     let q = c .before .before .to-parent .result in
     let h = c .before .before .to-parent .ensures in
-    (found-child (a .table .now) (a .node) q h (s .pre .0 .node-in) (s .pre .0 .small), (found-members (a .table .now) (a .node) q h (a .text .now) (s .pre .0 .node-in) (s .pre .1 .1), kept-moved (a .table .now) (a .text .now) (a .node) (a .cursor) q (a .heads .now) (a .links .now) (s .pre .1 .0) h))
+    (found-child (a .table .now) (a .node) q h (s .pre .0 .node-in) (s .pre .0 .small), (found-members (a .table .now) (a .node) q h (a .text .now) (s .pre .0 .node-in) (s .pre .1 .1 .0), (kept-moved (a .table .now) (a .text .now) (a .node) (a .cursor) q (a .heads .now) (a .links .now) (s .pre .1 .0) h, s .pre .1 .1 .1)))
 
 same-length : tie.Need-same-length
 same-length c = search needs

@@ -16,23 +16,23 @@ use Rattle.table.proofs.scan.rest.Statement.{statement}
 use Rattle.table.proofs.scan.rest.Tie as tie
 
 abbrev Inv-loop : tie.InvT-loop
-Inv-loop table text start heads₀ links₀ count cursor₀ first₀ node₀ heads links cursor first node =
+Inv-loop table text start heads₀ links₀ ascii count cursor₀ first₀ node₀ heads links cursor first node =
     (first ≡ firstChild table node) × Before table text node cursor heads links × RightBelow table text node × (length heads ≡ length heads₀) × (length links ≡ length links₀)
 
 abbrev μ-loop : tie.MeasureT-loop
-μ-loop table text start heads₀ links₀ count cursor₀ first₀ node₀ heads links cursor first node = count - node
+μ-loop table text start heads₀ links₀ ascii count cursor₀ first₀ node₀ heads links cursor first node = count - node
 
 loop-holds : tie.Need-loop-holds Inv-loop μ-loop
 loop-holds c =
     let p = c .before .before .before .before .pre in
-    (p .0 .0, p .0 .1, p .1 .2, refl, refl)
+    (p .0 .0, p .0 .1, p .1 .0 .2, refl, refl)
 
 check-node-requires : tie.Need-check-node-requires Inv-loop μ-loop
 check-node-requires c κs =
     let s = c .before .before .before .before .before .before .before .before in
     let a = s .args in
     let l = c .before .before .before .loop in
-    (record { node-in = omega arith; first-is = l .inv .0; first-in = omega (arith, l .inv .0, first-inside (a .table .now) (a .text .now) (l .node) (l .inv .2) (s .pre .1 .0)); small = s .pre .1 .1 }, (l .inv .1, l .inv .2))
+    (record { node-in = omega arith; first-is = l .inv .0; first-in = omega (arith, l .inv .0, first-inside (a .table .now) (a .text .now) (l .node) (l .inv .2) (s .pre .1 .0 .0)); small = s .pre .1 .0 .1 }, (l .inv .1, (l .inv .2, s .pre .1 .1)))
 
 enum-known-found : tie.Need-enum-known-found Inv-loop μ-loop
 enum-known-found c = search needs
@@ -50,7 +50,7 @@ add-first c =
     let l = c .before .before .before .before .before .before .before .before .before .before .before .before .loop in
     let z = c .before .before .before .before .before .before .before .before .check-node in
     let v = subst (NodeFound (a .table .now) (a .text .now) (l .node) (z .last .1 .1 .1 .1 .1 .0) (z .last .1 .1 .1 .1 .1 .1 .0)) (c .before .before .found .given .1) (z .ensures) in
-    omega (arith, next-first (a .table .now) (a .text .now) (l .node) (l .first) (c .child-count .result) (l .inv .0) (c .child-count .ensures), first-inside (a .table .now) (a .text .now) (l .node + 1) (right-next (a .table .now) (a .text .now) (l .node) (l .inv .2) (v .0)) (s .pre .1 .0))
+    omega (arith, next-first (a .table .now) (a .text .now) (l .node) (l .first) (c .child-count .result) (l .inv .0) (c .child-count .ensures), first-inside (a .table .now) (a .text .now) (l .node + 1) (right-next (a .table .now) (a .text .now) (l .node) (l .inv .2) (v .0)) (s .pre .1 .0 .0))
 
 add-node : tie.Need-add-node Inv-loop μ-loop
 add-node c = let t = c .before .before .before .before .before .before .before .before .before .before .before .loop-test .taken in omega arith

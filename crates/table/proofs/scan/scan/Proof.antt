@@ -33,12 +33,16 @@ cast-end c = search needs
 add-end : tie.Need-add-end
 add-end c = search needs
 
+short-ascii-requires : tie.Need-short-ascii-requires
+short-ascii-requires c κs = search needs
+
 with-chains-requires : tie.Need-with-chains-requires
 with-chains-requires c κs =
-    let s = c .before .before .before .before .before in
+    let s = c .before .before .before .before .before .before in
     let a = s .args in
-    let r = sym (c .before .before .root-right .ensures) ∙ not-false _ (c .before .if1 .left) in
-    ((root-first (a .table .now) (c .child-count .result) (c .child-count .ensures), root-cursor (a .table .now) (c .child-count .result) (c .child-count .ensures)), (s .pre .0, s .pre .1, root-below (a .table .now) (a .text .now) r))
+    let n = c .before .child-count in
+    let r = sym (c .before .before .before .root-right .ensures) ∙ not-false _ (c .before .before .if1 .left) in
+    ((root-first (a .table .now) (n .result) (n .ensures), root-cursor (a .table .now) (n .result) (n .ensures)), ((s .pre .0, s .pre .1, root-below (a .table .now) (a .text .now) r), c .short-ascii .ensures))
 
 returns-2 : tie.Need-returns-2
 returns-2 c = search needs
@@ -52,5 +56,6 @@ scan-spec =
     child-count-requires
     cast-end
     add-end
+    short-ascii-requires
     with-chains-requires
     returns-2)
