@@ -3,6 +3,7 @@ use Prim.Native.Nat.{ℕ, _+_, _-_, _≤_, _<_}
 use mathlib.Core.Path.{_≡_}
 use mathlib.Core.List.{List, [], _∷_}
 use lib.ListN.{length}
+use Rattle.definition.specs.Limits.{maxNodes}
 use Rattle.definition.specs.Values.{Json}
 use Rattle.definition.specs.Forms.{Segments}
 use Rattle.definition.specs.Plans.{codeSegments}
@@ -36,6 +37,13 @@ pub record InNumbers (i e cap : ℕ) (l₀ : List ℕ) (a₀ : ℕ) (l : List �
   pub same : length l ≡ length l₀
   pub room : a ≤ cap + 1
   pub again : emit (numbersFrom j (e - j)) (st cap l a) ≡ emit (numbersFrom i (e - i)) (st cap l₀ a₀)
+
+-- the numbers that are the places of a walk
+pub record InWalked (cap : ℕ) (l₀ : List ℕ) (a₀ : ℕ) (w₀ : Walk) (l : List ℕ) (a : ℕ) (w : Walk) : Type 0 where
+  pub same : length l ≡ length l₀
+  pub room : a ≤ cap + 1
+  pub inside : Inside maxNodes w
+  pub again : emit (walked w) (st cap l a) ≡ emit (walked w₀) (st cap l₀ a₀)
 
 -- the nodes of a range
 pub record InEach (P L S X : List ℕ) (i e rest cap : ℕ) (l₀ : List ℕ) (a₀ : ℕ) (l : List ℕ) (a j : ℕ) : Type 0 where

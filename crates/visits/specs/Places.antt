@@ -9,12 +9,15 @@ use borrow.Author.Tests.{ltb-true, ltb-false}
 use Rattle.definition.specs.Limits.{maxNodes}
 use Rattle.definition.specs.Values.{Json}
 use Rattle.definition.specs.Forms.{Segments}
+use Rattle.definition.specs.Forms.Segments.{end}
 use Rattle.definition.specs.Tables.{nodeCount, nodeAt, depthAt, kindAt, kindList}
+use Rattle.tables.specs.Accepted.{Accepted}
 use Rattle.slices.specs.Walks.{moved, placesFrom, walked, Within, Inside, Next}
 use Rattle.slices.specs.Laws.{within-at, within-next, step-down, step-up, inside-at}
 use Rattle.slices.specs.declared.Walk.{Walk}
-use Rattle.walks.specs.States.{State, st, push, emit}
+use Rattle.walks.specs.States.{State, st, push, emit, emit-bound}
 use Rattle.walks.specs.Emits.{go}
+use Rattle.walks.specs.Steps.{segment-end}
 use Rattle.walks.specs.Ranges.{picked, picked-step, picked-end}
 use Rattle.visits.specs.Loops.{InPassed}
 use Rattle.visits.specs.Visits.{numbersFrom, goes, Deep, Further, AskPlaced, DonePlaced}
@@ -34,6 +37,18 @@ numbers-end j e s l = let z : 0 ≡ e - j = omega arith in ap (λ (c : ℕ). emi
 pub push-bound : (m : ℕ) (l l′ : List ℕ) (a r x : ℕ) → st m l′ r ≡ push x (st m l a) → r ≤ m + 1
 unfolding push
 push-bound m l l′ a r x e = let n = ap (λ (s : State). s .next) e in omega arith
+
+pub emit-room : (m : ℕ) (l l′ : List ℕ) (a r : ℕ) (xs : List ℕ) → st m l′ r ≡ emit xs (st m l a) → a ≤ m + 1 → r ≤ m + 1
+emit-room m l l′ a r xs e h = let n = ap (λ (s : State). s .next) e in omega (arith, emit-bound xs (st m l a) h)
+
+-- the places of a walk: the first, and none
+pub walked-step : (w w′ : Walk) (s s′ : State) → Next w w′ → s′ ≡ push (w .at) s → emit (walked w′) s′ ≡ emit (walked w) s
+unfolding emit
+walked-step w w′ s s′ n d = ap (emit (walked w′)) d ∙ ap (λ (ks : List ℕ). emit ks s) (sym (n .places))
+
+pub walked-end : (w : Walk) (s : State) → w .left ≤ 0 → s ≡ emit (walked w) s
+unfolding emit walked placesFrom
+walked-end w s l = let z : w .left ≡ 0 = omega arith in rw z
 
 -- ---- a walk without its first place
 
@@ -82,6 +97,19 @@ goes-step f R S X w w′ s s′ n d = ap (goes f R S X (walked w′)) d ∙ ap (
 pub goes-end : (f : Segments) (R : Json) (S X : List ℕ) (w : Walk) (s : State) → w .left ≤ 0 → s ≡ goes f R S X (walked w) s
 unfolding goes walked placesFrom
 goes-end f R S X w s l = let z : w .left ≡ 0 = omega arith in rw z
+
+-- at the end of a query the places themselves are emitted
+module _ (f : Segments) (R : Json) (S X : List ℕ) (tab : Accepted S X) (e : f ≡ end) where
+  emit-by : (down : Bits) (step l at : ℕ) (s : State) → Within (nodeCount S) down step at l → emit (placesFrom down step at l) s ≡ goes f R S X (placesFrom down step at l) s
+  unfolding emit goes placesFrom
+  emit-by down step zero at s w = refl
+  emit-by down step (suc l) at s w =
+      emit-by down step l (moved down step at) (push at s) (within-next (nodeCount S) down step at l w)
+      ∙ ap (goes f R S X (placesFrom down step (moved down step at) l)) (segment-end S X tab f R at (within-at (nodeCount S) down step at l w) s e)
+
+  pub goes-places : (w : Walk) (s : State) → Inside (nodeCount S) w → emit (walked w) s ≡ goes f R S X (walked w) s
+  unfolding walked
+  goes-places w s i = emit-by (w .down) (w .step) (w .left) (w .at) s (i .within)
 
 pub deep-step : (S : List ℕ) (h : ℕ) (w w′ : Walk) → Next w w′ → Deep S h (walked w) → Deep S h (walked w′)
 unfolding Deep

@@ -11,15 +11,15 @@ use Rattle.definition.specs.Tables.{nodeCount}
 use Rattle.tables.specs.Accepted.{Accepted}
 use Rattle.slices.specs.Walks.{walked}
 use Rattle.slices.specs.declared.Walk.{Walk}
-use Rattle.walks.specs.States.{st, push}
+use Rattle.walks.specs.States.{st, push, emit}
 use Rattle.walks.specs.Steps.{one-of, segment-end}
 use Rattle.walks.specs.Items.{SegmentsAt, segments-in, is-end}
 use Rattle.visits.specs.declared.Reached.{Reached}
 use Rattle.visits.specs.declared.Visited.{Visited}
-use Rattle.visits.specs.Visits.{Query, over, goes, DoneReach, DoneVisit, DoneEach, DonePlaces, Further}
+use Rattle.visits.specs.Visits.{Query, over, goes, DoneReach, DoneVisit, DoneEach, AskPlaces, DonePlaces, Further}
 use Rattle.visits.specs.Loops.{InEach, InPlaces}
 use Rattle.visits.specs.Overs.{over-step, over-end, over-full, goes-full}
-use Rattle.visits.specs.Places.{push-bound, goes-step, goes-end, deep-step}
+use Rattle.visits.specs.Places.{push-bound, emit-room, goes-places, goes-step, goes-end, deep-step}
 use Rattle.visits.specs.Fronts.{never}
 
 -- ---- one node
@@ -122,21 +122,32 @@ module _ {P L S X : List ℕ} {i e rest cap : ℕ} {l₀ : List ℕ} {a₀ : ℕ
 
 -- ---- the places of a slice
 
+-- nothing is left
+places-done : {P L S X : List ℕ} {rest cap : ℕ} {l₀ : List ℕ} {a₀ : ℕ} {w₀ : Walk} {l : List ℕ} {a : ℕ} {w : Walk} → a ≤ cap + 1
+    → ((f : Segments) (k : ℕ) → SegmentsAt P L rest k f → (R : Json) → st cap l a ≡ goes f R S X (walked w₀) (st cap l₀ a₀)) → DonePlaces P L S X w₀ rest cap l₀ a₀ l (record { walk = w; at = a; node = 0; pc = rest; more = false })
+places-done b h =
+    record {
+      room = b;
+      ended = λ u. h;
+      some = λ u. absurd (never u);
+      fewer = λ u. absurd (never u);
+      inside = λ u. absurd (never u);
+      steady = λ u. absurd (never u);
+      way = λ u. absurd (never u);
+      deep = λ u. absurd (never u);
+      again = λ u. absurd (never u);
+      paused = λ u. absurd (never u);
+    }
+
+-- at the end of a query the places themselves are emitted
+pub places-last : {P L S X : List ℕ} {w : Walk} {rest len at cap : ℕ} → AskPlaces P L S X w rest len at cap → getD P rest 0 ≡ 0x0A → (l l′ : List ℕ) (r : ℕ) → st cap l′ r ≡ emit (walked w) (st cap l at)
+    → DonePlaces P L S X w rest cap l at l′ (record { walk = w; at = r; node = 0; pc = rest; more = false })
+places-last {P} {L} {S} {X} {w} {rest} {len} {at} {cap} a n l l′ r e =
+    places-done (emit-room cap l l′ at r (walked w) e (a .room)) (λ f k b R. e ∙ goes-places f R S X (a .given .tab) (is-end P rest k f (b .holds) n) w (st cap l at) (a .inside))
+
 module _ {P L S X : List ℕ} {rest cap : ℕ} {l₀ : List ℕ} {a₀ : ℕ} {w₀ : Walk} {l : List ℕ} {a : ℕ} {w : Walk} (t : InPlaces P L S X rest cap l₀ a₀ w₀ l a w) where
   done-all : ((f : Segments) (k : ℕ) → SegmentsAt P L rest k f → (R : Json) → st cap l a ≡ goes f R S X (walked w) (st cap l a)) → DonePlaces P L S X w₀ rest cap l₀ a₀ l (record { walk = w; at = a; node = 0; pc = rest; more = false })
-  done-all h =
-      record {
-        room = t .room;
-        ended = λ u f k b R. h f k b R ∙ t .again f k b R;
-        some = λ u. absurd (never u);
-        fewer = λ u. absurd (never u);
-        inside = λ u. absurd (never u);
-        steady = λ u. absurd (never u);
-        way = λ u. absurd (never u);
-        deep = λ u. absurd (never u);
-        again = λ u. absurd (never u);
-        paused = λ u. absurd (never u);
-      }
+  done-all h = places-done (t .room) (λ f k b R. h f k b R ∙ t .again f k b R)
 
   pub places-full : cap < a → length l₀ ≤ cap + 1 → DonePlaces P L S X w₀ rest cap l₀ a₀ l (record { walk = w; at = a; node = 0; pc = rest; more = false })
   places-full h n = done-all (λ f k b R. sym (goes-full f R S X (walked w) cap l a h (t .room) (omega (arith, t .same))))

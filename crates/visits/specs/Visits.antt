@@ -43,6 +43,13 @@ pub record AskNumbers (len e at cap : ℕ) : Type 0 where
   pub small : cap < capLimit
   pub few : e ≤ maxNodes
 
+-- the places of a walk go into the next of len places
+pub record AskWalked (len : ℕ) (w : Walk) (at cap : ℕ) : Type 0 where
+  pub room : at ≤ cap + 1
+  pub wide : len ≤ cap + 1
+  pub small : cap < capLimit
+  pub inside : Inside maxNodes w
+
 -- c numbers from j on
 unfoldable pub numbersFrom : ℕ → ℕ → List ℕ
 numbersFrom j zero = []

@@ -10,9 +10,9 @@ ghost use mathlib.Core.Path.{_≡_};
 ghost use Prim.Native.Nat.{_-_, _<_};
 ghost use lib.ListN.{length};
 ghost use Rattle.definition.specs.Limits.{maxNodes};
-ghost use Rattle.slices.specs.Walks.{Inside};
+ghost use Rattle.slices.specs.Walks.{Inside, walked};
 ghost use Rattle.walks.specs.States.{st, push as pushed, emit};
-ghost use Rattle.visits.specs.Visits.{AskPush, AskReach, DoneReach, AskSingular, DoneSingular, AskVisit, DoneVisit, AskEach, DoneEach, AskPlaces, DonePlaces, AskPlaced, DonePlaced, AskNumbers, numbersFrom, AskContainer, DoneContainer, Further};
+ghost use Rattle.visits.specs.Visits.{AskPush, AskReach, DoneReach, AskSingular, DoneSingular, AskVisit, DoneVisit, AskEach, DoneEach, AskPlaces, DonePlaces, AskPlaced, DonePlaced, AskNumbers, numbersFrom, AskWalked, AskContainer, DoneContainer, Further};
 
 const CHILD: u8 = 0x03;
 
@@ -242,6 +242,20 @@ pub fn further(w: Walk) -> Walk
     }
 }
 
+// The places of a walk, one after the other.
+fn push_places(list: &mut [u32], walk: Walk, at: usize, cap: usize) -> usize
+    requires { ⌜ AskWalked (length (now list)) walk at cap ⌝ }
+    ensures { λ r. ⌜ st cap (now (list .exit)) r ≡ emit (walked walk) (st cap (now (list .entry)) at) ⌝ }
+{
+    let mut a = at;
+    let mut w = walk;
+    while 0 < w.left {
+        a = push(list, a, w.at, cap);
+        w = further(w);
+    }
+    a
+}
+
 // The nodes that are the places of a walk, with the query at rest, up to the first that needs more.
 pub fn each_place(
     plan: &[u8],
@@ -257,6 +271,16 @@ pub fn each_place(
     requires { ⌜ AskPlaces (now plan) (now pool) (now table) (now text) walk rest (length (now list)) at cap ⌝ }
     ensures { λ r. ⌜ DonePlaces (now (plan .entry)) (now (pool .entry)) (now (table .entry)) (now (text .entry)) walk rest cap (now (list .entry)) at (now (list .exit)) r ⌝ }
 {
+    if plan[rest] == END {
+        let b = push_places(list, walk, at, cap);
+        return Halt {
+            walk,
+            at: b,
+            node: 0,
+            pc: rest,
+            more: false,
+        };
+    }
     let mut a = at;
     let mut w = walk;
     while 0 < w.left {
