@@ -11,28 +11,36 @@ use Rattle.definition.specs.Bytes.{number}
 use Rattle.definition.specs.Limits.{maxNodes}
 use Rattle.definition.specs.Values.{Json}
 use Rattle.definition.specs.Forms.{Segments, Selectors, Selector, manySelectors}
+use Rattle.definition.specs.Forms.Segments.{descendant}
 use Rattle.definition.specs.Forms.Selectors.{one, and}
 use Rattle.definition.specs.Forms.Selector.{name, index, slice, wildcard, filter}
-use Rattle.definition.specs.Plans.{codeSelectors, codeSelector, poolSelectors, poolSelector}
+use Rattle.definition.specs.Plans.{codeSegments, codeSelectors, codeSelector, poolSelectors, poolSelector}
 use Rattle.definition.specs.Tables.{nodeCount, nodeAt, kindAt, kindList, childCount}
 use Rattle.definition.specs.Evaluation.{evalSelectors, evalSelector}
 use Rattle.tables.specs.Accepted.{Accepted}
 use Rattle.slices.specs.Walks.{walked}
 use Rattle.slices.specs.declared.Walk.{Walk}
 use Rattle.text.specs.Words.{Word}
+use Rattle.walks.specs.Bytes.{holds-head}
 use Rattle.walks.specs.States.{State}
 use Rattle.walks.specs.Emits.{go, go-nil}
 use Rattle.walks.specs.Ranges.{Range, picked, picked-end, select-slice, select-slice-else}
-use Rattle.walks.specs.Items.{SegmentsAt, SelectorsAt, Parts, last, front, Sliced, Filtered, segments-in, selector-some, many-small, many-some, selectorKind, kind-of-selector}
+use Rattle.walks.specs.Items.{SegmentsAt, SelectorsAt, SelectorAt, Parts, last, front, Sliced, Filtered, segments-in, selector-some, many-small, many-some, selectorKind, kind-of-selector}
 use Rattle.equal.specs.declared.members.Member.{Member}
 use Rattle.equal.specs.declared.members.Member.the-variants.{At, Nothing as Absent}
 use Rattle.steps.specs.Ends.{DoneSkip, DoneNext}
 use Rattle.steps.specs.Leaves.{memberNodes, AskWalk, DoneWalk}
 use Rattle.tasks.specs.Tasks.{Standing, Alone}
 
+-- the first byte of a descendant segment
+pub descendant-byte : (P L : List ℕ) (p k : ℕ) (ss : Selectors) (q : Segments) → SegmentsAt P L p k (descendant ss q) → getD P p 0 ≡ 4
+unfolding codeSegments
+descendant-byte P L p k ss q a = holds-head P p _ _ (a .holds) .1
+
 -- ---- the selectors of a segment
 
-segments-at : {P L : List ℕ} {p k : ℕ} {f : Segments} (p′ : ℕ) → p′ ≡ p → SegmentsAt P L p k f → SegmentsAt P L p′ k f
+-- the same segments at the same place
+pub segments-at : {P L : List ℕ} {p k : ℕ} {f : Segments} (p′ : ℕ) → p′ ≡ p → SegmentsAt P L p k f → SegmentsAt P L p′ k f
 segments-at p′ e a = rw e a
 
 selectors-at : {P L : List ℕ} {p k : ℕ} {ss : Selectors} (p′ : ℕ) → p′ ≡ p → SelectorsAt P L p k ss → SelectorsAt P L p′ k ss
@@ -118,8 +126,11 @@ selector-low (slice a b c) = omega arith
 selector-low wildcard = omega arith
 selector-low (filter t) = omega arith
 
+pub selector-least : (P L : List ℕ) (p k : ℕ) (x : Selector) → SelectorAt P L p k x → 5 ≤ getD P p 0
+selector-least P L p k x a = omega (arith, kind-of-selector P p k x (a .holds), selector-low x)
+
 pub kind-low : {P L : List ℕ} {p rest : ℕ} {x : Selector} {q : Segments} {k k′ : ℕ} → Alone P L p rest x q k k′ → 5 ≤ getD P p 0
-kind-low {P = P} {p = p} {x = x} {k = k} a = omega (arith, kind-of-selector P p k x (a .selector .holds), selector-low x)
+kind-low {P = P} {L = L} {p = p} {x = x} {k = k} a = selector-least P L p k x (a .selector)
 
 selector-high : (x : Selector) → selectorKind x ≤ 9
 unfolding selectorKind

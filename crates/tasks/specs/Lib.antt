@@ -5,4 +5,6 @@ pub mod Asks
 pub mod Laws
 pub mod Stacks
 pub mod Selects
+pub mod Flats
+pub mod FlatLaws
 pub mod Turns

@@ -21,12 +21,12 @@ use Rattle.tables.specs.Accepted.{Accepted}
 use Rattle.definition.specs.Slices.{goesOn, elementAt, walkPlaces, slicePlaces}
 use Rattle.slices.specs.Walks.{Inside, walked, placesFrom, moved}
 use Rattle.slices.specs.declared.Walk.{Walk}
-use Rattle.walks.specs.States.{State, st, emit, emit-bound}
+use Rattle.walks.specs.States.{State, st, emit}
 use Rattle.walks.specs.Nodes.{nodes, nodes-none}
 use Rattle.walks.specs.Emits.{go, go-nil}
 use Rattle.walks.specs.Steps.{span, one-of, kept, below, span-one, span-kept, segment-child, segment-descendant}
 use Rattle.walks.specs.Ranges.{Range, range-of, child-at, range-in, picked, picked-end, select-wildcard, select-filter, descent-done}
-use Rattle.walks.specs.Items.{SegmentsAt, Parts, Filtered, Sliced, is-end, is-wildcard, is-filter, is-slice, many-small}
+use Rattle.walks.specs.Items.{SegmentsAt, SelectorAt, Parts, Filtered, Sliced, is-end, is-wildcard, is-filter, is-slice, many-small}
 use Rattle.equal.specs.declared.members.Member.{Member}
 use Rattle.equal.specs.declared.members.Member.the-variants.{At, Nothing as Absent}
 use Rattle.steps.specs.Ends.{DoneSkip}
@@ -34,6 +34,7 @@ use Rattle.steps.specs.Leaves.{DoneOne, DoneWalk}
 use Rattle.text.specs.Words.{Word}
 use Rattle.visits.specs.Visits.{Given, over, numbersFrom, goes, Deep, DonePlaced, DoneContainer}
 use Rattle.visits.specs.Overs.{over-step, over-end, over-numbers, over-passed}
+use Rattle.visits.specs.Places.{emit-room}
 use Rattle.tasks.specs.declared.Task.{Task}
 use Rattle.tasks.specs.declared.Pos.{Pos}
 use Rattle.tasks.specs.Cells.{taskAt, cellLimit, Small, Put}
@@ -72,7 +73,7 @@ module _ (P : List ℕ) (i e rest cap : ℕ) (l l′ ts ts′ : List ℕ) (h at 
   pub spread-ended : (a : ℕ) → at ≤ cap + 1 → getD P rest 0 ≡ 0x0A → st cap l′ a ≡ emit (numbersFrom i (e - i)) (st cap l at) → DoneSpread P i e rest cap l l′ ts ts h at (record { h = h; at = a })
   spread-ended a b z d =
       record {
-        room = let x = ap (λ (s : State). s .next) d in omega (arith, emit-bound (numbersFrom i (e - i)) (st cap l at) b);
+        room = emit-room cap l l′ at a (numbersFrom i (e - i)) d b;
         high = omega arith;
         falls = omega arith;
         goes = λ L S X tab range f k q low u R ws s.
@@ -168,10 +169,14 @@ range-nothing P L S X g node p rest h z low x q k k′ a R s = by (eqb (getD P p
         sym (go-nil q R s) ∙ ap (λ (ns : List Json). go q R (keep (λ m. evalTest (y .t) R m) ns) s) (sym none) ∙ select-filter S X tab node h _ _ r q R s x (y .t) (y .made)
 
 -- a wildcard selects the range of children
+pub wildcard-range : (P L S X : List ℕ) (tab : Accepted S X) (node p i n : ℕ) (h : node < nodeCount S) → Range S node i n → getD P p 0 ≡ 8 → (x : Selector) (q : Segments) (k : ℕ) → SelectorAt P L p k x → (R : Json) (s : State)
+    → over q R one-of S X i (i + n) s ≡ go q R (evalSelector x R (nodeAt S X node)) s
+wildcard-range P L S X tab node p i n h r e x q k a R s =
+    over-range q R one-of S X i n s ∙ span-one q R S X i n s ∙ select-wildcard S X tab node h i n r q R s x (is-wildcard P p k x (a .holds) e .0)
+
 pub wildcard-spread : (P L S X : List ℕ) (tab : Accepted S X) (node p rest i n : ℕ) (h : node < nodeCount S) → Range S node i n → getD P p 0 ≡ 8 → (x : Selector) (q : Segments) (k k′ : ℕ) → Alone P L p rest x q k k′ → (R : Json) (s : State)
     → over q R one-of S X i (i + n) s ≡ go q R (evalSelector x R (nodeAt S X node)) s
-wildcard-spread P L S X tab node p rest i n h r e x q k k′ a R s =
-    over-range q R one-of S X i n s ∙ span-one q R S X i n s ∙ select-wildcard S X tab node h i n r q R s x (is-wildcard P p k x (a .selector .holds) e .0)
+wildcard-spread P L S X tab node p rest i n h r e x q k k′ a R s = wildcard-range P L S X tab node p i n h r e x q k (a .selector) R s
 
 -- a filter keeps some of them
 module _ (P L S X : List ℕ) (g : Given P L S X) (node p rest i n h : ℕ) (l : node < nodeCount S) (r : Range S node i n) where

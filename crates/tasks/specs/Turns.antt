@@ -20,8 +20,6 @@ use Rattle.slices.specs.declared.Walk.{Walk}
 use Rattle.walks.specs.States.{State, st}
 use Rattle.walks.specs.Emits.{go}
 use Rattle.walks.specs.Steps.{one-of, below, segment-descendant, selectors-last, selectors-step}
-use Rattle.definition.specs.Plans.{codeSegments}
-use Rattle.walks.specs.Bytes.{holds-head}
 use Rattle.walks.specs.Items.{SegmentsAt, segments-in}
 use Rattle.steps.specs.Ends.{AskNext, DoneNext}
 use Rattle.visits.specs.Visits.{Given, Query, AskEach, AskPlaces, over, goes, Deep, Onward, Paused, DoneEach, DonePlaces, DoneContainer, Further}
@@ -30,14 +28,16 @@ use Rattle.visits.specs.declared.Stop.{Stop}
 use Rattle.visits.specs.declared.Halt.{Halt}
 use Rattle.tasks.specs.declared.Task.{Task}
 use Rattle.tasks.specs.declared.Pos.{Pos}
+use Rattle.tasks.specs.declared.flats.Flat.{Flat}
 use Rattle.tasks.specs.Cells.{taskAt, Small, Put}
 use Rattle.tasks.specs.Tasks.{Work, emits, finish, Standing, Alone, Ranged, walkOf, Is, IsSelects, Stands, Later}
 use Rattle.tasks.specs.Tasks.Work.{each, keeps, places, descends, selects}
 use Rattle.tasks.specs.Weights.{maxTasks, rank, weight, weight-step, weight-some, total, total-top, total-push, unit-more}
-use Rattle.tasks.specs.Stacks.{Top, top, kinds, AsSelects, as-each, as-places, as-descends, as-selects, stands-push, later-then}
-use Rattle.tasks.specs.Laws.{Fore, fore, Final, final, some-alone, standing-in, kind-high}
+use Rattle.tasks.specs.Stacks.{Top, top, kinds, AsDescends, AsSelects, as-each, as-places, as-descends, as-selects, stands-push, later-then}
+use Rattle.tasks.specs.Laws.{Fore, fore, Final, final, some-alone, standing-in, kind-high, descendant-byte}
 use Rattle.tasks.specs.Selects.{ranged-in, selects-small}
 use Rattle.tasks.specs.Asks.{Room, AskSelector, AskSuspend, AskTurn, DoneSelector, DoneSegment, DoneSuspend, DoneTurn}
+use Rattle.tasks.specs.Flats.{AskStart, DoneStart}
 
 -- ---- ranks
 
@@ -114,6 +114,37 @@ module _ (P L S X : List ℕ) (cap : ℕ) (l l₁ l′ ts ts′ : List ℕ) (h a
             (ap (finish S X R (z .others)) (v .6) ∙ ap (λ (vs : List Work). finish S X R vs (st cap l at)) (sym (z .made)));
       }
 
+  -- the last task goes on as t, which is less by one unit at least
+  pub turn-moves : (t : Task) → rank t < rank (taskAt ts (h - 1)) → a ≤ cap + 1 → Put ts ts′ (h - 1) t
+      → ((low : ℕ) (R : Json) (w : Work) → Is P L S low h (taskAt ts (h - 1)) w → (v : Work) × (Is P L S low (h - 1 + 1) t v) × (emits S X R v (st cap l′ a) ≡ emits S X R w (st cap l at)))
+      → DoneTurn P L S X cap l l′ ts ts′ h at (record { h = h; at = a })
+  unfolding finish
+  turn-moves t u b p y =
+      record {
+        room = b;
+        high = high;
+        falls =
+            let e = total-top ts h some in
+            let f = ap (total ts′) again ∙ total-push ts ts′ (h - 1) t p in
+            let m : (rank t + 2) * weight (h - 1) ≤ (rank (taskAt ts (h - 1)) + 1) * weight (h - 1) = mul-le-mul-right (weight (h - 1)) (omega arith) in
+            omega (arith, unit-more (rank t) (weight (h - 1)), weight-some (h - 1));
+        goes = λ low R ws s.
+            let z = top P L S low ts h ws s some in
+            let v = y low R (z .w) (z .is) in
+            record {
+              work = v .0 ∷ z .others;
+              stands = subst (λ (x : ℕ). Stands P L S low ts′ x (v .0 ∷ z .others)) (sym again) (stands-push P L S low ts ts′ (h - 1) t p (v .0) (z .others) (v .1) (z .under));
+              same = ap (finish S X R (z .others)) (v .2) ∙ ap (λ (vs : List Work). finish S X R vs (st cap l at)) (sym (z .made));
+            };
+      }
+    where
+      again : h ≡ h - 1 + 1
+      again = omega arith
+
+-- a turn from the same list
+pub turn-from : {P L S X : List ℕ} {cap : ℕ} {l l₁ l′ ts ts′ : List ℕ} {h at : ℕ} {r : Pos} → l₁ ≡ l → DoneTurn P L S X cap l₁ l′ ts ts′ h at r → DoneTurn P L S X cap l l′ ts ts′ h at r
+turn-from {P} {L} {S} {X} {cap} {l} {l₁} {l′} {ts} {ts′} {h} {at} {r} e d = subst (λ (x : List ℕ). DoneTurn P L S X cap x l′ ts ts′ h at r) e d
+
 -- ---- a task waits below a segment
 
 pub suspended : (P L S X : List ℕ) (t : Task) (node pc cap : ℕ) (l l′ ts ts₁ ts′ : List ℕ) (j at : ℕ) (r : Pos) → j < maxTasks → Put ts ts₁ j t → DoneSegment P L S X node pc cap l l′ ts₁ ts′ (j + 1) at r → DoneSuspend P L S X t node pc cap l l′ ts ts′ j at r
@@ -126,11 +157,6 @@ suspended P L S X t node pc cap l l′ ts ts₁ ts′ j at r room p d =
     }
 
 -- ---- nodes of a range
-
--- the first byte of a descendant segment
-descendant-byte : (P L : List ℕ) (p k : ℕ) (ss : Selectors) (q : Segments) → SegmentsAt P L p k (descendant ss q) → getD P p 0 ≡ 4
-unfolding codeSegments
-descendant-byte P L p k ss q a = holds-head P p _ _ (a .holds) .1
 
 module _ (P L S X : List ℕ) (g : Given P L S X) (cap : ℕ) (l l₁ l′ ts ts′ : List ℕ) (h at : ℕ) (some : 0 < h) (high : h ≤ maxTasks) (t : Task) (is-top : t ≡ taskAt ts (h - 1)) where
   -- what the last task is, as t
@@ -304,6 +330,51 @@ module _ (P L S X : List ℕ) (g : Given P L S X) (cap : ℕ) (l l₁ l′ ts ts
   abbrev pub belowLeft : ℕ → Task
   belowLeft n = record { kind = 4; rest = t .rest; a = n; b = t .b; c = 0 }
 
+  -- the task from node n on has less to do, and its numbers are small
+  pub below-fewer : t .kind ≡ 4 → (n : ℕ) → t .a < n → t .a < t .b → rank (belowLeft n) < rank (taskAt ts (h - 1))
+  below-fewer k n u v =
+      let a = rank-range (belowLeft n) (λ e. omega arith) (over-low 4 (omega arith)) in
+      let b = rank-range t (λ e. omega arith) (over-low (t .kind) (omega arith)) in
+      let c = ap rank is-top in
+      omega arith
+
+  pub below-fits : t .kind ≡ 4 → (n : ℕ) → n ≤ t .b → t .a < t .b → (low : ℕ) (w : Work) → Is P L S low h (taskAt ts (h - 1)) w → Small (belowLeft n)
+  below-fits k n u v low w i =
+      let y = as-descends P L S low h t w (as-top low w i) k in
+      let z = y .is in
+      let b = z .from in
+      let c = z .to in
+      let into = ranged-in S h (y .i) (y .e) (z .range) (omega arith) in
+      let few = g .tab .size .few in
+      let r = segments-in P L (t .rest) (z .k) (descendant (y .ss) (y .q)) (z .at) in
+      record { kind = omega arith; rest = omega (arith, g .fewP); a = omega arith; b = omega arith; c = omega arith }
+
+  -- those of them that need no task are done
+  module _ (k : t .kind ≡ 4) (r : Flat) (d : DoneStart P L S X (t .a) (t .b) (t .rest) cap l at l′ r) where
+    below-again : (low : ℕ) (R : Json) (w : Work) (i : Is P L S low h (taskAt ts (h - 1)) w) (y : AsDescends P L S low h t w) → over (y .q) R (below (y .ss) R) S X (r .i) (t .b) (st cap l′ (r .at)) ≡ emits S X R w (st cap l at)
+    unfolding emits
+    below-again low R w i y =
+        let z = y .is in
+        d .again (y .ss) (y .q) (z .k) (z .at) R
+        ∙ ap (λ (x : ℕ). over (y .q) R (below (y .ss) R) S X x (t .b) (st cap l at)) (z .from)
+        ∙ ap (λ (x : ℕ). over (y .q) R (below (y .ss) R) S X (y .i) x (st cap l at)) (z .to)
+        ∙ ap (λ (x : Work). emits S X R x (st cap l at)) (sym (y .made))
+
+    pub below-gone : t .b ≤ r .i → (low : ℕ) (R : Json) (w : Work) → Is P L S low h (taskAt ts (h - 1)) w → st cap l′ (r .at) ≡ emits S X R w (st cap l at)
+    below-gone u low R w i = let y = as-descends P L S low h t w (as-top low w i) k in sym (over-end (y .q) R (below (y .ss) R) S X (r .i) (t .b) (st cap l′ (r .at)) u) ∙ below-again low R w i y
+
+    pub below-moves : t .a ≤ r .i → (low : ℕ) (R : Json) (w : Work) → Is P L S low h (taskAt ts (h - 1)) w → (v : Work) × (Is P L S low (h - 1 + 1) (belowLeft (r .i)) v) × (emits S X R v (st cap l′ (r .at)) ≡ emits S X R w (st cap l at))
+    unfolding emits Is
+    below-moves u low R w i =
+        let y = as-descends P L S low h t w (as-top low w i) k in
+        let z = y .is in
+        let b = z .from in
+        let c = z .to in (
+          descends (y .ss) (y .q) (r .i) (t .b),
+          record { kind = refl; since = z .since; k = z .k; at = z .at; from = refl; to = refl; range = λ j p q. let x = z .range j (omega arith) (omega arith) in (x .0, omega (arith, x .1)) },
+          below-again low R w i y,
+        )
+
   module _ (k : t .kind ≡ 4) (u : t .a < t .b) (n : ℕ) (d : DoneContainer S (t .a + 1) (t .b) n) where
     pub below-waits : (low : ℕ) (R : Json) (w : Work) → Is P L S low h (taskAt ts (h - 1)) w
         → (f : Segments) × (j : ℕ) × (SegmentsAt P L (t .rest) j f) × (low ≤ t .rest) × (v : Work) × (Is P L S low (h - 1 + 1) (belowLeft n) v) × (emits S X R v (go f R (nodeAt S X (t .a) ∷ []) (st cap l at)) ≡ emits S X R w (st cap l at))
@@ -330,11 +401,7 @@ module _ (P L S X : List ℕ) (g : Given P L S X) (cap : ℕ) (l l₁ l′ ts ts
         )
 
     pub below-less : rank (belowLeft n) < rank (taskAt ts (h - 1))
-    below-less =
-        let a = rank-range (belowLeft n) (λ e. omega arith) (over-low 4 (omega arith)) in
-        let b = rank-range t (λ e. omega arith) (over-low (t .kind) (omega arith)) in
-        let c = ap rank is-top in
-        omega (arith, d .low)
+    below-less = let o = d .low in below-fewer k n (omega arith) u
 
     pub below-small : (low : ℕ) (w : Work) → Is P L S low h (taskAt ts (h - 1)) w → Small (belowLeft n) × (t .a < nodeCount S) × (h ≤ 3 * depthAt S (t .a)) × (getD P (t .rest) 0 ≡ 0x0A → ⊥) × Query P L (t .rest)
     below-small low w i =
@@ -342,12 +409,8 @@ module _ (P L S X : List ℕ) (g : Given P L S X) (cap : ℕ) (l l₁ l′ ts ts
         let z = y .is in
         let b = z .from in
         let c = z .to in
-        let e = d .high (omega arith) in
-        let x = z .range (t .a) (omega arith) (omega arith) in
-        let into = ranged-in S h (y .i) (y .e) (z .range) (omega arith) in
-        let few = g .tab .size .few in
-        let r = segments-in P L (t .rest) (z .k) (descendant (y .ss) (y .q)) (z .at) in (
-          record { kind = omega arith; rest = omega (arith, g .fewP); a = omega arith; b = omega arith; c = omega arith },
+        let x = z .range (t .a) (omega arith) (omega arith) in (
+          below-fits k n (d .high (omega arith)) u low w i,
           x .0,
           x .1,
           λ q. omega (arith, descendant-byte P L (t .rest) (z .k) (y .ss) (y .q) (z .at)),
@@ -453,6 +516,11 @@ module _ (P L S X : List ℕ) (t : Task) (len : ℕ) (ts : List ℕ) (h at cap l
       let b = i .to in
       omega (arith, ranged-in S h (x .i) (x .e) (i .range) (omega arith))
 
+  pub start-asked : t .kind ≡ 4 → AskStart P L S X (t .a) (t .b) (t .rest) len at cap
+  start-asked k =
+      let x = as-descends P L S (z .low) h t (y .w) it k in
+      record { given = z .given; range = below-asked k; ss = x .ss; q = x .q; k = x .is .k; stands = x .is .at; list = z .list }
+
   module _ (k : t .kind ≡ 3) where
     x₀ : AsSelects P L S (z .low) h t (y .w)
     x₀ = as-selects P L S (z .low) h t (y .w) it k
@@ -482,6 +550,10 @@ module _ (P L S X : List ℕ) (t : Task) (len : ℕ) (ts : List ℕ) (h at cap l
   -- a list of the same length, with another next place
   pub room-at : (len′ at′ : ℕ) → len′ ≡ len → at′ ≤ cap + 1 → Room len′ at′ cap
   room-at len′ at′ e u = record { room = u; wide = omega (arith, z .list .wide); small = z .list .small }
+
+  -- the same turn with a list of the same length
+  pub again-long : (len′ : ℕ) → len′ ≡ len → AskTurn P L S X t len′ ts h at cap least most
+  again-long len′ e = record { given = z .given; list = room-at len′ at e (z .list .room); full = z .full; high = z .high; some = z .some; top = z .top; low = z .low; work = z .work; stands = z .stands; kind-low = z .kind-low; kind-high = z .kind-high }
 
   -- the same turn with other bounds of its kind
   pub again-as : (a b : ℕ) → a ≤ t .kind → t .kind ≤ b → AskTurn P L S X t len ts h at cap a b

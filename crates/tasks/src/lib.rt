@@ -3,10 +3,12 @@
 //
 //   cells     a task in its five cells
 //   segments  a segment of a query on one node
+//   flats     nodes with nothing below them under a descendant segment that ends its query
 //   turns     one turn of a task that needs no filter
 ghost use mathlib.Core.Path.{_≡_};
 
 pub mod cells;
+mod flats;
 pub mod segments;
 pub mod turns;
 

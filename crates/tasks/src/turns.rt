@@ -2,6 +2,7 @@
 use crate::Pos;
 use crate::Task;
 use crate::cells;
+use crate::flats;
 use crate::segments;
 use crate::segments::BELOW;
 use crate::segments::DOWN;
@@ -146,7 +147,7 @@ fn turn_places(
 }
 
 // The next node of a range that has nodes below it, with a descendant segment.
-fn turn_below(
+fn turn_next(
     plan: &[u8],
     pool: &[u8],
     table: &[u8],
@@ -190,6 +191,44 @@ fn turn_below(
         at,
         cap,
     )
+}
+
+// The nodes of a range with a descendant segment: those that need no task, or the next.
+fn turn_below(
+    plan: &[u8],
+    pool: &[u8],
+    table: &[u8],
+    text: &[u8],
+    t: Task,
+    list: &mut [u32],
+    tasks: &mut [u16],
+    h: usize,
+    at: usize,
+    cap: usize,
+) -> Pos
+    requires { ⌜ AskTurn (now plan) (now pool) (now table) (now text) t (length (now list)) (now tasks) h at cap 4 4 ⌝ }
+    ensures { λ r. ⌜ DoneTurn (now (plan .entry)) (now (pool .entry)) (now (table .entry)) (now (text .entry)) cap (now (list .entry)) (now (list .exit)) (now (tasks .entry)) (now (tasks .exit)) h at r ⌝ }
+{
+    let pc = t.rest;
+    let e = t.b;
+    let f = flats::flat_start(plan, pool, table, text, t.a, e, pc, list, at, cap);
+    let i = f.i;
+    if i <= t.a {
+        return turn_next(plan, pool, table, text, t, list, tasks, h, at, cap);
+    }
+    let j = h - 1;
+    if e <= i {
+        return Pos { h: j, at: f.at };
+    }
+    let left = Task {
+        kind: BELOW,
+        rest: pc,
+        a: i,
+        b: e,
+        c: 0,
+    };
+    cells::put(tasks, j, left);
+    Pos { h, at: f.at }
 }
 
 // The next of several selectors on a node.

@@ -1,74 +1,78 @@
--- `tasks::turns::turn_below` meets its contract: the task is gone, or waits from the next list or map on. Assumes nothing.
-use Rattle.tasks.specs.Turns.{turn-gone, turn-waits, below-asked, room-at, below-ended, below-waits, below-less, below-small}
-use Rattle.tasks.specs.Stacks.{Top, top}
-use mathlib.Core.Path.{_≡_, refl, _∙_}
+-- `tasks::turns::turn_below` meets its contract: the task is gone, or goes on behind the nodes that need no task, or the next node is taken. Assumes nothing.
 use native.Mathlib.Omega.{arith}
 use borrow.Author.Needs.{needs}
+use Rattle.tasks.specs.Stacks.{top}
+use Rattle.tasks.specs.Turns.{turn-gone, turn-moves, turn-from, start-asked, again-long, below-gone, below-moves, below-fewer, below-fits}
 use Rattle.tasks.proofs.turns.turn_below.Statement.{statement}
 use Rattle.tasks.proofs.turns.turn_below.Tie as tie
-use Rattle.tasks.proofs.turns.turn_below.Reads as reads
-use Rattle.tasks.proofs.turns.turn_below.Lts as lts
-use Rattle.tasks.proofs.turns.suspend.Reads as suspend-reads
-use Rattle.visits.proofs.next_container.Reads as next-container-reads
 
--- src/turns.rt:132:13
-sub-j : tie.Need-sub-j
-sub-j c = c .before .before .before .before .before .before .pre .some
+flat-start-requires : tie.Need-flat-start-requires
+flat-start-requires c κs = let z = c .before .before .before .before .before .before .before .pre in start-asked _ _ _ _ _ _ _ _ _ _ _ _ z (omega (arith, z .kind-low, z .kind-high))
 
--- src/turns.rt:137:9
-returns : tie.Need-returns
-returns c =
-    let z = c .before .before .before .before .before .before .before .pre in
-    turn-gone _ _ _ _ _ _ (c .before .before .before .before .before .before .before .args .list .now) _ _ _ _ (z .some) (z .high) (z .list .room) (below-ended _ _ _ _ (z .given) (c .before .before .before .before .before .before .before .args .cap) (c .before .before .before .before .before .before .before .args .list .now) (c .before .before .before .before .before .before .before .args .list .now) (c .before .before .before .before .before .before .before .args .list .now) (c .before .before .before .before .before .before .before .args .tasks .now) (c .before .before .before .before .before .before .before .args .tasks .now) (c .before .before .before .before .before .before .before .args .h) (c .before .before .before .before .before .before .before .args .at) (z .some) (z .high) _ (z .top) (omega (arith, z .kind-low, z .kind-high)) (c .if1 .taken))
+turn-next-requires : tie.Need-turn-next-requires
+turn-next-requires c κs = again-long _ _ _ _ _ _ _ _ _ _ _ _ (c .before .before .before .before .before .before .before .before .before .before .before .before .before .before .pre) _ (c .before .before .before .before .before .before .flat-start .kept .1 .1 .1 .1 .1 .1 .1 .0)
 
--- src/turns.rt:139:46
-add-next-container : tie.Need-add-next-container
-add-next-container c =
-    let z = c .before .before .before .before .before .before .before .pre in
-    let u = c .if1 .left in
-    omega (arith, below-asked _ _ _ _ _ _ _ _ _ _ _ _ z (omega (arith, z .kind-low, z .kind-high)) u, z .given .tab .size .few)
-
--- src/turns.rt:139:9
-next-container-requires : tie.Need-next-container-requires
-next-container-requires c κs = let z = c .before .before .before .before .before .before .before .pre in record { range = λ v. below-asked _ _ _ _ _ _ _ _ _ _ _ _ z (omega (arith, z .kind-low, z .kind-high)) (c .if1 .left) }
-
--- src/turns.rt:147:5
-suspend-requires : tie.Need-suspend-requires
-suspend-requires c κs =
-    let z = c .before .before .before .before .before .before .before .before .before .before .pre in
-    let y = top _ _ _ _ _ _ _ (z .stands) (z .some) in
-    let x = below-small _ _ _ _ (z .given) (c .before .before .before .before .before .before .before .before .before .before .args .cap) (c .before .before .before .before .before .before .before .before .before .before .args .list .now) (c .before .before .before .before .before .before .before .before .before .before .args .list .now) (c .before .before .before .before .before .before .before .before .before .before .args .list .now) (c .before .before .before .before .before .before .before .before .before .before .args .tasks .now) (c .before .before .before .before .before .before .before .before .before .before .args .tasks .now) (c .before .before .before .before .before .before .before .before .before .before .args .h) (c .before .before .before .before .before .before .before .before .before .before .args .at) (z .some) (z .high) _ (z .top) (omega (arith, z .kind-low, z .kind-high)) (c .before .before .before .if1 .left) _ (c .before .before .next-container .ensures) (z .low) (y .w) (y .is) in
-    record { given = z .given; node-in = x .1; query = x .4; going = x .3; list = z .list; full = z .full; deep = omega (arith, x .2, z .some); small = x .0 }
-
--- src/turns.rt:117:1
 same-length : tie.Need-same-length
 same-length c = search needs
 
--- src/turns.rt:117:1
 same-length-2 : tie.Need-same-length-2
 same-length-2 c = search needs
 
--- src/turns.rt:117:1
+returns : tie.Need-returns
+returns c = turn-from (c .before .before .before .before .before .before .before .before .before .before .before .flat-start .ensures .passes .still (c .before .before .before .before .before .before .before .if1 .taken)) (c .before .before .before .before .turn-next .ensures)
+
+sub-j : tie.Need-sub-j
+sub-j c = search needs
+
+same-length-3 : tie.Need-same-length-3
+same-length-3 c = search needs
+
 returns-2 : tie.Need-returns-2
 returns-2 c =
-    let z = c .before .before .before .before .before .before .before .before .before .before .before .before .before .before .before .pre in
-    let k : c .before .before .before .before .before .before .before .before .before .before .before .before .before .before .before .args .t .kind ≡ 4 = omega (arith, z .kind-low, z .kind-high) in
+    let s = c .before .before .before .before .before .before .before .before .before .before .before .before .before in
+    let z = s .pre in
+    let d = c .before .before .before .before .before .flat-start .ensures in
+    turn-gone _ _ _ _ _ _ _ (s .args .tasks .now) _ _ _ (z .some) (z .high) (d .passes .room) (below-gone _ _ _ _ (z .given) (s .args .cap) (s .args .list .now) (s .args .list .now) _ (s .args .tasks .now) (s .args .tasks .now) (s .args .h) (s .args .at) (z .some) (z .high) _ (z .top) (omega (arith, z .kind-low, z .kind-high)) _ d (c .if2 .taken))
+
+put-requires : tie.Need-put-requires
+put-requires c κs =
+    let s = c .before .before .before .before .before .before .before .before .before .before .before .before .before .before in
+    let z = s .pre in
     let y = top _ _ _ _ _ _ _ (z .stands) (z .some) in
-    let x = below-small _ _ _ _ (z .given) (c .before .before .before .before .before .before .before .before .before .before .before .before .before .before .before .args .cap) (c .before .before .before .before .before .before .before .before .before .before .before .before .before .before .before .args .list .now) (c .before .before .before .before .before .before .before .before .before .before .before .before .before .before .before .args .list .now) (c .before .before .before .before .before .before .before .before .before .before .before .before .before .before .before .args .list .now) (c .before .before .before .before .before .before .before .before .before .before .before .before .before .before .before .args .tasks .now) (c .before .before .before .before .before .before .before .before .before .before .before .before .before .before .before .args .tasks .now) (c .before .before .before .before .before .before .before .before .before .before .before .before .before .before .before .args .h) (c .before .before .before .before .before .before .before .before .before .before .before .before .before .before .before .args .at) (z .some) (z .high) _ (z .top) k (c .before .before .before .before .before .before .before .before .if1 .left) _ (c .before .before .before .before .before .before .before .next-container .ensures) (z .low) (y .w) (y .is) in
-    turn-waits _ _ _ _ _ _ (c .before .before .before .before .before .before .before .before .before .before .before .before .before .before .before .args .list .now) _ _ _ _ _ _ (z .some) (z .high) _ _ _ _
-    (below-less _ _ _ _ (z .given) (c .before .before .before .before .before .before .before .before .before .before .before .before .before .before .before .args .cap) (c .before .before .before .before .before .before .before .before .before .before .before .before .before .before .before .args .list .now) (c .before .before .before .before .before .before .before .before .before .before .before .before .before .before .before .args .list .now) (c .before .before .before .before .before .before .before .before .before .before .before .before .before .before .before .args .list .now) (c .before .before .before .before .before .before .before .before .before .before .before .before .before .before .before .args .tasks .now) (c .before .before .before .before .before .before .before .before .before .before .before .before .before .before .before .args .tasks .now) (c .before .before .before .before .before .before .before .before .before .before .before .before .before .before .before .args .h) (c .before .before .before .before .before .before .before .before .before .before .before .before .before .before .before .args .at) (z .some) (z .high) _ (z .top) k (c .before .before .before .before .before .before .before .before .if1 .left) _ (c .before .before .before .before .before .before .before .next-container .ensures))
-    (omega (arith, x .2, z .given .tab .depths _ (x .1))) (c .before .before .before .before .suspend .ensures)
-    (below-waits _ _ _ _ (z .given) (c .before .before .before .before .before .before .before .before .before .before .before .before .before .before .before .args .cap) (c .before .before .before .before .before .before .before .before .before .before .before .before .before .before .before .args .list .now) (c .before .before .before .before .before .before .before .before .before .before .before .before .before .before .before .args .list .now) (c .before .before .before .before .before .before .before .before .before .before .before .before .before .before .before .args .list .now) (c .before .before .before .before .before .before .before .before .before .before .before .before .before .before .before .args .tasks .now) (c .before .before .before .before .before .before .before .before .before .before .before .before .before .before .before .args .tasks .now) (c .before .before .before .before .before .before .before .before .before .before .before .before .before .before .before .args .h) (c .before .before .before .before .before .before .before .before .before .before .before .before .before .before .before .args .at) (z .some) (z .high) _ (z .top) k (c .before .before .before .before .before .before .before .before .if1 .left) _ (c .before .before .before .before .before .before .before .next-container .ensures))
+    let u = c .before .before .if1 .left in
+    let v = c .before .if2 .left in
+    record { inside = omega (arith, z .full, z .high, z .some); small = below-fits _ _ _ _ (z .given) (s .args .cap) (s .args .list .now) (s .args .list .now) (s .args .list .now) (s .args .tasks .now) (s .args .tasks .now) (s .args .h) (s .args .at) (z .some) (z .high) _ (z .top) (omega (arith, z .kind-low, z .kind-high)) _ (omega arith) (omega arith) (z .low) (y .w) (y .is) }
+
+same-length-4 : tie.Need-same-length-4
+same-length-4 c = search needs
+
+same-length-5 : tie.Need-same-length-5
+same-length-5 c = search needs
+
+returns-3 : tie.Need-returns-3
+returns-3 c =
+    let s = c .before .before .before .before .before .before .before .before .before .before .before .before .before .before .before .before .before in
+    let z = s .pre in
+    let d = c .before .before .before .before .before .before .before .before .before .flat-start .ensures in
+    let u = c .before .before .before .before .before .if1 .left in
+    let v = c .before .before .before .before .if2 .left in
+    turn-moves _ _ _ _ _ _ (s .args .list .now) _ _ _ _ _ _ (z .some) (z .high) _
+    (below-fewer _ _ _ _ (z .given) (s .args .cap) (s .args .list .now) (s .args .list .now) (s .args .list .now) (s .args .tasks .now) (s .args .tasks .now) (s .args .h) (s .args .at) (z .some) (z .high) _ (z .top) (omega (arith, z .kind-low, z .kind-high)) _ (omega arith) (omega arith)) (d .passes .room) (c .before .before .put .ensures)
+    (below-moves _ _ _ _ (z .given) (s .args .cap) (s .args .list .now) (s .args .list .now) _ (s .args .tasks .now) (s .args .tasks .now) (s .args .h) (s .args .at) (z .some) (z .high) _ (z .top) (omega (arith, z .kind-low, z .kind-high)) _ d (d .passes .low))
 
 pub turn-below-spec : {M : Type 1} → statement M
 turn-below-spec =
     tie.close
     (tie.spec
-    sub-j
-    returns
-    add-next-container
-    next-container-requires
-    suspend-requires
+    flat-start-requires
+    turn-next-requires
     same-length
     same-length-2
-    returns-2)
+    returns
+    sub-j
+    same-length-3
+    returns-2
+    put-requires
+    same-length-4
+    same-length-5
+    returns-3)

@@ -1,0 +1,144 @@
+// Nodes with no list or map among their children under a descendant segment of one name, index or wildcard that ends its query: there is nothing below them, so
+// that what is selected of them is pushed at once, and no task is needed.
+use equal::members::Member;
+use steps::leaves;
+use steps::plans;
+use table::records;
+use text::bytes;
+ghost use lib.ListN.{length};
+ghost use Rattle.tasks.specs.Flats.{AskFlat, DoneFlat, AskPlain, DonePlain, AskSelected, DoneSelected, AskFlats, DoneFlats, AskStart, DoneStart};
+
+const SLICE: u8 = 0x07;
+
+const WILDCARD: u8 = 0x08;
+
+const END: u8 = 0x0A;
+
+// The first node of a range that is left, and the next place of the list of nodes.
+pub struct Flat {
+    pub i: usize,
+    pub at: usize,
+}
+
+// Whether no child of the node is a list or a map.
+fn is_flat(table: &[u8], node: usize) -> bool
+    requires { ⌜ AskFlat (now table) node ⌝ }
+    ensures { λ r. ⌜ DoneFlat (now (table .entry)) node r ⌝ }
+{
+    let n = records::child_count(table, node) as usize;
+    if n == 0 {
+        return true;
+    }
+    let first = records::first_child(table, node) as usize;
+    let e = first + n;
+    let i = visits::next_container(table, first, e);
+    i == e
+}
+
+// The name, index or wildcard at p on a node: each selected node is pushed.
+fn push_selected(
+    plan: &[u8],
+    pool: &[u8],
+    table: &[u8],
+    text: &[u8],
+    node: usize,
+    p: usize,
+    list: &mut [u32],
+    at: usize,
+    cap: usize,
+) -> usize
+    requires { ⌜ AskSelected (now plan) (now pool) (now table) (now text) node p (length (now list)) at cap ⌝ }
+    ensures { λ r. ⌜ DoneSelected (now (plan .entry)) (now (pool .entry)) (now (table .entry)) (now (text .entry)) node p cap (now (list .entry)) at (now (list .exit)) r ⌝ }
+{
+    if plan[p] == WILDCARD {
+        let n = records::child_count(table, node) as usize;
+        if n == 0 {
+            return at;
+        }
+        let i = records::first_child(table, node) as usize;
+        let e = i + n;
+        return visits::push_each(list, i, e, at, cap);
+    }
+    let found = leaves::select_one(plan, pool, table, text, p, node);
+    let Member::At(m) = found else {
+        return at;
+    };
+    visits::push(list, at, m, cap)
+}
+
+// The nodes from i up to e with the selector at p, up to the first that has more below it. Once the cap is passed none is left.
+fn flat_each(
+    plan: &[u8],
+    pool: &[u8],
+    table: &[u8],
+    text: &[u8],
+    i: usize,
+    e: usize,
+    p: usize,
+    list: &mut [u32],
+    at: usize,
+    cap: usize,
+) -> Flat
+    requires { ⌜ AskFlats (now plan) (now pool) (now table) (now text) i e p (length (now list)) at cap ⌝ }
+    ensures { λ r. ⌜ DoneFlats (now (plan .entry)) (now (pool .entry)) (now (table .entry)) (now (text .entry)) i e p cap (now (list .entry)) at (now (list .exit)) r ⌝ }
+{
+    let mut a = at;
+    let mut j = i;
+    while j < e {
+        if cap < a {
+            return Flat { i: e, at: a };
+        }
+        if !is_flat(table, j) {
+            return Flat { i: j, at: a };
+        }
+        a = push_selected(plan, pool, table, text, j, p, list, a, cap);
+        j = visits::next_container(table, j + 1, e);
+    }
+    Flat { i: j, at: a }
+}
+
+// Whether the descendant segment at pc is the last of its query and has one selector, a name, an index or a wildcard.
+fn is_plain(plan: &[u8], pc: usize) -> bool
+    requires { ⌜ AskPlain (now plan) pc ⌝ }
+    ensures { λ r. ⌜ DonePlain (now (plan .entry)) pc r ⌝ }
+{
+    if bytes::word16(plan, pc + 1) != 1 {
+        return false;
+    }
+    let p = pc + 3;
+    let k = plan[p];
+    if k == SLICE {
+        return false;
+    }
+    if WILDCARD < k {
+        return false;
+    }
+    let rest = plans::next_selector(plan, p);
+    plan[rest] == END
+}
+
+// The nodes from i up to e with the descendant segment at pc, as far as they need no task.
+pub fn flat_start(
+    plan: &[u8],
+    pool: &[u8],
+    table: &[u8],
+    text: &[u8],
+    i: usize,
+    e: usize,
+    pc: usize,
+    list: &mut [u32],
+    at: usize,
+    cap: usize,
+) -> Flat
+    requires { ⌜ AskStart (now plan) (now pool) (now table) (now text) i e pc (length (now list)) at cap ⌝ }
+    ensures { λ r. ⌜ DoneStart (now (plan .entry)) (now (pool .entry)) (now (table .entry)) (now (text .entry)) i e pc cap (now (list .entry)) at (now (list .exit)) r ⌝ }
+{
+    if e <= i {
+        return Flat { i, at };
+    }
+    if !is_plain(plan, pc) {
+        return Flat { i, at };
+    }
+    let p = pc + 3;
+    flat_each(plan, pool, table, text, i, e, p, list, at, cap)
+}
