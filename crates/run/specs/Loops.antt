@@ -2,6 +2,7 @@
 use Prim.Native.Nat.{ℕ, _+_, _≤_}
 use mathlib.Core.Path.{_≡_}
 use mathlib.Core.List.{List}
+use mathlib.Core.Bool.{Bool as Bits}
 use lib.ListN.{length}
 use Rattle.definition.specs.Forms.{Segments, Test}
 use Rattle.definition.specs.Tables.{nodeAt}
@@ -17,6 +18,7 @@ use Rattle.tasks.specs.Tasks.{Work, Later}
 use Rattle.tasks.specs.Weights.{maxTasks}
 use Rattle.tasks.specs.declared.Pos.{Pos}
 use Rattle.run.specs.Asks.{Tested}
+use Rattle.run.specs.Tests.{Left}
 
 -- the tasks that are left stand for what the first of them stood for
 pub record InWalk (P L S X : List ℕ) (root pc cap : ℕ) (l₀ ts₀ : List ℕ) (s₀ : Pos) (l ts : List ℕ) (s : Pos) : Type 0 where
@@ -34,8 +36,13 @@ pub record InKept (P L S X : List ℕ) (root i e p z rest cap : ℕ) (l₀ : Lis
   pub again : (t : Test) (k : ℕ) (f : Segments) (k′ : ℕ) → Tested P L p z t k → SegmentsAt P L rest k′ f
       → over f (nodeAt S X root) (kept t (nodeAt S X root)) S X j e (st cap l a) ≡ over f (nodeAt S X root) (kept t (nodeAt S X root)) S X i e (st cap l₀ a₀)
 
--- a filter's code
-pub record InTest (P L S X : List ℕ) (root node p e : ℕ) (s : Regs) : Type 0 where
+-- a filter's code, with an answer and no values
+pub record InTest (P L S X : List ℕ) (root node p e : ℕ) (acc : Bits) (q : ℕ) : Type 0 where
+  pub later : p ≤ q
+  pub again : (t : Test) (k : ℕ) → Tested P L p e t k → Left P L q e (nodeAt S X root) (nodeAt S X node) acc (evalTest t (nodeAt S X root) (nodeAt S X node))
+
+-- and by registers
+pub record InRest (P L S X : List ℕ) (root node : ℕ) (acc : Bits) (p e : ℕ) (s : Regs) : Type 0 where
   pub later : p ≤ s .q
   pub pair : Pair S X L (s .x) (s .y)
-  pub again : (t : Test) (k : ℕ) → Tested P L p e t k → Doing P L S X s e (nodeAt S X root) (nodeAt S X node) (evalTest t (nodeAt S X root) (nodeAt S X node))
+  pub again : (want : Bits) → Left P L p e (nodeAt S X root) (nodeAt S X node) acc want → Doing P L S X s e (nodeAt S X root) (nodeAt S X node) want

@@ -38,10 +38,10 @@ cond-in false x y c h g = g
 pub begins-in : (from k root node c : ℕ) → from ≡ beginsAt k root node → root < c → node < c → from < c
 begins-in from k root node c e h g = rw e (cond-in (eqb k 1) root node c h g)
 
-begins-root : (k root node : ℕ) → k ≡ 1 → beginsAt k root node ≡ root
+pub begins-root : (k root node : ℕ) → k ≡ 1 → beginsAt k root node ≡ root
 begins-root k root node e = rw (eq-eqb k 1 e)
 
-begins-node : (k root node : ℕ) → k ≡ 2 → beginsAt k root node ≡ node
+pub begins-node : (k root node : ℕ) → k ≡ 2 → beginsAt k root node ≡ node
 begins-node k root node e = rw (ne-eqb k 1 (λ z. absurd (omega arith)))
 
 cap-by : (a b : Bits) → cond a 9007199254740990 (cond b 1 0) ≤ 9007199254740990

@@ -2,6 +2,7 @@
 // takes no frames on the stack; only a query in a filter's code is a call inside a call. One walk serves every mode by its cap: it stops as soon as it has passed
 // it. A selection has as many places as its cap; a query in a filter has one place, for its first node.
 use crate::answers;
+use crate::tests;
 use equal::Operand;
 use steps::Regs;
 use steps::leaves;
@@ -17,6 +18,7 @@ use visits::Stop;
 ghost use mathlib.Core.Path.{_≡_};
 ghost use lib.ListN.{length};
 ghost use Rattle.run.specs.Asks.{Asked, AskSegments, DoneSegments, AskWalk, AskKept, DoneKept, AskTurn, DoneTurn, AskTest, DoneTest, Within, AskQuery, DoneQuery};
+ghost use Rattle.run.specs.Tests.{AskRest, DoneRest};
 
 const CURRENT: u8 = 0x02;
 
@@ -253,7 +255,7 @@ fn eval_filter(
     }
 }
 
-// Whether the test from p up to e holds of a node.
+// Whether the test from p up to e holds of a node. What is left of its code goes by registers from the first part on that is not told without them.
 fn eval_filter_expr(
     plan: &[u8],
     pool: &[u8],
@@ -268,8 +270,47 @@ fn eval_filter_expr(
     requires { ⌜ AskTest (now plan) (now pool) p e ⌝ }
     ensures { λ r. ⌜ DoneTest (now (plan .entry)) (now (pool .entry)) (now (table .entry)) (now (text .entry)) root node p e r ⌝ }
 {
+    let mut acc = false;
+    let mut q = p;
+    while q < e {
+        let k = plan[q];
+        if k <= CURRENT {
+            let t = tests::short_test(plan, pool, table, text, root, node, q, e);
+            if !t.some {
+                return eval_rest(plan, pool, table, text, root, node, acc, q, e);
+            }
+            acc = t.acc;
+            q = t.q;
+        } else {
+            if !tests::is_logic(k) {
+                return eval_rest(plan, pool, table, text, root, node, acc, q, e);
+            }
+            let t = tests::logic_expr(plan, acc, q);
+            acc = t.acc;
+            q = t.q;
+        }
+    }
+    acc
+}
+
+// The answer of a test's code from p up to e with an answer before it, by registers.
+fn eval_rest(
+    plan: &[u8],
+    pool: &[u8],
+    table: &[u8],
+    text: &[u8],
+    root: usize,
+    node: usize,
+    acc: bool,
+    p: usize,
+    e: usize,
+) -> bool
+    requires { ⌜ Within (now plan) (now pool) (now table) (now text) root node ⌝ }
+    requires { ⌜ AskRest (now plan) (now pool) (now table) (now text) root node «acc» p e ⌝ }
+    ensures { λ r. ⌜ DoneRest (now (plan .entry)) (now (pool .entry)) (now (table .entry)) (now (text .entry)) root node «acc» p e r ⌝ }
+{
     let mut s = Regs {
-        acc: false,
+        acc,
         x: Operand::Nothing,
         y: Operand::Nothing,
         q: p,

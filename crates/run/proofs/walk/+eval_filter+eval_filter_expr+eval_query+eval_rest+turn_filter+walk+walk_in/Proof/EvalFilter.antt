@@ -1,10 +1,10 @@
 -- The answers of `eval_filter` in the walk's cycle of calls. The loop keeps the nodes that are left; a node for which the test fails emits nothing. Assumes nothing.
-use Rattle.run.proofs.walk.+eval_filter+eval_filter_expr+eval_query+turn_filter+walk+walk_in.Lts-eval_filter as lts
+use Rattle.run.proofs.walk.+eval_filter+eval_filter_expr+eval_query+eval_rest+turn_filter+walk+walk_in.Lts-eval_filter as lts
 use Prim.Native.Nat.{ℕ, _-_}
 use Rattle.run.proofs.walk.eval_filter.Reads as eval-filter
 use Rattle.run.proofs.walk.eval_filter_expr.Reads as eval-filter-expr
 use Rattle.visits.proofs.visit.Reads as visit-reads
-use Rattle.run.proofs.walk.+eval_filter+eval_filter_expr+eval_query+turn_filter+walk+walk_in.Proof.Base.{eval-filter-at, eval-filter-expr-below}
+use Rattle.run.proofs.walk.+eval_filter+eval_filter_expr+eval_query+eval_rest+turn_filter+walk+walk_in.Proof.Base.{eval-filter-at, eval-filter-expr-below}
 use native.Mathlib.Omega.{arith}
 use borrow.Author.Needs.{needs}
 use mathlib.Core.Path.{refl, _∙_}

@@ -1,11 +1,11 @@
 -- The answers of `turn_filter` in the walk's cycle of calls. Assumes nothing.
-use Rattle.run.proofs.walk.+eval_filter+eval_filter_expr+eval_query+turn_filter+walk+walk_in.Lts-turn_filter as lts
+use Rattle.run.proofs.walk.+eval_filter+eval_filter_expr+eval_query+eval_rest+turn_filter+walk+walk_in.Lts-turn_filter as lts
 use Prim.Native.Nat.{ℕ}
 use Rattle.run.proofs.walk.eval_filter.Reads as eval-filter
 use Rattle.run.proofs.walk.turn_filter.Reads as turn-filter
 use Rattle.tasks.proofs.turns.suspend.Reads as suspend-reads
 use Rattle.text.proofs.bytes.word16.Reads as word16-reads
-use Rattle.run.proofs.walk.+eval_filter+eval_filter_expr+eval_query+turn_filter+walk+walk_in.Proof.Base.{eval-filter-below, turn-filter-at}
+use Rattle.run.proofs.walk.+eval_filter+eval_filter_expr+eval_query+eval_rest+turn_filter+walk+walk_in.Proof.Base.{eval-filter-below, turn-filter-at}
 use native.Mathlib.Omega.{arith}
 use borrow.Author.Needs.{needs}
 use mathlib.Core.Path.{_∙_}

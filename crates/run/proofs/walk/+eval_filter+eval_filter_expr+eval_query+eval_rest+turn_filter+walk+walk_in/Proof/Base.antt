@@ -10,6 +10,8 @@ use Rattle.run.proofs.walk.eval_filter_expr.Reads as eval-filter-expr
 use Rattle.run.proofs.walk.eval_filter_expr.Kinds as eval-filter-expr-kinds
 use Rattle.run.proofs.walk.eval_query.Reads as eval-query
 use Rattle.run.proofs.walk.eval_query.Kinds as eval-query-kinds
+use Rattle.run.proofs.walk.eval_rest.Reads as eval-rest
+use Rattle.run.proofs.walk.eval_rest.Kinds as eval-rest-kinds
 use Rattle.run.proofs.walk.turn_filter.Reads as turn-filter
 use Rattle.run.proofs.walk.turn_filter.Kinds as turn-filter-kinds
 use Rattle.run.proofs.walk.walk.Reads as walk
@@ -22,13 +24,16 @@ abbrev pub left : List ℕ → ℕ → ℕ
 left P p = 8 * (length P - p)
 
 abbrev pub μ-eval-filter : Measures 5 eval-filter-kinds.ps ℕ
-μ-eval-filter κs a = left (a .0 .now) (a .1 .1 .1 .1 .1 .1 .1 .0) + 3
+μ-eval-filter κs a = left (a .0 .now) (a .1 .1 .1 .1 .1 .1 .1 .0) + 4
 
 abbrev pub μ-eval-filter-expr : Measures 4 eval-filter-expr-kinds.ps ℕ
-μ-eval-filter-expr κs a = left (a .0 .now) (a .1 .1 .1 .1 .1 .1 .0) + 2
+μ-eval-filter-expr κs a = left (a .0 .now) (a .1 .1 .1 .1 .1 .1 .0) + 3
 
 abbrev pub μ-eval-query : Measures 4 eval-query-kinds.ps ℕ
 μ-eval-query κs a = left (a .0 .now) (a .1 .1 .1 .1 .1 .1 .0 .q) + 1
+
+abbrev pub μ-eval-rest : Measures 4 eval-rest-kinds.ps ℕ
+μ-eval-rest κs a = left (a .0 .now) (a .1 .1 .1 .1 .1 .1 .1 .0) + 2
 
 abbrev pub μ-turn-filter : Measures 6 turn-filter-kinds.ps ℕ
 μ-turn-filter κs a = left (a .0 .now) (a .1 .1 .1 .1 .1 .0 .c) + 3
@@ -56,6 +61,12 @@ eval-query-at t = and 4 eval-query-kinds.ps (is 4 eval-query-kinds.ps μ-eval-qu
 
 abbrev pub eval-query-below : ℕ → In 4 eval-query-kinds.ps
 eval-query-below t = and 4 eval-query-kinds.ps (falls 4 eval-query-kinds.ps _<_ μ-eval-query t) eval-query.Pre
+
+abbrev pub eval-rest-at : ℕ → In 4 eval-rest-kinds.ps
+eval-rest-at t = and 4 eval-rest-kinds.ps (is 4 eval-rest-kinds.ps μ-eval-rest t) eval-rest.Pre
+
+abbrev pub eval-rest-below : ℕ → In 4 eval-rest-kinds.ps
+eval-rest-below t = and 4 eval-rest-kinds.ps (falls 4 eval-rest-kinds.ps _<_ μ-eval-rest t) eval-rest.Pre
 
 abbrev pub turn-filter-at : ℕ → In 6 turn-filter-kinds.ps
 turn-filter-at t = and 6 turn-filter-kinds.ps (is 6 turn-filter-kinds.ps μ-turn-filter t) turn-filter.Pre

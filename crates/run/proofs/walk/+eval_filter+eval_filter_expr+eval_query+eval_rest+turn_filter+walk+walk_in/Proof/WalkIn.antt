@@ -1,12 +1,12 @@
 -- The answers of `walk_in` in the walk's cycle of calls. The loop keeps that the tasks that are left stand for the whole. Assumes nothing.
-use Rattle.run.proofs.walk.+eval_filter+eval_filter_expr+eval_query+turn_filter+walk+walk_in.Lts-walk_in as lts
+use Rattle.run.proofs.walk.+eval_filter+eval_filter_expr+eval_query+eval_rest+turn_filter+walk+walk_in.Lts-walk_in as lts
 use Prim.Native.Nat.{ℕ}
 use Rattle.run.proofs.walk.turn_filter.Reads as turn-filter
 use Rattle.run.proofs.walk.walk_in.Reads as walk-in
 use Rattle.tasks.proofs.cells.get.Reads as get-reads
 use Rattle.tasks.proofs.segments.apply_selectors.Reads as apply-selectors-reads
 use Rattle.tasks.proofs.turns.turn.Reads as turn-reads
-use Rattle.run.proofs.walk.+eval_filter+eval_filter_expr+eval_query+turn_filter+walk+walk_in.Proof.Base.{turn-filter-below, walk-in-at}
+use Rattle.run.proofs.walk.+eval_filter+eval_filter_expr+eval_query+eval_rest+turn_filter+walk+walk_in.Proof.Base.{turn-filter-below, walk-in-at}
 use native.Mathlib.Omega.{arith}
 use borrow.Author.Needs.{needs}
 use mathlib.Core.Path.{_∙_}

@@ -1,9 +1,9 @@
 -- The answers of `walk` in the walk's cycle of calls: cells of its own are lent. Assumes nothing.
-use Rattle.run.proofs.walk.+eval_filter+eval_filter_expr+eval_query+turn_filter+walk+walk_in.Lts-walk as lts
+use Rattle.run.proofs.walk.+eval_filter+eval_filter_expr+eval_query+eval_rest+turn_filter+walk+walk_in.Lts-walk as lts
 use Prim.Native.Nat.{ℕ}
 use Rattle.run.proofs.walk.walk.Reads as walk
 use Rattle.run.proofs.walk.walk_in.Reads as walk-in
-use Rattle.run.proofs.walk.+eval_filter+eval_filter_expr+eval_query+turn_filter+walk+walk_in.Proof.Base.{walk-at, walk-in-below}
+use Rattle.run.proofs.walk.+eval_filter+eval_filter_expr+eval_query+eval_rest+turn_filter+walk+walk_in.Proof.Base.{walk-at, walk-in-below}
 use native.Mathlib.Omega.{arith}
 use borrow.Author.Needs.{needs}
 use mathlib.Core.Path.{refl}

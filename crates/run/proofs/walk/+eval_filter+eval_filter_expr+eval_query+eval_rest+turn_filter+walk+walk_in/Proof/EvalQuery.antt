@@ -1,6 +1,6 @@
 -- The answers of `eval_query` in the walk's cycle of calls. Names and indices lead to the end of the query or to nothing; else a walk with one place goes on from
 -- there, and what is asked of it is read off its count and that place. Assumes nothing.
-use Rattle.run.proofs.walk.+eval_filter+eval_filter_expr+eval_query+turn_filter+walk+walk_in.Lts-eval_query as lts
+use Rattle.run.proofs.walk.+eval_filter+eval_filter_expr+eval_query+eval_rest+turn_filter+walk+walk_in.Lts-eval_query as lts
 use Prim.Native.Nat.{ℕ}
 use Rattle.run.proofs.walk.eval_query.Reads as eval-query
 use Rattle.run.proofs.walk.walk.Reads as walk
@@ -9,7 +9,7 @@ use Rattle.steps.proofs.leaves.begins.Reads as begins-reads
 use Rattle.steps.proofs.leaves.cap_of.Reads as cap-of-reads
 use Rattle.steps.proofs.plans.past_query.Reads as past-query-reads
 use Rattle.visits.proofs.reach.Reads as reach-reads
-use Rattle.run.proofs.walk.+eval_filter+eval_filter_expr+eval_query+turn_filter+walk+walk_in.Proof.Base.{eval-query-at, walk-below}
+use Rattle.run.proofs.walk.+eval_filter+eval_filter_expr+eval_query+eval_rest+turn_filter+walk+walk_in.Proof.Base.{eval-query-at, walk-below}
 use mathlib.Core.Path.{refl}
 use native.Mathlib.Omega.{arith}
 use borrow.Author.Needs.{needs}

@@ -1,0 +1,12 @@
+-- Signed numbers of 64 bits, as the machine holds them. Assumes nothing.
+use Prim.Native.Nat.{suc, _≤_, _^_}
+use mathlib.Core.Path.{_≡_}
+use lib.IntN.{ℤ}
+use lib.Signed.{mag}
+use mir.Syntax.{w64}
+use mir.Val.{SFits, toZ, ofZ}
+use mir.ValLaws.{toZ-ofZ}
+
+-- a number that fits comes back as it was
+pub back : (z : ℤ) → suc (mag z) ≤ 2 ^ 63 → toZ w64 (ofZ w64 z) ≡ z
+back z h = toZ-ofZ w64 z (record { sfits = h })
