@@ -257,7 +257,7 @@ fn push_places(list: &mut [u32], walk: Walk, at: usize, cap: usize) -> usize
 }
 
 // The nodes that are the places of a walk, with the query at rest, up to the first that needs more.
-pub fn each_place(
+fn visit_places(
     plan: &[u8],
     pool: &[u8],
     table: &[u8],
@@ -271,16 +271,6 @@ pub fn each_place(
     requires { ⌜ AskPlaces (now plan) (now pool) (now table) (now text) walk rest (length (now list)) at cap ⌝ }
     ensures { λ r. ⌜ DonePlaces (now (plan .entry)) (now (pool .entry)) (now (table .entry)) (now (text .entry)) walk rest cap (now (list .entry)) at (now (list .exit)) r ⌝ }
 {
-    if plan[rest] == END {
-        let b = push_places(list, walk, at, cap);
-        return Halt {
-            walk,
-            at: b,
-            node: 0,
-            pc: rest,
-            more: false,
-        };
-    }
     let mut a = at;
     let mut w = walk;
     while 0 < w.left {
@@ -313,6 +303,34 @@ pub fn each_place(
         pc: rest,
         more: false,
     }
+}
+
+// The nodes that are the places of a walk, with the query at rest, up to the first that needs more: at the end of a query none does.
+pub fn each_place(
+    plan: &[u8],
+    pool: &[u8],
+    table: &[u8],
+    text: &[u8],
+    walk: Walk,
+    rest: usize,
+    list: &mut [u32],
+    at: usize,
+    cap: usize,
+) -> Halt
+    requires { ⌜ AskPlaces (now plan) (now pool) (now table) (now text) walk rest (length (now list)) at cap ⌝ }
+    ensures { λ r. ⌜ DonePlaces (now (plan .entry)) (now (pool .entry)) (now (table .entry)) (now (text .entry)) walk rest cap (now (list .entry)) at (now (list .exit)) r ⌝ }
+{
+    if plan[rest] == END {
+        let b = push_places(list, walk, at, cap);
+        return Halt {
+            walk,
+            at: b,
+            node: 0,
+            pc: rest,
+            more: false,
+        };
+    }
+    visit_places(plan, pool, table, text, walk, rest, list, at, cap)
 }
 
 // The places of a walk in a range of children, as nodes. The step of a single place says nothing and is left out, so that every number is small.
