@@ -99,6 +99,10 @@ module _ (p : ℕ → Bool) where
   pub every-more : (s : List ℕ) (i n : ℕ) → every p (take i s) ≡ true → every p (part s i n) ≡ true → every p (take (i + n) s) ≡ true
   every-more s i n e f = rw (take-add i n s) (every-append (take i s) (part s i n) e f)
 
+  -- what holds of two parts that meet holds of the part that they make
+  pub every-join : (s : List ℕ) (at n m : ℕ) → every p (part s at n) ≡ true → every p (part s (at + n) m) ≡ true → every p (part s at (n + m)) ≡ true
+  every-join s at n m e f = every-more (drop at s) n m e (rw (drop-drop n at s) f)
+
   -- what holds of a front and of the last elements holds of the whole, where they meet
   pub every-whole : (s : List ℕ) (i j n : ℕ) → j ≤ i → j + n ≡ length s → every p (take i s) ≡ true → every p (part s j n) ≡ true → every p s ≡ true
   every-whole s i j n h l e f =

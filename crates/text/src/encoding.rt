@@ -181,12 +181,39 @@ fn all_ascii(s: &[u8]) -> bool
     ascii4(s, s.len() - 4)
 }
 
+// Whether the 32 bytes of s from `at` on are ASCII.
+fn ascii32(s: &[u8], at: usize) -> bool
+    requires { ⌜ at + 32 ≤ length (now s) ⌝ }
+    ensures { λ r. ⌜ (r ≡ true → every isAscii (part (now (s .entry)) at 32) ≡ true) ⌝ }
+{
+    ascii8(s, at) & ascii8(s, at + 8) & ascii8(s, at + 16) & ascii8(s, at + 24)
+}
+
+// Whether s is ASCII throughout, 32 bytes at a time. The last 32 may begin among bytes that were looked at before.
+fn ascii_blocks(s: &[u8]) -> bool
+    requires { ⌜ 32 ≤ length (now s) ⌝ }
+    ensures { λ r. ⌜ (r ≡ true → every isAscii (now (s .entry)) ≡ true) ⌝ }
+{
+    let last = s.len() - 32;
+    let mut i = 0;
+    while i < last {
+        if !ascii32(s, i) {
+            return false;
+        }
+        i += 32;
+    }
+    ascii32(s, last)
+}
+
 // Whether s has at most n bytes and is ASCII throughout. A longer s is not looked at.
 pub fn short_ascii(s: &[u8], n: usize) -> bool
     ensures { λ r. ⌜ (r ≡ true → every isAscii (now (s .entry)) ≡ true) ⌝ }
 {
     if n < s.len() {
         return false;
+    }
+    if 32 <= s.len() {
+        return ascii_blocks(s);
     }
     all_ascii(s)
 }
