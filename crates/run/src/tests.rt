@@ -1,6 +1,7 @@
-// What a filter's code says of a node, told without registers: a test of a query of names and indices, its comparison with a literal, and the operators between
-// such tests. Everything else is left to the code's registers.
+// What a filter's code says of a node, told without registers: a test of a query of names and indices, its comparison with a literal, the number of all children
+// of its node compared with a literal, and the operators between such tests. Everything else is left to the code's registers.
 use compare::Order;
+use equal::Operand;
 use equal::operands;
 use steps::leaves;
 use steps::plans;
@@ -14,7 +15,11 @@ ghost use Rattle.definition.specs.Compare.{Value};
 ghost use Rattle.definition.specs.Tables.{kindAt};
 ghost use Rattle.equal.specs.Alike.{Compares};
 ghost use Rattle.visits.specs.Visits.{AskReach};
-ghost use Rattle.run.specs.Tests.{literalKind, logicKind, saysOf, AskNode, DoneNode, AskAgainst, DoneAgainst, DonePlain, AskShort, DoneShort, AskLogic, DoneLogic};
+ghost use Rattle.run.specs.Tests.{literalKind, logicKind, saysOf, AskNode, DoneNode, AskAgainst, DoneAgainst, DonePlain, AskChildren, DoneChildren, AskCount, DoneCount, AskCounted, DoneCounted, AskCounting, AskShort, DoneShort, AskLogic, DoneLogic};
+
+const CHILD: u8 = 0x03;
+
+const WILDCARD: u8 = 0x08;
 
 const END: u8 = 0x0A;
 
@@ -33,6 +38,8 @@ const AND: u8 = 0x16;
 const OR: u8 = 0x17;
 
 const TEST: u8 = 0x18;
+
+const COUNT: u8 = 0x19;
 
 const EQ: u8 = 0;
 
@@ -258,10 +265,131 @@ fn plain_nodes(plan: &[u8], pool: &[u8], table: &[u8], text: &[u8], from: usize,
     }
     Nodes {
         n: 0,
-        first: 0,
+        first: m,
         z: c,
         some: false,
     }
+}
+
+// Whether `.*` stands at c, at the end of a query whose nodes are counted.
+fn counts_children(plan: &[u8], c: usize) -> bool
+    requires { ⌜ AskChildren (now plan) c ⌝ }
+    ensures { λ r. ⌜ DoneChildren (now (plan .entry)) c r ⌝ }
+{
+    if plan[c] != CHILD {
+        return false;
+    }
+    if bytes::word16(plan, c + 1) != 1 {
+        return false;
+    }
+    if plan[c + 3] != WILDCARD {
+        return false;
+    }
+    if plan[c + 4] != END {
+        return false;
+    }
+    plan[c + 5] == COUNT
+}
+
+// The number n and the literal at q, by an operator.
+fn compare_count(
+    plan: &[u8],
+    pool: &[u8],
+    table: &[u8],
+    text: &[u8],
+    op: u8,
+    n: usize,
+    q: usize,
+) -> bool
+    requires { ⌜ AskCount (now plan) (now pool) (now table) (now text) n q ⌝ }
+    ensures { λ r. ⌜ DoneCount (now (plan .entry)) (now (pool .entry)) n q op r ⌝ }
+{
+    let a = n as i64;
+    if plan[q] == INTEGER {
+        return compare_ints(op, a, bytes::int64(plan, q + 1));
+    }
+    let y = leaves::literal(plan, pool, q);
+    equal::compare_values(table, text, pool, op, Operand::Int(a), y)
+}
+
+// The comparison of the number n with what stands at z, where that is a literal.
+fn count_against(
+    plan: &[u8],
+    pool: &[u8],
+    table: &[u8],
+    text: &[u8],
+    n: usize,
+    z: usize,
+    e: usize,
+) -> Told
+    requires { ⌜ AskCounted (now plan) (now pool) (now table) (now text) n z e ⌝ }
+    ensures { λ r. ⌜ DoneCounted (now (plan .entry)) (now (pool .entry)) n z e r ⌝ }
+{
+    if e <= z {
+        return Told {
+            acc: false,
+            q: z,
+            some: false,
+        };
+    }
+    if !is_literal(plan[z]) {
+        return Told {
+            acc: false,
+            q: z,
+            some: false,
+        };
+    }
+    let w = plans::past_literal(plan, z);
+    if e <= w {
+        return Told {
+            acc: false,
+            q: z,
+            some: false,
+        };
+    }
+    if plan[w] != COMPARE {
+        return Told {
+            acc: false,
+            q: z,
+            some: false,
+        };
+    }
+    let op = plan[w + 1];
+    let b = compare_count(plan, pool, table, text, op, n, z);
+    Told {
+        acc: b,
+        q: w + 2,
+        some: true,
+    }
+}
+
+// The query at q whose nodes are all children of node m, which names and indices lead to, counted and compared with a literal.
+fn count_test(
+    plan: &[u8],
+    pool: &[u8],
+    table: &[u8],
+    text: &[u8],
+    root: usize,
+    node: usize,
+    from: usize,
+    q: usize,
+    e: usize,
+    m: usize,
+    c: usize,
+) -> Told
+    requires { ⌜ AskShort (now plan) (now pool) (now table) (now text) root node q e ⌝ }
+    requires { ⌜ AskCounting (now plan) (now pool) (now table) (now text) root node from q m c ⌝ }
+    ensures { λ r. ⌜ DoneShort (now (plan .entry)) (now (pool .entry)) (now (table .entry)) (now (text .entry)) root node q e r ⌝ }
+{
+    if !counts_children(plan, c) {
+        return Told {
+            acc: false,
+            q,
+            some: false,
+        };
+    }
+    let n = records::child_count(table, m) as usize;
+    count_against(plan, pool, table, text, n, c + 6, e)
 }
 
 // The query at q that is tested or compared with a literal, in code that ends at e.
@@ -283,11 +411,7 @@ pub fn short_test(
     let n = v.n;
     let z = v.z;
     if !v.some {
-        return Told {
-            acc: false,
-            q,
-            some: false,
-        };
+        return count_test(plan, pool, table, text, root, node, from, q, e, v.first, z);
     }
     let mode = plan[z];
     if mode == TEST {

@@ -41,7 +41,7 @@ returns-2 c = plain-one (c .before .before .before .before .before .before .befo
 
 -- src/tests.rt:189:1
 returns-3 : tie.Need-returns-3
-returns-3 c = plain-none _ _ _ _ _ _ _
+returns-3 c = plain-none (c .before .before .before .before .before .before .before .before .before .pre) _ (c .before .before .before .before .reach .ensures) (not-false _ (c .before .before .if1 .left))
 
 pub plain-nodes-spec : {M : Type 1} → statement M
 plain-nodes-spec =
