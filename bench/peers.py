@@ -1,7 +1,8 @@
 #!/usr/bin/env python3
 """peers.py QUERIES RESULTS VERSIONS PERFORMANCE.md: puts the tables of bench/peers.sh between the two marks of PERFORMANCE.md.
 
-RESULTS has the lines of every pass: engine, nodes, query, nodes selected, what was timed, ns, rounds. Each figure is the median of its passes.
+RESULTS has the lines of every pass: engine, nodes, query, nodes selected, what was timed, ns, rounds. Each figure is the least of its passes
+that is above 0: a machine that is shared has passes at less than its full speed, and the least are at one speed for all engines.
 It stops where two engines select another number of nodes."""
 import statistics
 import sys
@@ -26,7 +27,7 @@ class Figures:
                 passes.setdefault((engine, int(nodes), query, what), []).append(float(ns))
                 if self.selected.setdefault((int(nodes), query), selected) != selected:
                     sys.exit(f"{engine} selects {selected} nodes, not {self.selected[int(nodes), query]}: {query}, {nodes} nodes")
-        self.value = {k: statistics.median(v) for k, v in passes.items()}
+        self.value = {k: min((x for x in v if x > 0), default=0.0) for k, v in passes.items()}
         self.spread = {k: max(v) / min(v) for k, v in passes.items() if min(v) > 0}
         self.sizes = sorted({k[1] for k in self.value})
 
