@@ -113,14 +113,6 @@ pub record DoneTurn (P L S X : List ℕ) (root cap : ℕ) (l l′ ts ts′ : Lis
 
 -- ---- a query in a filter's code
 
--- the plan, the pool, the table and the two nodes of a test
-pub record Within (P L S X : List ℕ) (root node : ℕ) : Type 0 where
-  pub fewP : length P ≤ maxPlan
-  pub fewL : length L ≤ maxPlan
-  pub tab : Accepted S X
-  pub root-in : root < nodeCount S
-  pub node-in : node < nodeCount S
-
 pub record AskQuery (P L S X : List ℕ) (root node : ℕ) (s : Regs) : Type 0 where
   pub pair : Pair S X L (s .x) (s .y)
   pub e : ℕ

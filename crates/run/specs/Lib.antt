@@ -2,7 +2,6 @@ pub mod Asks
 pub mod Stands
 pub mod Answers
 pub mod Queries
-pub mod Tests
 pub mod Loops
 pub mod Turns
 pub mod Outcomes

@@ -18,7 +18,7 @@ use Rattle.tasks.specs.Tasks.{Work, Later}
 use Rattle.tasks.specs.Weights.{maxTasks}
 use Rattle.tasks.specs.declared.Pos.{Pos}
 use Rattle.run.specs.Asks.{Tested}
-use Rattle.run.specs.Tests.{Left}
+use Rattle.filters.specs.Tests.{Left}
 
 -- the tasks that are left stand for what the first of them stood for
 pub record InWalk (P L S X : List ℕ) (root pc cap : ℕ) (l₀ ts₀ : List ℕ) (s₀ : Pos) (l ts : List ℕ) (s : Pos) : Type 0 where

@@ -6,7 +6,6 @@ use mathlib.Core.Bool.{Bool as Bits, true, false, cond}
 use lib.Dec.{eqb}
 use lib.ListN.{length, getD}
 use native.Mathlib.Omega.{arith}
-use borrow.Author.Tests.{eq-eqb, ne-eqb}
 use Rattle.definition.specs.Limits.{maxInt}
 use Rattle.definition.specs.Values.{Json}
 use Rattle.definition.specs.Forms.{Segments}
@@ -27,22 +26,10 @@ use Rattle.steps.specs.Leaves.{Doing, beginsAt, capFor}
 use Rattle.steps.specs.declared.Regs.{Regs}
 use Rattle.visits.specs.Visits.{DoneReach}
 use Rattle.visits.specs.declared.Reached.{Reached}
+use Rattle.filters.specs.Queries.{Past, begins-root, begins-node}
 use Rattle.run.specs.Asks.{AskQuery, DoneQuery, DoneAnswer}
 
--- ---- where a query begins, and its cap
-
-cond-in : (b : Bits) (x y c : ℕ) → x < c → y < c → cond b x y < c
-cond-in true x y c h g = h
-cond-in false x y c h g = g
-
-pub begins-in : (from k root node c : ℕ) → from ≡ beginsAt k root node → root < c → node < c → from < c
-begins-in from k root node c e h g = rw e (cond-in (eqb k 1) root node c h g)
-
-pub begins-root : (k root node : ℕ) → k ≡ 1 → beginsAt k root node ≡ root
-begins-root k root node e = rw (eq-eqb k 1 e)
-
-pub begins-node : (k root node : ℕ) → k ≡ 2 → beginsAt k root node ≡ node
-begins-node k root node e = rw (ne-eqb k 1 (λ z. absurd (omega arith)))
+-- ---- the cap of a query
 
 cap-by : (a b : Bits) → cond a 9007199254740990 (cond b 1 0) ≤ 9007199254740990
 cap-by true b = omega arith
@@ -53,10 +40,6 @@ pub cap-small : (cap m : ℕ) → cap ≡ capFor m → cap + 1 ≤ maxInt
 cap-small cap m e = let w = cap-by (eqb m 0x19) (eqb m 0x1B) in omega arith
 
 -- ---- the query that stands there
-
--- z is where the query at p ends
-abbrev pub Past : List ℕ → List ℕ → ℕ → ℕ → Type 0
-Past P L p z = (f : Segments) (k : ℕ) → SegmentsAt P L p k f → z ≡ p + length (codeSegments f k)
 
 module _ (P L S X : List ℕ) (root node : ℕ) (s : Regs) (from : ℕ) (b : from ≡ beginsAt (getD P (s .q) 0) root node) where
   query-here : (e : ℕ) (want : Bits) → Doing P L S X s e (nodeAt S X root) (nodeAt S X node) want → s .q < e → getD P (s .q) 0 ≤ 2
@@ -121,24 +104,6 @@ nested-head S X tab from cap h l n f e =
 -- ---- where the names and indices at its front lead
 
 module _ (P L S X : List ℕ) (tab : Accepted S X) (from q : ℕ) (h : from < nodeCount S) (r : Reached) (d : DoneReach P L S X from (q + 1) r) where
-  pub past-of : (z : ℕ) → DonePast P (r .pc) z → Past P L (q + 1) z
-  past-of z p f k a = let y = d .front f k a in p (y .g) (y .j) (y .at .holds) ∙ y .ends
-
-  -- to nothing
-  pub found-lost : r .some ≡ false → (mode : ℕ) (f : Segments) (k : ℕ) → SegmentsAt P L (q + 1) k f → Found S X (evalSegments f (nodeAt S X from) (nodeAt S X from ∷ [])) (capFor mode) 0 0
-  found-lost e mode f k a = found-at S X tab from h f (capFor mode) (0 ∷ []) 0 (d .front f k a .lost e (nodeAt S X from) (st (capFor mode) (0 ∷ []) 0))
-
-  -- to its end
-  one-pushed : (cap n : ℕ) → st cap (n ∷ []) 1 ≡ push n (st cap (0 ∷ []) 0)
-  unfolding push
-  one-pushed cap n = let e : 1 ≡ min (0 + 1) (cap + 1) = omega arith in λ i. record { cap = cap; places = n ∷ []; next = e i }
-
-  pub found-one : r .some ≡ true → getD P (r .pc) 0 ≡ 0x0A → (mode : ℕ) (f : Segments) (k : ℕ) → SegmentsAt P L (q + 1) k f → Found S X (evalSegments f (nodeAt S X from) (nodeAt S X from ∷ [])) (capFor mode) 1 (r .node)
-  found-one e z mode f k a =
-      let y = d .front f k a in
-      found-at S X tab from h f (capFor mode) (r .node ∷ []) 1
-      (one-pushed (capFor mode) (r .node) ∙ segment-end S X tab (y .g) (nodeAt S X from) (r .node) (d .node-in) _ (is-end P (r .pc) (y .j) (y .g) (y .at .holds) z) ∙ y .found e (nodeAt S X from) _)
-
   -- to where a walk begins
   pub walk-found : r .some ≡ true → (cap : ℕ) (l : List ℕ) (n : ℕ) → ((g : Segments) (j : ℕ) → SegmentsAt P L (r .pc) j g → st cap l n ≡ go g (nodeAt S X from) (nodeAt S X (r .node) ∷ []) (st cap (0 ∷ []) 0))
       → (f : Segments) (k : ℕ) → SegmentsAt P L (q + 1) k f → st cap l n ≡ go f (nodeAt S X from) (nodeAt S X from ∷ []) (st cap (0 ∷ []) 0)

@@ -2,13 +2,11 @@
 //
 //   walk       the walk depth first over plan items and child ranges
 //   answers    what is asked of a query in a filter's code
-//   tests      tests of a node that need no registers
 ghost use Rattle.definition.specs.Outcomes.{Runs};
 ghost use Rattle.run.specs.Outcomes.{ran, Planned, RunsForm, AskPlacing, DonePlacing};
 use table::TableChecked;
 
 mod answers;
-mod tests;
 mod walk;
 
 // What a run comes to.

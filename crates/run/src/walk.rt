@@ -2,7 +2,6 @@
 // takes no frames on the stack; only a query in a filter's code is a call inside a call. One walk serves every mode by its cap: it stops as soon as it has passed
 // it. A selection has as many places as its cap; a query in a filter has one place, for its first node.
 use crate::answers;
-use crate::tests;
 use equal::Operand;
 use steps::Regs;
 use steps::leaves;
@@ -17,8 +16,9 @@ use text::bytes;
 use visits::Stop;
 ghost use mathlib.Core.Path.{_≡_};
 ghost use lib.ListN.{length};
-ghost use Rattle.run.specs.Asks.{Asked, AskSegments, DoneSegments, AskWalk, AskKept, DoneKept, AskTurn, DoneTurn, AskTest, DoneTest, Within, AskQuery, DoneQuery};
-ghost use Rattle.run.specs.Tests.{AskRest, DoneRest};
+ghost use Rattle.run.specs.Asks.{Asked, AskSegments, DoneSegments, AskWalk, AskKept, DoneKept, AskTurn, DoneTurn, AskTest, DoneTest, AskQuery, DoneQuery};
+ghost use Rattle.filters.specs.Queries.{Within};
+ghost use Rattle.filters.specs.Tests.{AskRest, DoneRest};
 
 const CURRENT: u8 = 0x02;
 
@@ -275,17 +275,17 @@ fn eval_filter_expr(
     while q < e {
         let k = plan[q];
         if k <= CURRENT {
-            let t = tests::short_test(plan, pool, table, text, root, node, q, e);
+            let t = filters::short_test(plan, pool, table, text, root, node, q, e);
             if !t.some {
                 return eval_rest(plan, pool, table, text, root, node, acc, q, e);
             }
             acc = t.acc;
             q = t.q;
         } else {
-            if !tests::is_logic(k) {
+            if !filters::is_logic(k) {
                 return eval_rest(plan, pool, table, text, root, node, acc, q, e);
             }
-            let t = tests::logic_expr(plan, acc, q);
+            let t = filters::logic_expr(plan, acc, q);
             acc = t.acc;
             q = t.q;
         }

@@ -3,16 +3,16 @@ use Rattle.run.proofs.walk.+eval_filter+eval_filter_expr+eval_query+eva
 use Prim.Native.Nat.{ℕ, _-_}
 use Rattle.run.proofs.walk.eval_filter_expr.Reads as eval-filter-expr
 use Rattle.run.proofs.walk.eval_rest.Reads as eval-rest
-use Rattle.run.proofs.tests.is_logic.Reads as is-logic-reads
-use Rattle.run.proofs.tests.logic_expr.Reads as logic-expr-reads
-use Rattle.run.proofs.tests.short_test.Reads as short-test-reads
+use Rattle.filters.proofs.is_logic.Reads as is-logic-reads
+use Rattle.filters.proofs.logic_expr.Reads as logic-expr-reads
+use Rattle.filters.proofs.short_test.Reads as short-test-reads
 use Rattle.run.proofs.walk.+eval_filter+eval_filter_expr+eval_query+eval_rest+turn_filter+walk+walk_in.Proof.Base.{eval-filter-expr-at, eval-rest-below}
 use native.Mathlib.Omega.{arith}
 use borrow.Author.Needs.{needs}
 use mathlib.Core.Path.{sym, _∙_}
 use borrow.Author.Tests.{not-true, not-false}
 use Rattle.walks.specs.Todos.{todo-start, todo-in, todo-end}
-use Rattle.run.specs.Tests.{logic-kind}
+use Rattle.filters.specs.Tests.{logic-kind}
 use Rattle.run.specs.Loops.{InTest}
 
 abbrev pub calls : ℕ → lts.Claims

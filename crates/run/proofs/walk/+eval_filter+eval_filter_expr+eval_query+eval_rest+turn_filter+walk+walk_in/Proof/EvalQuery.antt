@@ -16,7 +16,8 @@ use borrow.Author.Needs.{needs}
 use borrow.Author.Tests.{not-true, not-false}
 use lib.ListN.{getD}
 use Rattle.walks.specs.Items.{segments-in}
-use Rattle.run.specs.Queries.{begins-in, cap-small, query-done, here, nested-found, nested-head, past-of, found-lost, found-one, walk-found}
+use Rattle.filters.specs.Queries.{begins-in, past-of, found-lost, found-one}
+use Rattle.run.specs.Queries.{cap-small, query-done, here, nested-found, nested-head, walk-found}
 
 abbrev pub calls : ℕ → lts.Claims
 calls t = (begins-reads.Asked, begins-reads.Learnt, reach-reads.Asked, reach-reads.Learnt, past-query-reads.Asked, past-query-reads.Learnt, to-registers-reads.Asked, to-registers-reads.Learnt, cap-of-reads.Asked, cap-of-reads.Learnt, walk-below t, walk.Post)
