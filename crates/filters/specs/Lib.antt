@@ -1,2 +1,4 @@
 pub mod Queries
 pub mod Tests
+pub mod Kept
+pub mod Atoms

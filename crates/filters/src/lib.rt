@@ -17,6 +17,8 @@ ghost use Rattle.equal.specs.Alike.{Compares};
 ghost use Rattle.visits.specs.Visits.{AskReach};
 ghost use Rattle.filters.specs.Tests.{literalKind, logicKind, saysOf, AskNode, DoneNode, AskAgainst, DoneAgainst, DonePlain, AskChildren, DoneChildren, AskCount, DoneCount, AskCounted, DoneCounted, AskCounting, AskShort, DoneShort, AskLogic, DoneLogic};
 
+pub mod atoms;
+
 const CHILD: u8 = 0x03;
 
 const WILDCARD: u8 = 0x08;

@@ -62,43 +62,6 @@ pub record AskWalk (P L : List ℕ) (pc : ℕ) : Type 0 where
   pub query : Query P L pc
   pub going : getD P pc 0 ≡ 0x0A → ⊥
 
--- ---- a test
-
-pub record Tested (P L : List ℕ) (p e : ℕ) (t : Test) (k : ℕ) : Type 0 where
-  pub test : TestAt P L p k t
-  pub place : e ≡ p + length (codeTest t k)
-
-pub record AskTest (P L : List ℕ) (p e : ℕ) : Type 0 where
-  pub t : Test
-  pub k : ℕ
-  pub stands : Tested P L p e t k
-
-abbrev pub DoneTest : List ℕ → List ℕ → List ℕ → List ℕ → ℕ → ℕ → ℕ → ℕ → Bits → Type 0
-DoneTest P L S X root node p e r = (t : Test) (k : ℕ) → Tested P L p e t k → r ≡ evalTest t (nodeAt S X root) (nodeAt S X node)
-
--- ---- the nodes of a range for which a test holds
-
-pub record AskKept (P L S X : List ℕ) (root i e rest len at cap : ℕ) : Type 0 where
-  pub given : Given P L S X
-  pub root-in : root < nodeCount S
-  pub range : i < e → e ≤ nodeCount S
-  pub query : Query P L rest
-  pub room : at ≤ cap + 1
-  pub wide : len ≤ cap + 1
-  pub small : cap < capLimit
-
--- Nothing is left; or all before node r .i are done, and that one, for which the test holds, needs more.
-pub record DoneKept (P L S X : List ℕ) (root i e p z rest cap : ℕ) (l : List ℕ) (at : ℕ) (l′ : List ℕ) (r : Stop) : Type 0 where
-  pub room : r .at ≤ cap + 1
-  pub ended : r .more ≡ false → (t : Test) (k : ℕ) (f : Segments) (k′ : ℕ) → Tested P L p z t k → SegmentsAt P L rest k′ f
-      → st cap l′ (r .at) ≡ over f (nodeAt S X root) (kept t (nodeAt S X root)) S X i e (st cap l at)
-  pub low : r .more ≡ true → i ≤ r .i
-  pub high : r .more ≡ true → r .i < e
-  pub again : r .more ≡ true → (t : Test) (k : ℕ) (f : Segments) (k′ : ℕ) → Tested P L p z t k → SegmentsAt P L rest k′ f
-      → over f (nodeAt S X root) (kept t (nodeAt S X root)) S X (r .i) e (st cap l′ (r .at)) ≡ over f (nodeAt S X root) (kept t (nodeAt S X root)) S X i e (st cap l at)
-  pub holds : r .more ≡ true → (t : Test) (k : ℕ) → Tested P L p z t k → evalTest t (nodeAt S X root) (nodeAt S X (r .i)) ≡ true
-  pub paused : r .more ≡ true → Paused P L S X (r .i) rest (r .node) (r .pc)
-
 -- ---- one turn of a task with a filter
 
 pub record AskTurn (P L S X : List ℕ) (root : ℕ) (t : Task) (len : ℕ) (ts : List ℕ) (h at cap : ℕ) : Type 0 where

@@ -1,5 +1,4 @@
 pub mod Asks
-pub mod Stands
 pub mod Answers
 pub mod Queries
 pub mod Loops

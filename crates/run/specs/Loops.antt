@@ -17,7 +17,7 @@ use Rattle.visits.specs.Visits.{over}
 use Rattle.tasks.specs.Tasks.{Work, Later}
 use Rattle.tasks.specs.Weights.{maxTasks}
 use Rattle.tasks.specs.declared.Pos.{Pos}
-use Rattle.run.specs.Asks.{Tested}
+use Rattle.filters.specs.Kept.{Tested}
 use Rattle.filters.specs.Tests.{Left}
 
 -- the tasks that are left stand for what the first of them stood for
@@ -27,14 +27,6 @@ pub record InWalk (P L S X : List ℕ) (root pc cap : ℕ) (l₀ ts₀ : List �
   pub same : length l ≡ length l₀
   pub cells : length ts ≡ length ts₀
   pub later : (ws : List Work) (σ : State) → Later P L S X pc (nodeAt S X root) ts₀ (s₀ .h) (st cap l₀ (s₀ .at)) ws σ → Later P L S X pc (nodeAt S X root) ts (s .h) (st cap l (s .at)) ws σ
-
--- the nodes of a range for which a test holds
-pub record InKept (P L S X : List ℕ) (root i e p z rest cap : ℕ) (l₀ : List ℕ) (a₀ : ℕ) (l : List ℕ) (a j : ℕ) : Type 0 where
-  pub low : i ≤ j
-  pub same : length l ≡ length l₀
-  pub room : a ≤ cap + 1
-  pub again : (t : Test) (k : ℕ) (f : Segments) (k′ : ℕ) → Tested P L p z t k → SegmentsAt P L rest k′ f
-      → over f (nodeAt S X root) (kept t (nodeAt S X root)) S X j e (st cap l a) ≡ over f (nodeAt S X root) (kept t (nodeAt S X root)) S X i e (st cap l₀ a₀)
 
 -- a filter's code, with an answer and no values
 pub record InTest (P L S X : List ℕ) (root node p e : ℕ) (acc : Bits) (q : ℕ) : Type 0 where

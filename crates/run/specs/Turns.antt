@@ -33,9 +33,9 @@ use Rattle.tasks.specs.Weights.{rank, weight, total, weight-some, total-top}
 use Rattle.tasks.specs.Asks.{AskSegment, DoneSegment, AskSuspend, DoneSuspend, AskTurn as AskAny, DoneTurn as DoneAny}
 use Rattle.tasks.specs.Stacks.{top, as-keeps, kinds, none-left, finish-full, later-then}
 use Rattle.tasks.specs.Laws.{alone-in}
-use Rattle.run.specs.Asks.{Asked, AskSegments, DoneSegments, AskWalk, Tested, AskTest, DoneTest, AskKept, DoneKept, AskTurn, DoneTurn}
-use Rattle.run.specs.Loops.{InWalk, InKept}
-use Rattle.run.specs.Stands.{tested-of}
+use Rattle.run.specs.Asks.{Asked, AskSegments, DoneSegments, AskWalk, AskTurn, DoneTurn}
+use Rattle.filters.specs.Kept.{Tested, AskTest, AskKept, DoneKept, tested-of}
+use Rattle.run.specs.Loops.{InWalk}
 
 -- ---- one node at the front of a query
 
@@ -160,73 +160,6 @@ module _ {P L S X : List ℕ} {node pc cap : ℕ} {l l₀ ts ts₀ : List ℕ} {
           let y = over-left (q .f) (q .k) (q .at) in
           let x = top P L S pc ts′ (s .h) (y .work) (y .stands) h in
           as-keeps P L S pc (s .h) k (x .w) (subst (λ (u : Task). Is P L S pc (s .h) u (x .w)) (sym g) (x .is)) z .is .since
-
--- ---- the nodes of a range for which a test holds
-
-same-state : (cap : ℕ) (l l′ : List ℕ) (a a′ : ℕ) → l′ ≡ l → a′ ≡ a → st cap l′ a′ ≡ st cap l a
-same-state cap l l′ a a′ p q = rw (p, q)
-
-module _ {P L S X : List ℕ} {root i e p z rest cap : ℕ} {l₀ : List ℕ} {a₀ : ℕ} {l : List ℕ} {a j : ℕ} (t : InKept P L S X root i e p z rest cap l₀ a₀ l a j) where
-  pub kept-full : cap < a → length l₀ ≤ cap + 1 → DoneKept P L S X root i e p z rest cap l₀ a₀ l (record { i = j; at = a; node = j; pc = rest; more = false })
-  kept-full h w =
-      record {
-        room = t .room;
-        ended = λ u x k f k′ b c. sym (over-full f (nodeAt S X root) (kept x (nodeAt S X root)) S X j e cap l a h (t .room) (omega (arith, t .same))) ∙ t .again x k f k′ b c;
-        low = λ u. absurd (never u);
-        high = λ u. absurd (never u);
-        again = λ u. absurd (never u);
-        holds = λ u. absurd (never u);
-        paused = λ u. absurd (never u);
-      }
-
-  pub kept-end : e ≤ j → DoneKept P L S X root i e p z rest cap l₀ a₀ l (record { i = e; at = a; node = e; pc = rest; more = false })
-  kept-end h =
-      record {
-        room = t .room;
-        ended = λ u x k f k′ b c. sym (over-end f (nodeAt S X root) (kept x (nodeAt S X root)) S X j e (st cap l a) h) ∙ t .again x k f k′ b c;
-        low = λ u. absurd (never u);
-        high = λ u. absurd (never u);
-        again = λ u. absurd (never u);
-        holds = λ u. absurd (never u);
-        paused = λ u. absurd (never u);
-      }
-
-  module _ {r : Bits} (h : j < e) (y : DoneTest P L S X root j p z r) where
-    pub kept-passed : r ≡ false → InKept P L S X root i e p z rest cap l₀ a₀ l a (j + 1)
-    kept-passed n =
-        record {
-          low = omega (arith, t .low);
-          same = t .same;
-          room = t .room;
-          again = λ x k f k′ b c.
-              over-step f (nodeAt S X root) (kept x (nodeAt S X root)) S X j e (st cap l a) (st cap l a) h (kept-out f x (nodeAt S X root) (nodeAt S X j) (st cap l a) (sym (y x k b) ∙ n))
-              ∙ t .again x k f k′ b c;
-        }
-
-    module _ {l′ : List ℕ} {v : Visited} (n : r ≡ true) (d : DoneVisit P L S X j rest cap l a l′ v) where
-      pub kept-stop : v .more ≡ true → DoneKept P L S X root i e p z rest cap l₀ a₀ l′ (record { i = j; at = v .at; node = v .node; pc = v .pc; more = true })
-      kept-stop m =
-          record {
-            room = d .room;
-            ended = λ u. absurd (never (sym u));
-            low = λ u. t .low;
-            high = λ u. h;
-            again = λ u x k f k′ b c. ap (over f (nodeAt S X root) (kept x (nodeAt S X root)) S X j e) (same-state cap l l′ a (v .at) (d .places m) (d .next m)) ∙ t .again x k f k′ b c;
-            holds = λ u x k b. sym (y x k b) ∙ n;
-            paused = λ u. d .paused m;
-          }
-
-      pub kept-step : v .more ≡ false → length l′ ≡ length l → InKept P L S X root i e p z rest cap l₀ a₀ l′ (v .at) (j + 1)
-      kept-step m w =
-          record {
-            low = omega (arith, t .low);
-            same = w ∙ t .same;
-            room = d .room;
-            again = λ x k f k′ b c.
-                over-step f (nodeAt S X root) (kept x (nodeAt S X root)) S X j e (st cap l a) (st cap l′ (v .at)) h
-                (kept-in f x (nodeAt S X root) (nodeAt S X j) (st cap l a) (st cap l′ (v .at)) (sym (y x k b) ∙ n) (d .ended m f k′ c (nodeAt S X root)))
-                ∙ t .again x k f k′ b c;
-          }
 
 -- ---- a task over them
 

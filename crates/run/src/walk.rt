@@ -16,8 +16,9 @@ use text::bytes;
 use visits::Stop;
 ghost use mathlib.Core.Path.{_≡_};
 ghost use lib.ListN.{length};
-ghost use Rattle.run.specs.Asks.{Asked, AskSegments, DoneSegments, AskWalk, AskKept, DoneKept, AskTurn, DoneTurn, AskTest, DoneTest, AskQuery, DoneQuery};
+ghost use Rattle.run.specs.Asks.{Asked, AskSegments, DoneSegments, AskWalk, AskTurn, DoneTurn, AskQuery, DoneQuery};
 ghost use Rattle.filters.specs.Queries.{Within};
+ghost use Rattle.filters.specs.Kept.{AskTest, DoneTest, AskKept, DoneKept};
 ghost use Rattle.filters.specs.Tests.{AskRest, DoneRest};
 
 const CURRENT: u8 = 0x02;

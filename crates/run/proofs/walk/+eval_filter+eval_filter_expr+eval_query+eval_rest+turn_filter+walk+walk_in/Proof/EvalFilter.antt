@@ -8,8 +8,7 @@ use Rattle.run.proofs.walk.+eval_filter+eval_filter_expr+eval_query+eva
 use native.Mathlib.Omega.{arith}
 use borrow.Author.Needs.{needs}
 use mathlib.Core.Path.{refl, _∙_}
-use Rattle.run.specs.Loops.{InKept}
-use Rattle.run.specs.Turns.{kept-full, kept-end, kept-passed, kept-stop, kept-step}
+use Rattle.filters.specs.Kept.{InKept, kept-full, kept-end, kept-passed, kept-stop, kept-step}
 
 abbrev pub calls : ℕ → lts.Claims
 calls t = (eval-filter-expr-below t, eval-filter-expr.Post, visit-reads.Asked, visit-reads.Learnt)

@@ -1,0 +1,346 @@
+-- A test of one member of a node, as the plan has it: `@` with one name, tested or compared with a literal. What its bytes are, and that what is found under the
+-- name takes what is left of a filter's code further. P is the plan, L the pool, S the table, X the text. Assumes nothing.
+use Prim.Native.Nat.{ℕ, _+_, _≤_, _<_}
+use mathlib.Core.Path.{_≡_, refl, sym, ap, _∙_, subst}
+use mathlib.Core.List.{List, [], _∷_}
+use mathlib.Core.Bool.{Bool as Bits, true, false, cond}
+use lib.Dec.{eqb, ltb}
+use lib.ListN.{length, getD}
+use native.Mathlib.Omega.{arith}
+use borrow.Author.Tests.{eq-eqb, ne-eqb, eqb-true, eqb-false}
+use Rattle.definition.specs.Bytes.{number, part}
+use Rattle.definition.specs.Limits.{maxPlan}
+use Rattle.definition.specs.Values.{Json}
+use Rattle.definition.specs.Forms.{Segments}
+use Rattle.definition.specs.Plans.{codeSegments, codeSelector}
+use Rattle.definition.specs.Compare.{Value}
+use Rattle.definition.specs.Tables.{nodeCount, nodeAt}
+use Rattle.definition.specs.Evaluation.{evalSegments, firstValue}
+use Rattle.walks.specs.Items.{SegmentsAt, Parts, parts, segments-in, end-long}
+use Rattle.walks.specs.Todos.{Todo, todo-in, todo-to, at-query, QueryAt, at-literal}
+use Rattle.equal.specs.declared.members.Member.{Member}
+use Rattle.equal.specs.declared.members.Member.the-variants.{At, Nothing as Absent}
+use Rattle.steps.specs.Ends.{DoneLiteral, AskLiteral, DoneNext}
+use Rattle.steps.specs.EndLaws.{next-name}
+use Rattle.steps.specs.Leaves.{AskValue, AskOne, DoneOne, beginsAt}
+use Rattle.visits.specs.Visits.{Query, Given, AskReach, DoneSingular, DoneReach, Front}
+use Rattle.visits.specs.Loops.{InReach}
+use Rattle.visits.specs.Fronts.{single, Single, along-start, one-asked, reach-lost, reach-next, reach-found}
+use Rattle.visits.specs.declared.Reached.{Reached}
+use Rattle.filters.specs.Queries.{Within, begins-node, found-lost}
+use Rattle.filters.specs.Tests.{Left, AskShort, DoneShort, AskAgainst, DoneAgainst, AskNode, DoneNode, DonePlain, plain-one, short-tested, short-asked, short-compared, against-value, against-nothing, against-node, literal-in, operator-in}
+use Rattle.filters.specs.declared.Told.{Told}
+use Rattle.filters.specs.declared.Nodes.{Nodes}
+use Rattle.filters.specs.declared.atoms.Atom.{Atom}
+use Rattle.filters.specs.declared.atoms.Behind.{Behind}
+
+never : false ≡ true → ⊥
+never e = let n : _≡_ {A = ℕ} 0 1 = cc in omega arith
+
+-- an answer that is told, and the place behind
+abbrev pub tells : Bits → ℕ → Told
+tells b n = record { acc = b; q = n; some = true }
+
+-- ---- one name at the end of a query
+
+pub record AskName (P : List ℕ) (c : ℕ) : Type 0 where
+  pub few : length P ≤ maxPlan
+  pub L : List ℕ
+  pub query : Query P L c
+
+-- a child segment of one name stands at c, and the end behind it
+pub record NameAt (P : List ℕ) (c : ℕ) : Type 0 where
+  pub child-is : getD P c 0 ≡ 3
+  pub alone : number (part P (c + 1) 2) ≡ 1
+  pub name-is : getD P (c + 3) 0 ≡ 5
+  pub end-is : getD P (c + 8) 0 ≡ 0x0A
+
+abbrev pub DoneName : List ℕ → ℕ → Bits → Type 0
+DoneName P c r = r ≡ true → NameAt P c
+
+pub not-name : (P : List ℕ) (c : ℕ) → DoneName P c false
+not-name P c e = absurd (never e)
+
+-- what may be read, test by test
+module _ {P : List ℕ} {c : ℕ} (a : AskName P c) where
+  pub name-in : c < length P
+  name-in = segments-in P (a .L) c (a .query .k) (a .query .f) (a .query .at)
+
+  module _ (t : getD P c 0 ≡ 3) where
+    name-parts : Parts P (a .L) c (a .query .k) (a .query .f)
+    name-parts = parts P (a .L) (a .few) c (a .query .k) (a .query .f) (a .query .at) (λ z. absurd (omega arith))
+
+    pub name-bound : c + 3 < length P
+    name-bound = name-parts .bound
+
+    module _ (u : number (part P (c + 1) 2) ≡ 1) (v : getD P (c + 3) 0 ≡ 5) where
+      pub name-next : c + 8 < length P
+      name-next =
+          let d : DoneSingular P c true = record { child = λ z. t; alone = λ z. u; kind = λ z. omega arith } in
+          let y = single (a .few) d refl (a .query .at) in
+          let l = next-name P (a .few) (c + 3) v (y .x) (a .query .k) (y .here .holds) in
+          omega (arith, segments-in P (a .L) _ (y .j′) (y .behind) (y .after))
+
+module _ {P : List ℕ} {c : ℕ} (few : length P ≤ maxPlan) (n : NameAt P c) where
+  pub one-name : DoneSingular P c true
+  one-name = record { child = λ z. n .child-is; alone = λ z. n .alone; kind = λ z. let e = n .name-is in omega arith }
+
+  pub name-step : DoneNext P (c + 3) (c + 8)
+  name-step s k h = let e = next-name P few (c + 3) (n .name-is) s k h in omega arith
+
+  -- such a query takes nine bytes
+  pub name-long : {L : List ℕ} {k : ℕ} {f : Segments} → SegmentsAt P L c k f → length (codeSegments f k) ≡ 9
+  name-long {L} {k} {f} a =
+      let y = single few one-name refl a in
+      let e = name-step (y .x) k (y .here .holds) in
+      let l = y .long in
+      let z : getD P (c + 3 + length (codeSelector (y .x) k)) 0 ≡ 0x0A = ap (λ (x : ℕ). getD P x 0) (sym e) ∙ n .end-is in
+      let w = end-long P _ (y .j′) (y .behind) (y .after .holds) z in
+      omega arith
+
+-- ---- where it leads
+
+module _ {P L S X : List ℕ} (given : Given P L S X) {node c : ℕ} (node-in : node < nodeCount S) (q : Query P L c) (n : NameAt P c) where
+  name-start : InReach P L S X node c node c
+  name-start = record { node-in = node-in; deeper = omega arith; later = omega arith; query = q; front = λ f k at. along-start at }
+
+  pub name-one : AskOne P L S X (c + 3) node 5 5
+  name-one =
+      let o = one-asked given name-start (one-name (given .fewP) n) refl in
+      let e = n .name-is in
+      record { fewP = o .fewP; fewL = o .fewL; tab = o .tab; node-in = o .node-in; x = o .x; k = o .k; at = o .at; kind-low = omega arith; kind-high = omega arith }
+
+  pub name-lost : (r : Member) → DoneOne P L S X (c + 3) node r → r ≡ Absent → DoneReach P L S X node c (record { node = node; pc = c; some = false })
+  name-lost r o e = record { node-in = node-in; deeper = omega arith; later = omega arith; front = reach-lost given name-start (one-name (given .fewP) n) refl r o e }
+
+  pub name-reached : (r : Member) → DoneOne P L S X (c + 3) node r → (m : ℕ) → r ≡ At m → DoneReach P L S X node c (record { node = m; pc = c + 8; some = true })
+  name-reached r o m e =
+      let i = reach-next given name-start (one-name (given .fewP) n) refl r o m e (c + 8) (name-step (given .fewP) n) in
+      record { node-in = i .node-in; deeper = i .deeper; later = i .later; front = reach-found i }
+
+-- ---- a literal and a comparison behind it
+
+-- something stands at z behind the value of a query
+pub record AskBehind (P : List ℕ) (z e : ℕ) : Type 0 where
+  pub few : length P ≤ maxPlan
+  pub L : List ℕ
+  pub R : Json
+  pub N : Json
+  pub acc : Bits
+  pub v : Value
+  pub want : Bits
+  pub todo : Todo P L z e R N acc Value.nothing v want
+  pub low : 0x10 ≤ getD P z 0
+  pub high : getD P z 0 ≤ 0x13
+
+-- a literal stands at z and a comparison with the operator behind it, up to next
+pub record AgainstAt (P : List ℕ) (z e op next : ℕ) : Type 0 where
+  pub low : 0x10 ≤ getD P z 0
+  pub high : getD P z 0 ≤ 0x13
+  pub more : z < e
+  pub w : ℕ
+  pub past : DoneLiteral P z w
+  pub inside : w < e
+  pub compare-is : getD P w 0 ≡ 0x14
+  pub op-is : op ≡ getD P (w + 1) 0
+  pub next-is : next ≡ w + 2
+
+module _ {P : List ℕ} {z e : ℕ} (a : AskBehind P z e) (m : z < e) where
+  pub behind-literal : AskLiteral P z
+  behind-literal = let g = at-literal P (a .L) z e (a .R) (a .N) (a .acc) Value.nothing (a .v) (a .want) (a .todo) m (a .low) (a .high) in record { l = g .l; k = g .k; holds = g .holds }
+
+  module _ (w : ℕ) (d : DoneLiteral P z w) (o : w < e) where
+    pub behind-in : w < length P
+    behind-in = literal-in P (a .L) z w e d (a .low) (a .high) m o (a .R) (a .N) (a .acc) (a .v) (a .want) (a .todo)
+
+    pub behind-operator : getD P w 0 ≡ 0x14 → w + 1 < length P
+    behind-operator = operator-in P (a .L) z w e d (a .low) (a .high) m o (a .R) (a .N) (a .acc) (a .v) (a .want) (a .todo)
+
+abbrev pub DoneBehind : List ℕ → ℕ → ℕ → Behind → Type 0
+DoneBehind P z e r = r .some ≡ true → AgainstAt P z e (r .op) (r .next)
+
+pub not-behind : (P : List ℕ) (z e op next : ℕ) → DoneBehind P z e (record { op = op; next = next; some = false })
+not-behind P z e op next i = absurd (never i)
+
+-- ---- the test of one member
+
+-- the form of a comparison with a literal of kind k
+unfoldable pub formOf : ℕ → ℕ
+formOf k = cond (eqb k 0x10) 3 2
+
+pub form-number : (k : ℕ) → k ≡ 0x10 → 3 ≡ formOf k
+unfolding formOf
+form-number k e = rw (eq-eqb k 0x10 e)
+
+pub form-other : (k : ℕ) → (k ≡ 0x10 → ⊥) → 2 ≡ formOf k
+unfolding formOf
+form-other k n = rw (ne-eqb k 0x10 n)
+
+form-by : (k : ℕ) (b : Bits) → eqb k 0x10 ≡ b → (_≡_ {A = ℕ} (cond b 3 2) 1 → ⊥) × (_≡_ {A = ℕ} (cond b 3 2) 3 → k ≡ 0x10)
+form-by k true e = (λ i. absurd (omega arith), λ i. eqb-true k 0x10 e)
+form-by k false e = (λ i. absurd (omega arith), λ i. absurd (omega arith))
+
+-- such a form is that of no bare test, and says what kind the literal has
+pub form-says : (k f : ℕ) → f ≡ formOf k → (f ≡ 1 → ⊥) × (f ≡ 3 → k ≡ 0x10)
+unfolding formOf
+form-says k f e = let y = form-by k (eqb k 0x10) refl in (λ i. y .0 (sym e ∙ i), λ i. y .1 (sym e ∙ i))
+
+-- a test stands at q
+pub record AskAtom (P : List ℕ) (q e : ℕ) : Type 0 where
+  pub few : length P ≤ maxPlan
+  pub L : List ℕ
+  pub R : Json
+  pub N : Json
+  pub acc : Bits
+  pub want : Bits
+  pub todo : Left P L q e R N acc want
+  pub more : q < e
+
+pub record AtomAt (P : List ℕ) (q e : ℕ) (t : Atom) : Type 0 where
+  pub current : getD P q 0 ≡ 2
+  pub here : NameAt P (q + 1)
+  pub start-is : t .start ≡ number (part P (q + 1 + 3 + 1) 2)
+  pub size-is : t .size ≡ number (part P (q + 1 + 3 + 3) 2)
+  pub has : t .form ≡ 1 → (getD P (q + 1 + 9) 0 ≡ 0x18) × (t .next ≡ q + 1 + 10)
+  pub compared : (t .form ≡ 1 → ⊥) → AgainstAt P (q + 1 + 9) e (t .op) (t .next)
+  pub integer-is : t .form ≡ 3 → getD P (q + 1 + 9) 0 ≡ 0x10
+
+abbrev pub DoneAtom : List ℕ → ℕ → ℕ → Atom → Type 0
+DoneAtom P q e t = (t .form ≡ 0 → ⊥) → AtomAt P q e t
+
+module _ {P : List ℕ} {q e : ℕ} (a : AskAtom P q e) where
+  pub atom-in : q < length P
+  atom-in = todo-in P (a .L) q e (a .R) (a .N) (a .acc) Value.nothing Value.nothing (a .want) (a .todo) (a .more)
+
+  module _ (c : getD P q 0 ≡ 2) where
+    atom-query : QueryAt P (a .L) q e (a .R) (a .N) (a .acc) Value.nothing Value.nothing (a .want) (a .N)
+    atom-query = at-query P (a .L) q e (a .R) (a .N) (a .acc) Value.nothing Value.nothing (a .want) (a .todo) (a .more) (omega arith) (a .N) (λ z. absurd (omega arith)) (λ z. refl)
+
+    pub atom-name : AskName P (q + 1)
+    atom-name = let y = atom-query in record { few = a .few; L = a .L; query = record { f = y .f; k = y .k; at = y .at } }
+
+    module _ (n : NameAt P (q + 1)) where
+      atom-place : q + 1 + length (codeSegments (atom-query .f) (atom-query .k)) ≡ q + 1 + 9
+      atom-place = ap (λ (x : ℕ). q + 1 + x) (name-long (a .few) n (atom-query .at))
+
+      pub atom-mode : q + 1 + 9 < length P
+      atom-mode = let b = atom-query .bound in let p = atom-place in omega arith
+
+      pub atom-behind : 0x10 ≤ getD P (q + 1 + 9) 0 → getD P (q + 1 + 9) 0 ≤ 0x13 → AskBehind P (q + 1 + 9) e
+      atom-behind lo hi =
+          let y = atom-query in
+          let p = atom-place in
+          let g : getD P (q + 1 + length (codeSegments (y .f) (y .k))) 0 ≡ getD P (q + 1 + 9) 0 = ap (λ (x : ℕ). getD P x 0) p in
+          record {
+            few = a .few;
+            L = a .L;
+            R = a .R;
+            N = a .N;
+            acc = a .acc;
+            v = firstValue (evalSegments (y .f) (a .N) (a .N ∷ []));
+            want = a .want;
+            todo = todo-to P (a .L) _ (q + 1 + 9) e _ _ _ _ _ _ _ _ (a .want) (sym p) refl refl refl
+                (y .is-first (λ i. absurd (omega arith)) (λ i. absurd (omega arith)) (λ i. absurd (omega arith)) (λ i. absurd (omega arith)) _ refl);
+            low = lo;
+            high = hi;
+          }
+
+-- ---- what it says of a node
+
+module _ {P L S X : List ℕ} {root node q e : ℕ} (a : AskShort P L S X root node q e) {t : Atom} (b : AtomAt P q e t) where
+  told-given : Given P L S X
+  told-given = let w = a .within in record { fewP = w .fewP; fewL = w .fewL; tab = w .tab }
+
+  told-begins : node ≡ beginsAt (getD P q 0) root node
+  told-begins = sym (begins-node _ root node (b .current))
+
+  abbrev told-asked : AskAtom P q e
+  told-asked = record { few = a .within .fewP; L = L; R = _; N = _; acc = _; want = _; todo = a .todo; more = a .more }
+
+  pub told-query : Query P L (q + 1)
+  told-query = let y = atom-query told-asked (b .current) in record { f = y .f; k = y .k; at = y .at }
+
+  pub told-one : AskOne P L S X (q + 1 + 3) node 5 5
+  told-one = name-one told-given (a .within .node-in) told-query (b .here)
+
+  pub told-any : AskOne P L S X (q + 1 + 3) node 5 6
+  told-any =
+      let o = told-one in
+      let h = o .kind-high in
+      record { fewP = o .fewP; fewL = o .fewL; tab = o .tab; node-in = o .node-in; x = o .x; k = o .k; at = o .at; kind-low = o .kind-low; kind-high = omega arith }
+
+  pub told-room : q + 1 + 9 < maxPlan
+  told-room = let h = a .within .fewP in omega (arith, atom-mode told-asked (b .current) (b .here))
+
+  -- nothing is found
+  plain-absent : (r : Member) → DoneOne P L S X (q + 1 + 3) node r → r ≡ Absent → DonePlain P L S X node q (record { n = 0; first = 0; z = q + 1 + 9; some = true })
+  plain-absent r o i =
+      let d = name-lost told-given (a .within .node-in) told-query (b .here) r o i in
+      record {
+        inside = λ u. absurd (omega arith);
+        past = λ u f k h. ap (λ (x : ℕ). q + 1 + x) (sym (name-long (a .within .fewP) (b .here) h));
+        found = λ u. found-lost P L S X (a .within .tab) node q (a .within .node-in) _ d refl 0x19;
+        onward = λ u. absurd (never (sym u));
+      }
+
+  -- node m is found
+  plain-found : (r : Member) → DoneOne P L S X (q + 1 + 3) node r → (m : ℕ) → r ≡ At m → DonePlain P L S X node q (record { n = 1; first = m; z = q + 1 + 9; some = true })
+  plain-found r o m i =
+      let d = name-reached told-given (a .within .node-in) told-query (b .here) r o m i in
+      let x : q + 1 + 8 + 1 ≡ q + 1 + 9 = omega arith in
+      subst (λ (z : ℕ). DonePlain P L S X node q (record { n = 1; first = m; z = z; some = true })) x
+      (plain-one (record { given = told-given; node-in = a .within .node-in; query = told-query }) _ d refl (b .here .end-is))
+
+  module _ (v : Nodes) (d : DonePlain P L S X node q v) (s : v .some ≡ true) (z : v .z ≡ q + 1 + 9) where
+    mode-is : getD P (v .z) 0 ≡ getD P (q + 1 + 9) 0
+    mode-is = ap (λ (x : ℕ). getD P x 0) z
+
+    told-tested : t .form ≡ 1 → (r : Bits) → r ≡ ltb 0 (v .n) → DoneShort P L S X root node q e (tells r (t .next))
+    told-tested i r u =
+        let h = b .has i in
+        let h1 = h .1 in
+        let x : v .z + 1 ≡ t .next = omega arith in
+        subst (λ (y : ℕ). DoneShort P L S X root node q e (tells r y)) x (short-tested a node told-begins v d s (mode-is ∙ h .0) r u)
+
+    module _ (i : t .form ≡ 1 → ⊥) where
+      told-behind : AgainstAt P (v .z) e (t .op) (t .next)
+      told-behind = subst (λ (y : ℕ). AgainstAt P y e (t .op) (t .next)) (sym z) (b .compared i)
+
+      told-against : AskAgainst P L S X (v .n) (v .first) (v .z) e
+      told-against = short-asked a node told-begins v d s (told-behind .low) (told-behind .high)
+
+      pub told-value : AskValue P L (v .z)
+      told-value = against-value told-against (told-behind .more)
+
+      told-by : (r : Bits) → DoneAgainst P L S X (v .n) (v .first) (v .z) e (record { acc = r; q = told-behind .w + 2; some = true }) → DoneShort P L S X root node q e (tells r (t .next))
+      told-by r g =
+          subst (λ (y : ℕ). DoneShort P L S X root node q e (tells r y)) (sym (told-behind .next-is))
+          (short-compared a node told-begins v d s (told-behind .low) (told-behind .high) _ g)
+
+      told-nothing : v .n ≡ 0 → DoneShort P L S X root node q e (tells false (t .next))
+      told-nothing u = let g = told-behind in told-by false (against-nothing told-against (g .more) (g .w) (g .past) (g .inside) (g .compare-is) u)
+
+      told-node : (v .n ≡ 0 → ⊥) → (r : Bits) → DoneNode P L S X (v .first) (v .z) (t .op) r → DoneShort P L S X root node q e (tells r (t .next))
+      told-node u r g =
+          let y = told-behind in
+          told-by r (against-node told-against (y .more) (y .w) (y .past) (y .inside) (y .compare-is) u r (subst (λ (o : ℕ). DoneNode P L S X (v .first) (v .z) o r) (y .op-is) g))
+
+  -- under the name there is nothing
+  pub atom-absent : (r : Member) → DoneOne P L S X (q + 1 + 3) node r → r ≡ Absent → DoneShort P L S X root node q e (tells false (t .next))
+  atom-absent r o i = by (eqb (t .form) 1) refl
+    where
+      by : (x : Bits) → eqb (t .form) 1 ≡ x → DoneShort P L S X root node q e (tells false (t .next))
+      by true j = told-tested _ (plain-absent r o i) refl refl (eqb-true (t .form) 1 j) false refl
+      by false j = told-nothing _ (plain-absent r o i) refl refl (eqb-false (t .form) 1 j) refl
+
+  -- there is node m
+  module _ (r : Member) (o : DoneOne P L S X (q + 1 + 3) node r) (m : ℕ) (i : r ≡ At m) where
+    pub atom-has : t .form ≡ 1 → DoneShort P L S X root node q e (tells true (t .next))
+    atom-has j = told-tested _ (plain-found r o m i) refl refl j true refl
+
+    module _ (j : t .form ≡ 1 → ⊥) where
+      pub atom-asks : AskNode P L S X m (q + 1 + 9)
+      atom-asks = record { tab = a .within .tab; node-in = o .inside m i; literal = told-value _ (plain-found r o m i) refl refl j }
+
+      pub atom-compared : (y : Bits) → DoneNode P L S X m (q + 1 + 9) (t .op) y → DoneShort P L S X root node q e (tells y (t .next))
+      atom-compared y g = told-node _ (plain-found r o m i) refl refl j (λ k. absurd (omega arith)) y g

@@ -1,0 +1,257 @@
+// A test of one member of a node, `@` with one name, or of its comparison with a literal: read from the plan once for all nodes of a range.
+use equal::members;
+use equal::members::Member;
+use steps::leaves;
+use steps::plans;
+use table::records;
+use text::bytes;
+ghost use mathlib.Core.Path.{_≡_};
+ghost use Prim.Native.Nat.{_+_};
+ghost use Rattle.definition.specs.Bytes.{number, part};
+ghost use Rattle.steps.specs.Leaves.{AskOne, DoneOne};
+ghost use Rattle.filters.specs.Tests.{AskShort, DoneShort};
+ghost use Rattle.filters.specs.Atoms.{AskName, DoneName, AskBehind, DoneBehind, AskAtom, DoneAtom, AtomAt, formOf, tells};
+
+const CURRENT: u8 = 0x02;
+
+const CHILD: u8 = 0x03;
+
+const NAME: u8 = 0x05;
+
+const END: u8 = 0x0A;
+
+const INTEGER: u8 = 0x10;
+
+const COMPARE: u8 = 0x14;
+
+const TEST: u8 = 0x18;
+
+const KIND_INTEGER: u8 = 3;
+
+const KIND_MAP: u8 = 7;
+
+// The forms of such a test: that the member is there, its comparison with a literal, and with an integer. 0 stands for no such test.
+const HAS: u8 = 1;
+
+const COMPARED: u8 = 2;
+
+const NUMBER: u8 = 3;
+
+// The name's place in the pool, the operator, and the place behind the test.
+pub struct Atom {
+    pub form: u8,
+    pub start: usize,
+    pub size: usize,
+    pub op: u8,
+    pub next: usize,
+}
+
+// The operator behind a literal, and the place behind that; `some` is false where there is none.
+pub struct Behind {
+    pub op: u8,
+    pub next: usize,
+    pub some: bool,
+}
+
+// Whether a child segment of one name stands at c, at the end of its query.
+pub fn names_member(plan: &[u8], c: usize) -> bool
+    requires { ⌜ AskName (now plan) c ⌝ }
+    ensures { λ r. ⌜ DoneName (now (plan .entry)) c r ⌝ }
+{
+    if plan[c] != CHILD {
+        return false;
+    }
+    if bytes::word16(plan, c + 1) != 1 {
+        return false;
+    }
+    if plan[c + 3] != NAME {
+        return false;
+    }
+    plan[c + 8] == END
+}
+
+// The comparison behind the literal at z, in code that ends at e.
+pub fn behind_literal(plan: &[u8], z: usize, e: usize) -> Behind
+    requires { ⌜ AskBehind (now plan) z e ⌝ }
+    ensures { λ r. ⌜ DoneBehind (now (plan .entry)) z e r ⌝ }
+{
+    if e <= z {
+        return Behind {
+            op: 0,
+            next: z,
+            some: false,
+        };
+    }
+    let w = plans::past_literal(plan, z);
+    if e <= w {
+        return Behind {
+            op: 0,
+            next: z,
+            some: false,
+        };
+    }
+    if plan[w] != COMPARE {
+        return Behind {
+            op: 0,
+            next: z,
+            some: false,
+        };
+    }
+    Behind {
+        op: plan[w + 1],
+        next: w + 2,
+        some: true,
+    }
+}
+
+// The form of a comparison with a literal of kind k.
+fn form_of(k: u8) -> u8
+    ensures { λ r. ⌜ r ≡ formOf k ⌝ }
+{
+    if k == INTEGER {
+        return NUMBER;
+    }
+    COMPARED
+}
+
+// The test at q of one member, in code that ends at e.
+pub fn read_atom(plan: &[u8], q: usize, e: usize) -> Atom
+    requires { ⌜ AskAtom (now plan) q e ⌝ }
+    ensures { λ r. ⌜ DoneAtom (now (plan .entry)) q e r ⌝ }
+{
+    if plan[q] != CURRENT {
+        return no_atom();
+    }
+    let c = q + 1;
+    if !names_member(plan, c) {
+        return no_atom();
+    }
+    let start = bytes::word16(plan, c + 3 + 1);
+    let size = bytes::word16(plan, c + 3 + 3);
+    let k = plan[c + 9];
+    if k == TEST {
+        return Atom {
+            form: HAS,
+            start,
+            size,
+            op: 0,
+            next: c + 10,
+        };
+    }
+    if !crate::is_literal(k) {
+        return no_atom();
+    }
+    let b = behind_literal(plan, c + 9, e);
+    if !b.some {
+        return no_atom();
+    }
+    Atom {
+        form: form_of(k),
+        start,
+        size,
+        op: b.op,
+        next: b.next,
+    }
+}
+
+// No test of one member.
+fn no_atom() -> Atom
+    ensures { λ r. ⌜ r .form ≡ 0 ⌝ }
+{
+    Atom {
+        form: 0,
+        start: 0,
+        size: 0,
+        op: 0,
+        next: 0,
+    }
+}
+
+// The member of a node whose name is the `size` bytes of the pool from `start` on, as the name at p says. What steps::leaves has for this is called from several
+// places; this one is called from one, so that a compiler puts it where it is called.
+fn named(
+    plan: &[u8],
+    pool: &[u8],
+    table: &[u8],
+    text: &[u8],
+    p: usize,
+    start: usize,
+    size: usize,
+    node: usize,
+) -> Member
+    requires { ⌜ AskOne (now plan) (now pool) (now table) (now text) p node 5 5 ⌝ }
+    requires { ⌜ (start ≡ number (part (now plan) (p + 1) 2)) × (size ≡ number (part (now plan) (p + 3) 2)) ⌝ }
+    ensures { λ r. ⌜ DoneOne (now (plan .entry)) (now (pool .entry)) (now (table .entry)) (now (text .entry)) p node r ⌝ }
+{
+    if records::kind(table, node) != KIND_MAP {
+        return Member::Nothing;
+    }
+    let first = records::low_word(table, node) as usize;
+    let count = records::child_count(table, node) as usize;
+    members::find_member(table, text, first, count, pool, start, size)
+}
+
+// What the test at q of one member says of a node.
+pub fn holds(
+    plan: &[u8],
+    pool: &[u8],
+    table: &[u8],
+    text: &[u8],
+    root: usize,
+    node: usize,
+    q: usize,
+    e: usize,
+    t: Atom,
+) -> bool
+    requires { ⌜ AskShort (now plan) (now pool) (now table) (now text) root node q e ⌝ }
+    requires { ⌜ AtomAt (now plan) q e t ⌝ }
+    ensures { λ r. ⌜ DoneShort (now (plan .entry)) (now (pool .entry)) (now (table .entry)) (now (text .entry)) root node q e (tells r (t .next)) ⌝ }
+{
+    let form = t.form;
+    let op = t.op;
+    let start = t.start;
+    let size = t.size;
+    let c = q + 1;
+    let found = named(plan, pool, table, text, c + 3, start, size, node);
+    let Member::At(m) = found else {
+        return false;
+    };
+    if form == HAS {
+        return true;
+    }
+    if form == NUMBER {
+        if records::kind(table, m) == KIND_INTEGER {
+            return crate::compare_integers(plan, pool, table, text, op, m, c + 9);
+        }
+    }
+    crate::compare_node(plan, pool, table, text, op, m, c + 9)
+}
+
+// The same of a test that is asked for fewer nodes, so that it may be a call.
+pub fn holds_next(
+    plan: &[u8],
+    pool: &[u8],
+    table: &[u8],
+    text: &[u8],
+    root: usize,
+    node: usize,
+    q: usize,
+    e: usize,
+    t: Atom,
+) -> bool
+    requires { ⌜ AskShort (now plan) (now pool) (now table) (now text) root node q e ⌝ }
+    requires { ⌜ AtomAt (now plan) q e t ⌝ }
+    ensures { λ r. ⌜ DoneShort (now (plan .entry)) (now (pool .entry)) (now (table .entry)) (now (text .entry)) root node q e (tells r (t .next)) ⌝ }
+{
+    let form = t.form;
+    let op = t.op;
+    let c = q + 1;
+    let found = leaves::select_one(plan, pool, table, text, c + 3, node);
+    let Member::At(m) = found else {
+        return false;
+    };
+    if form == HAS {
+        return true;
+    }
+    crate::compare_node(plan, pool, table, text, op, m, c + 9)
+}
