@@ -12,6 +12,7 @@ use text::bytes;
 ghost use mathlib.Core.Path.{_≡_};
 ghost use Prim.Native.Nat.{_+_, _≤_, _<_};
 ghost use lib.ListN.{length};
+ghost use Rattle.definition.specs.Bytes.{part, number};
 ghost use Rattle.definition.specs.Tables.{nodeCount};
 ghost use Rattle.tables.specs.Accepted.{Accepted};
 ghost use Rattle.steps.specs.Leaves.{AskValue, DoneValue, constantOf, AskOne, DoneOne, AskSlice, DoneSlice, AskWalk, DoneWalk, AskOp, DoneOp, beginsAt, capFor};
@@ -85,9 +86,19 @@ pub fn literal(plan: &[u8], pool: &[u8], q: usize) -> Operand
 
 // ---- selectors that give one node or none
 
-// The member that the name at p selects of a node.
-fn by_name(plan: &[u8], pool: &[u8], table: &[u8], text: &[u8], p: usize, node: usize) -> Member
+// The member of a node whose name is the `size` bytes of the pool from `start` on, as the name at p says.
+pub fn named(
+    plan: &[u8],
+    pool: &[u8],
+    table: &[u8],
+    text: &[u8],
+    p: usize,
+    start: usize,
+    size: usize,
+    node: usize,
+) -> Member
     requires { ⌜ AskOne (now plan) (now pool) (now table) (now text) p node 5 5 ⌝ }
+    requires { ⌜ (start ≡ number (part (now plan) (p + 1) 2)) × (size ≡ number (part (now plan) (p + 3) 2)) ⌝ }
     ensures { λ r. ⌜ DoneOne (now (plan .entry)) (now (pool .entry)) (now (table .entry)) (now (text .entry)) p node r ⌝ }
 {
     if records::kind(table, node) != KIND_MAP {
@@ -95,13 +106,28 @@ fn by_name(plan: &[u8], pool: &[u8], table: &[u8], text: &[u8], p: usize, node: 
     }
     let first = records::low_word(table, node) as usize;
     let count = records::child_count(table, node) as usize;
-    let start = bytes::word16(plan, p + 1);
-    let size = bytes::word16(plan, p + 3);
     members::find_member(table, text, first, count, pool, start, size)
 }
 
+// The member that the name at p selects of a node.
+fn by_name(plan: &[u8], pool: &[u8], table: &[u8], text: &[u8], p: usize, node: usize) -> Member
+    requires { ⌜ AskOne (now plan) (now pool) (now table) (now text) p node 5 5 ⌝ }
+    ensures { λ r. ⌜ DoneOne (now (plan .entry)) (now (pool .entry)) (now (table .entry)) (now (text .entry)) p node r ⌝ }
+{
+    let start = bytes::word16(plan, p + 1);
+    let size = bytes::word16(plan, p + 3);
+    named(plan, pool, table, text, p, start, size, node)
+}
+
 // The element that the index at p selects of a node.
-fn by_index(plan: &[u8], pool: &[u8], table: &[u8], text: &[u8], p: usize, node: usize) -> Member
+pub fn by_index(
+    plan: &[u8],
+    pool: &[u8],
+    table: &[u8],
+    text: &[u8],
+    p: usize,
+    node: usize,
+) -> Member
     requires { ⌜ AskOne (now plan) (now pool) (now table) (now text) p node 6 6 ⌝ }
     ensures { λ r. ⌜ DoneOne (now (plan .entry)) (now (pool .entry)) (now (table .entry)) (now (text .entry)) p node r ⌝ }
 {
