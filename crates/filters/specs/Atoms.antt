@@ -20,15 +20,16 @@ use Rattle.walks.specs.Items.{SegmentsAt, Parts, parts, segments-in, end-long}
 use Rattle.walks.specs.Todos.{Todo, todo-in, todo-to, at-query, QueryAt, at-literal}
 use Rattle.equal.specs.declared.members.Member.{Member}
 use Rattle.equal.specs.declared.members.Member.the-variants.{At, Nothing as Absent}
-use Rattle.steps.specs.Ends.{DoneLiteral, AskLiteral, DoneNext}
-use Rattle.steps.specs.EndLaws.{next-name}
+use Rattle.steps.specs.Ends.{DoneLiteral}
+use Rattle.steps.specs.EndLaws.{past-constant, past-text, past-number}
 use Rattle.steps.specs.Leaves.{AskValue, AskOne, DoneOne, beginsAt}
-use Rattle.visits.specs.Visits.{Query, Given, AskReach, DoneSingular, DoneReach, Front}
+use Rattle.visits.specs.Visits.{Query, Given, Head, AskReach, DoneReach}
 use Rattle.visits.specs.Loops.{InReach}
-use Rattle.visits.specs.Fronts.{single, Single, along-start, one-asked, reach-lost, reach-next, reach-found}
+use Rattle.visits.specs.Heads.{name-ends}
+use Rattle.visits.specs.Fronts.{single, along-start, one-asked, reach-lost, reach-next, reach-found}
 use Rattle.visits.specs.declared.Reached.{Reached}
 use Rattle.filters.specs.Queries.{Within, begins-node, found-lost}
-use Rattle.filters.specs.Tests.{Left, AskShort, DoneShort, AskAgainst, DoneAgainst, AskNode, DoneNode, DonePlain, plain-one, short-tested, short-asked, short-compared, against-value, against-nothing, against-node, literal-in, operator-in}
+use Rattle.filters.specs.Tests.{Left, AskShort, DoneShort, AskAgainst, DoneAgainst, AskNode, DoneNode, DonePlain, plain-one, short-tested, short-asked, short-compared, against-value, against-nothing, against-node, short-query}
 use Rattle.filters.specs.declared.Told.{Told}
 use Rattle.filters.specs.declared.Nodes.{Nodes}
 use Rattle.filters.specs.declared.atoms.Atom.{Atom}
@@ -43,17 +44,11 @@ tells b n = record { acc = b; q = n; some = true }
 
 -- ---- one name at the end of a query
 
-pub record AskName (P : List ℕ) (c : ℕ) : Type 0 where
-  pub few : length P ≤ maxPlan
-  pub L : List ℕ
-  pub query : Query P L c
-
 -- a child segment of one name stands at c, and the end behind it
 pub record NameAt (P : List ℕ) (c : ℕ) : Type 0 where
-  pub child-is : getD P c 0 ≡ 3
-  pub alone : number (part P (c + 1) 2) ≡ 1
-  pub name-is : getD P (c + 3) 0 ≡ 5
+  pub head : Head P c 5
   pub end-is : getD P (c + 8) 0 ≡ 0x0A
+  pub bound : c + 8 < length P
 
 abbrev pub DoneName : List ℕ → ℕ → Bits → Type 0
 DoneName P c r = r ≡ true → NameAt P c
@@ -61,38 +56,12 @@ DoneName P c r = r ≡ true → NameAt P c
 pub not-name : (P : List ℕ) (c : ℕ) → DoneName P c false
 not-name P c e = absurd (never e)
 
--- what may be read, test by test
-module _ {P : List ℕ} {c : ℕ} (a : AskName P c) where
-  pub name-in : c < length P
-  name-in = segments-in P (a .L) c (a .query .k) (a .query .f) (a .query .at)
-
-  module _ (t : getD P c 0 ≡ 3) where
-    name-parts : Parts P (a .L) c (a .query .k) (a .query .f)
-    name-parts = parts P (a .L) (a .few) c (a .query .k) (a .query .f) (a .query .at) (λ z. absurd (omega arith))
-
-    pub name-bound : c + 3 < length P
-    name-bound = name-parts .bound
-
-    module _ (u : number (part P (c + 1) 2) ≡ 1) (v : getD P (c + 3) 0 ≡ 5) where
-      pub name-next : c + 8 < length P
-      name-next =
-          let d : DoneSingular P c true = record { child = λ z. t; alone = λ z. u; kind = λ z. omega arith } in
-          let y = single (a .few) d refl (a .query .at) in
-          let l = next-name P (a .few) (c + 3) v (y .x) (a .query .k) (y .here .holds) in
-          omega (arith, segments-in P (a .L) _ (y .j′) (y .behind) (y .after))
-
 module _ {P : List ℕ} {c : ℕ} (few : length P ≤ maxPlan) (n : NameAt P c) where
-  pub one-name : DoneSingular P c true
-  one-name = record { child = λ z. n .child-is; alone = λ z. n .alone; kind = λ z. let e = n .name-is in omega arith }
-
-  pub name-step : DoneNext P (c + 3) (c + 8)
-  name-step s k h = let e = next-name P few (c + 3) (n .name-is) s k h in omega arith
-
   -- such a query takes nine bytes
   pub name-long : {L : List ℕ} {k : ℕ} {f : Segments} → SegmentsAt P L c k f → length (codeSegments f k) ≡ 9
   name-long {L} {k} {f} a =
-      let y = single few one-name refl a in
-      let e = name-step (y .x) k (y .here .holds) in
+      let y = single few (n .head) a in
+      let e = name-ends few (n .head) (y .x) k (y .here .holds) in
       let l = y .long in
       let z : getD P (c + 3 + length (codeSelector (y .x) k)) 0 ≡ 0x0A = ap (λ (x : ℕ). getD P x 0) (sym e) ∙ n .end-is in
       let w = end-long P _ (y .j′) (y .behind) (y .after .holds) z in
@@ -100,38 +69,70 @@ module _ {P : List ℕ} {c : ℕ} (few : length P ≤ maxPlan) (n : NameAt P c) 
 
 -- ---- where it leads
 
+-- from a node no segment further
+pub start-here : {P L S X : List ℕ} {node c : ℕ} → node < nodeCount S → Query P L c → InReach P L S X node c node c
+start-here h q = record { node-in = h; deeper = omega arith; later = omega arith; query = q; front = λ f k at. along-start at }
+
 module _ {P L S X : List ℕ} (given : Given P L S X) {node c : ℕ} (node-in : node < nodeCount S) (q : Query P L c) (n : NameAt P c) where
   name-start : InReach P L S X node c node c
-  name-start = record { node-in = node-in; deeper = omega arith; later = omega arith; query = q; front = λ f k at. along-start at }
+  name-start = start-here node-in q
 
   pub name-one : AskOne P L S X (c + 3) node 5 5
-  name-one =
-      let o = one-asked given name-start (one-name (given .fewP) n) refl in
-      let e = n .name-is in
-      record { fewP = o .fewP; fewL = o .fewL; tab = o .tab; node-in = o .node-in; x = o .x; k = o .k; at = o .at; kind-low = omega arith; kind-high = omega arith }
+  name-one = one-asked given name-start (n .head)
 
   pub name-lost : (r : Member) → DoneOne P L S X (c + 3) node r → r ≡ Absent → DoneReach P L S X node c (record { node = node; pc = c; some = false })
-  name-lost r o e = record { node-in = node-in; deeper = omega arith; later = omega arith; front = reach-lost given name-start (one-name (given .fewP) n) refl r o e }
+  name-lost r o e = record { node-in = node-in; deeper = omega arith; later = omega arith; front = reach-lost given name-start (n .head) r o e }
 
   pub name-reached : (r : Member) → DoneOne P L S X (c + 3) node r → (m : ℕ) → r ≡ At m → DoneReach P L S X node c (record { node = m; pc = c + 8; some = true })
   name-reached r o m e =
-      let i = reach-next given name-start (one-name (given .fewP) n) refl r o m e (c + 8) (name-step (given .fewP) n) in
+      let i = reach-next given name-start (n .head) r o m e (c + 8) (name-ends (given .fewP) (n .head)) in
       record { node-in = i .node-in; deeper = i .deeper; later = i .later; front = reach-found i }
 
 -- ---- a literal and a comparison behind it
 
--- something stands at z behind the value of a query
-pub record AskBehind (P : List ℕ) (z e : ℕ) : Type 0 where
+-- code that ends at e is read from q on
+pub record AskCode (P : List ℕ) (q e : ℕ) : Type 0 where
   pub few : length P ≤ maxPlan
-  pub L : List ℕ
-  pub R : Json
-  pub N : Json
-  pub acc : Bits
-  pub v : Value
-  pub want : Bits
-  pub todo : Todo P L z e R N acc Value.nothing v want
-  pub low : 0x10 ≤ getD P z 0
-  pub high : getD P z 0 ≤ 0x13
+  pub inside : e ≤ length P
+  pub near : q ≤ maxPlan
+
+-- how many bytes a literal of kind k takes
+unfoldable pub sizeOf : ℕ → ℕ
+sizeOf k = cond (eqb k 0x13) 2 (cond (eqb k 0x12) 5 9)
+
+pub size-constant : (k : ℕ) → k ≡ 0x13 → 2 ≡ sizeOf k
+unfolding sizeOf
+size-constant k e = rw (eq-eqb k 0x13 e)
+
+pub size-text : (k : ℕ) → (k ≡ 0x13 → ⊥) → k ≡ 0x12 → 5 ≡ sizeOf k
+unfolding sizeOf
+size-text k n e = rw (ne-eqb k 0x13 n, eq-eqb k 0x12 e)
+
+pub size-number : (k : ℕ) → (k ≡ 0x13 → ⊥) → (k ≡ 0x12 → ⊥) → 9 ≡ sizeOf k
+unfolding sizeOf
+size-number k n m = rw (ne-eqb k 0x13 n, ne-eqb k 0x12 m)
+
+size-by : (b d : Bits) → cond b 2 (cond d 5 9) ≤ 9
+size-by true d = omega arith
+size-by false true = omega arith
+size-by false false = omega arith
+
+size-small : (k : ℕ) → sizeOf k ≤ 9
+unfolding sizeOf
+size-small k = size-by (eqb k 0x13) (eqb k 0x12)
+
+pub size-fits : (k n : ℕ) → n ≡ sizeOf k → n ≤ 9
+size-fits k n e = let h = size-small k in omega arith
+
+-- a literal ends behind so many bytes
+pub sized : (P : List ℕ) (z n : ℕ) → n ≡ sizeOf (getD P z 0) → DoneLiteral P z (z + n)
+unfolding sizeOf
+sized P z n e = by (eqb (getD P z 0) 0x13) (eqb (getD P z 0) 0x12) refl refl e
+  where
+    by : (b d : Bits) → eqb (getD P z 0) 0x13 ≡ b → eqb (getD P z 0) 0x12 ≡ d → n ≡ cond b 2 (cond d 5 9) → DoneLiteral P z (z + n)
+    by true d i j k = subst (λ (x : ℕ). DoneLiteral P z (z + x)) (sym k) (past-constant P z (eqb-true _ _ i))
+    by false true i j k = subst (λ (x : ℕ). DoneLiteral P z (z + x)) (sym k) (past-text P z (eqb-true _ _ j))
+    by false false i j k = subst (λ (x : ℕ). DoneLiteral P z (z + x)) (sym k) (past-number P z (eqb-false _ _ i) (eqb-false _ _ j))
 
 -- a literal stands at z and a comparison with the operator behind it, up to next
 pub record AgainstAt (P : List ℕ) (z e op next : ℕ) : Type 0 where
@@ -145,22 +146,11 @@ pub record AgainstAt (P : List ℕ) (z e op next : ℕ) : Type 0 where
   pub op-is : op ≡ getD P (w + 1) 0
   pub next-is : next ≡ w + 2
 
-module _ {P : List ℕ} {z e : ℕ} (a : AskBehind P z e) (m : z < e) where
-  pub behind-literal : AskLiteral P z
-  behind-literal = let g = at-literal P (a .L) z e (a .R) (a .N) (a .acc) Value.nothing (a .v) (a .want) (a .todo) m (a .low) (a .high) in record { l = g .l; k = g .k; holds = g .holds }
-
-  module _ (w : ℕ) (d : DoneLiteral P z w) (o : w < e) where
-    pub behind-in : w < length P
-    behind-in = literal-in P (a .L) z w e d (a .low) (a .high) m o (a .R) (a .N) (a .acc) (a .v) (a .want) (a .todo)
-
-    pub behind-operator : getD P w 0 ≡ 0x14 → w + 1 < length P
-    behind-operator = operator-in P (a .L) z w e d (a .low) (a .high) m o (a .R) (a .N) (a .acc) (a .v) (a .want) (a .todo)
-
 abbrev pub DoneBehind : List ℕ → ℕ → ℕ → Behind → Type 0
 DoneBehind P z e r = r .some ≡ true → AgainstAt P z e (r .op) (r .next)
 
-pub not-behind : (P : List ℕ) (z e op next : ℕ) → DoneBehind P z e (record { op = op; next = next; some = false })
-not-behind P z e op next i = absurd (never i)
+pub none-behind : {P : List ℕ} {z e : ℕ} {r : Behind} → r .some ≡ false → DoneBehind P z e r
+none-behind n i = absurd (never (sym n ∙ i))
 
 -- ---- the test of one member
 
@@ -185,17 +175,6 @@ pub form-says : (k f : ℕ) → f ≡ formOf k → (f ≡ 1 → ⊥) × (f ≡ 3
 unfolding formOf
 form-says k f e = let y = form-by k (eqb k 0x10) refl in (λ i. y .0 (sym e ∙ i), λ i. y .1 (sym e ∙ i))
 
--- a test stands at q
-pub record AskAtom (P : List ℕ) (q e : ℕ) : Type 0 where
-  pub few : length P ≤ maxPlan
-  pub L : List ℕ
-  pub R : Json
-  pub N : Json
-  pub acc : Bits
-  pub want : Bits
-  pub todo : Left P L q e R N acc want
-  pub more : q < e
-
 pub record AtomAt (P : List ℕ) (q e : ℕ) (t : Atom) : Type 0 where
   pub current : getD P q 0 ≡ 2
   pub here : NameAt P (q + 1)
@@ -204,46 +183,11 @@ pub record AtomAt (P : List ℕ) (q e : ℕ) (t : Atom) : Type 0 where
   pub has : t .form ≡ 1 → (getD P (q + 1 + 9) 0 ≡ 0x18) × (t .next ≡ q + 1 + 10)
   pub compared : (t .form ≡ 1 → ⊥) → AgainstAt P (q + 1 + 9) e (t .op) (t .next)
   pub integer-is : t .form ≡ 3 → getD P (q + 1 + 9) 0 ≡ 0x10
+  pub more : q + 1 + 9 < e
+  pub room : q + 1 + 9 < length P
 
 abbrev pub DoneAtom : List ℕ → ℕ → ℕ → Atom → Type 0
 DoneAtom P q e t = (t .form ≡ 0 → ⊥) → AtomAt P q e t
-
-module _ {P : List ℕ} {q e : ℕ} (a : AskAtom P q e) where
-  pub atom-in : q < length P
-  atom-in = todo-in P (a .L) q e (a .R) (a .N) (a .acc) Value.nothing Value.nothing (a .want) (a .todo) (a .more)
-
-  module _ (c : getD P q 0 ≡ 2) where
-    atom-query : QueryAt P (a .L) q e (a .R) (a .N) (a .acc) Value.nothing Value.nothing (a .want) (a .N)
-    atom-query = at-query P (a .L) q e (a .R) (a .N) (a .acc) Value.nothing Value.nothing (a .want) (a .todo) (a .more) (omega arith) (a .N) (λ z. absurd (omega arith)) (λ z. refl)
-
-    pub atom-name : AskName P (q + 1)
-    atom-name = let y = atom-query in record { few = a .few; L = a .L; query = record { f = y .f; k = y .k; at = y .at } }
-
-    module _ (n : NameAt P (q + 1)) where
-      atom-place : q + 1 + length (codeSegments (atom-query .f) (atom-query .k)) ≡ q + 1 + 9
-      atom-place = ap (λ (x : ℕ). q + 1 + x) (name-long (a .few) n (atom-query .at))
-
-      pub atom-mode : q + 1 + 9 < length P
-      atom-mode = let b = atom-query .bound in let p = atom-place in omega arith
-
-      pub atom-behind : 0x10 ≤ getD P (q + 1 + 9) 0 → getD P (q + 1 + 9) 0 ≤ 0x13 → AskBehind P (q + 1 + 9) e
-      atom-behind lo hi =
-          let y = atom-query in
-          let p = atom-place in
-          let g : getD P (q + 1 + length (codeSegments (y .f) (y .k))) 0 ≡ getD P (q + 1 + 9) 0 = ap (λ (x : ℕ). getD P x 0) p in
-          record {
-            few = a .few;
-            L = a .L;
-            R = a .R;
-            N = a .N;
-            acc = a .acc;
-            v = firstValue (evalSegments (y .f) (a .N) (a .N ∷ []));
-            want = a .want;
-            todo = todo-to P (a .L) _ (q + 1 + 9) e _ _ _ _ _ _ _ _ (a .want) (sym p) refl refl refl
-                (y .is-first (λ i. absurd (omega arith)) (λ i. absurd (omega arith)) (λ i. absurd (omega arith)) (λ i. absurd (omega arith)) _ refl);
-            low = lo;
-            high = hi;
-          }
 
 -- ---- what it says of a node
 
@@ -254,11 +198,8 @@ module _ {P L S X : List ℕ} {root node q e : ℕ} (a : AskShort P L S X root n
   told-begins : node ≡ beginsAt (getD P q 0) root node
   told-begins = sym (begins-node _ root node (b .current))
 
-  abbrev told-asked : AskAtom P q e
-  told-asked = record { few = a .within .fewP; L = L; R = _; N = _; acc = _; want = _; todo = a .todo; more = a .more }
-
   pub told-query : Query P L (q + 1)
-  told-query = let y = atom-query told-asked (b .current) in record { f = y .f; k = y .k; at = y .at }
+  told-query = short-query a node told-begins
 
   pub told-one : AskOne P L S X (q + 1 + 3) node 5 5
   told-one = name-one told-given (a .within .node-in) told-query (b .here)
@@ -270,7 +211,7 @@ module _ {P L S X : List ℕ} {root node q e : ℕ} (a : AskShort P L S X root n
       record { fewP = o .fewP; fewL = o .fewL; tab = o .tab; node-in = o .node-in; x = o .x; k = o .k; at = o .at; kind-low = o .kind-low; kind-high = omega arith }
 
   pub told-room : q + 1 + 9 < maxPlan
-  told-room = let h = a .within .fewP in omega (arith, atom-mode told-asked (b .current) (b .here))
+  told-room = let h = a .within .fewP in omega (arith, b .room)
 
   -- nothing is found
   plain-absent : (r : Member) → DoneOne P L S X (q + 1 + 3) node r → r ≡ Absent → DonePlain P L S X node q (record { n = 0; first = 0; z = q + 1 + 9; some = true })

@@ -2,3 +2,4 @@ pub mod Queries
 pub mod Tests
 pub mod Kept
 pub mod Atoms
+pub mod Keeps

@@ -2,25 +2,30 @@
 use equal::members;
 use equal::members::Member;
 use steps::leaves;
-use steps::plans;
 use table::records;
 use text::bytes;
 ghost use mathlib.Core.Path.{_≡_};
-ghost use Prim.Native.Nat.{_+_};
+ghost use Prim.Native.Nat.{_+_, _≤_};
+ghost use mathlib.Core.Bool.{false};
+ghost use lib.ListN.{length};
 ghost use Rattle.definition.specs.Bytes.{number, part};
+ghost use Rattle.definition.specs.Limits.{maxPlan};
 ghost use Rattle.steps.specs.Leaves.{AskOne, DoneOne};
 ghost use Rattle.filters.specs.Tests.{AskShort, DoneShort};
-ghost use Rattle.filters.specs.Atoms.{AskName, DoneName, AskBehind, DoneBehind, AskAtom, DoneAtom, AtomAt, formOf, tells};
+ghost use Rattle.filters.specs.Atoms.{DoneName, AskCode, DoneBehind, DoneAtom, AtomAt, formOf, sizeOf, tells};
 
 const CURRENT: u8 = 0x02;
 
-const CHILD: u8 = 0x03;
-
-const NAME: u8 = 0x05;
+// The first four bytes of a child segment of one name, as a number.
+const NAME_HEAD: usize = 0x05000103;
 
 const END: u8 = 0x0A;
 
 const INTEGER: u8 = 0x10;
+
+const TEXT: u8 = 0x12;
+
+const CONSTANT: u8 = 0x13;
 
 const COMPARE: u8 = 0x14;
 
@@ -55,52 +60,65 @@ pub struct Behind {
 
 // Whether a child segment of one name stands at c, at the end of its query.
 pub fn names_member(plan: &[u8], c: usize) -> bool
-    requires { ⌜ AskName (now plan) c ⌝ }
+    requires { ⌜ (length (now plan) ≤ maxPlan) × (c ≤ maxPlan) ⌝ }
     ensures { λ r. ⌜ DoneName (now (plan .entry)) c r ⌝ }
 {
-    if plan[c] != CHILD {
+    if plan.len() < c + 9 {
         return false;
     }
-    if bytes::word16(plan, c + 1) != 1 {
-        return false;
-    }
-    if plan[c + 3] != NAME {
+    if bytes::word32(plan, c) != NAME_HEAD {
         return false;
     }
     plan[c + 8] == END
 }
 
-// The comparison behind the literal at z, in code that ends at e.
+// How many bytes a literal of kind k takes.
+fn literal_size(k: u8) -> usize
+    ensures { λ r. ⌜ r ≡ sizeOf k ⌝ }
+{
+    if k == CONSTANT {
+        return 2;
+    }
+    if k == TEXT {
+        return 5;
+    }
+    9
+}
+
+// The literal at z and the comparison behind it, in code that ends at e.
 pub fn behind_literal(plan: &[u8], z: usize, e: usize) -> Behind
-    requires { ⌜ AskBehind (now plan) z e ⌝ }
+    requires { ⌜ AskCode (now plan) z e ⌝ }
     ensures { λ r. ⌜ DoneBehind (now (plan .entry)) z e r ⌝ }
 {
     if e <= z {
-        return Behind {
-            op: 0,
-            next: z,
-            some: false,
-        };
+        return not_behind();
     }
-    let w = plans::past_literal(plan, z);
-    if e <= w {
-        return Behind {
-            op: 0,
-            next: z,
-            some: false,
-        };
+    let k = plan[z];
+    if !crate::is_literal(k) {
+        return not_behind();
+    }
+    let w = z + literal_size(k);
+    if e < w + 2 {
+        return not_behind();
     }
     if plan[w] != COMPARE {
-        return Behind {
-            op: 0,
-            next: z,
-            some: false,
-        };
+        return not_behind();
     }
     Behind {
         op: plan[w + 1],
         next: w + 2,
         some: true,
+    }
+}
+
+// No comparison with a literal.
+fn not_behind() -> Behind
+    ensures { λ r. ⌜ r .some ≡ false ⌝ }
+{
+    Behind {
+        op: 0,
+        next: 0,
+        some: false,
     }
 }
 
@@ -116,9 +134,12 @@ fn form_of(k: u8) -> u8
 
 // The test at q of one member, in code that ends at e.
 pub fn read_atom(plan: &[u8], q: usize, e: usize) -> Atom
-    requires { ⌜ AskAtom (now plan) q e ⌝ }
+    requires { ⌜ AskCode (now plan) q e ⌝ }
     ensures { λ r. ⌜ DoneAtom (now (plan .entry)) q e r ⌝ }
 {
+    if e < q + 11 {
+        return no_atom();
+    }
     if plan[q] != CURRENT {
         return no_atom();
     }
@@ -137,9 +158,6 @@ pub fn read_atom(plan: &[u8], q: usize, e: usize) -> Atom
             op: 0,
             next: c + 10,
         };
-    }
-    if !crate::is_literal(k) {
-        return no_atom();
     }
     let b = behind_literal(plan, c + 9, e);
     if !b.some {

@@ -18,6 +18,7 @@ ghost use Rattle.visits.specs.Visits.{AskReach};
 ghost use Rattle.filters.specs.Tests.{literalKind, logicKind, saysOf, AskNode, DoneNode, AskAgainst, DoneAgainst, DonePlain, AskChildren, DoneChildren, AskCount, DoneCount, AskCounted, DoneCounted, AskCounting, AskShort, DoneShort, AskLogic, DoneLogic};
 
 pub mod atoms;
+pub mod kept;
 
 const CHILD: u8 = 0x03;
 

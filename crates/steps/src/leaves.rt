@@ -86,7 +86,8 @@ pub fn literal(plan: &[u8], pool: &[u8], q: usize) -> Operand
 
 // ---- selectors that give one node or none
 
-// The member of a node whose name is the `size` bytes of the pool from `start` on, as the name at p says.
+// The member of a node whose name is the `size` bytes of the pool from `start` on, as the name at p says. Only the way along a query's front calls it, so that a
+// compiler puts it there; by_name says the same for the others.
 pub fn named(
     plan: &[u8],
     pool: &[u8],
@@ -114,9 +115,14 @@ fn by_name(plan: &[u8], pool: &[u8], table: &[u8], text: &[u8], p: usize, node: 
     requires { ⌜ AskOne (now plan) (now pool) (now table) (now text) p node 5 5 ⌝ }
     ensures { λ r. ⌜ DoneOne (now (plan .entry)) (now (pool .entry)) (now (table .entry)) (now (text .entry)) p node r ⌝ }
 {
+    if records::kind(table, node) != KIND_MAP {
+        return Member::Nothing;
+    }
+    let first = records::low_word(table, node) as usize;
+    let count = records::child_count(table, node) as usize;
     let start = bytes::word16(plan, p + 1);
     let size = bytes::word16(plan, p + 3);
-    named(plan, pool, table, text, p, start, size, node)
+    members::find_member(table, text, first, count, pool, start, size)
 }
 
 // The element that the index at p selects of a node.

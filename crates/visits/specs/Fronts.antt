@@ -1,8 +1,8 @@
 -- A segment of one name or index at the front of a query: what it is, and what follows where its node is found and where it is not. Assumes nothing.
-use Prim.Native.Nat.{ℕ, _+_, _≤_, _<_}
+use Prim.Native.Nat.{ℕ, _+_, _≤_}
 use mathlib.Core.Path.{_≡_, refl, sym, ap, _∙_}
 use mathlib.Core.List.{List, [], _∷_}
-use mathlib.Core.Bool.{Bool as Bits, true, false}
+use mathlib.Core.Bool.{true, false}
 use lib.ListN.{length}
 use native.Mathlib.Omega.{arith}
 use Rattle.definition.specs.Limits.{maxPlan}
@@ -10,27 +10,22 @@ use Rattle.definition.specs.Values.{Json}
 use Rattle.definition.specs.Forms.{Segments, Selectors, Selector}
 use Rattle.definition.specs.Forms.Segments.{child}
 use Rattle.definition.specs.Forms.Selectors.{one}
-use Rattle.definition.specs.Forms.Selector.{name, index, slice, wildcard, filter}
 use Rattle.definition.specs.Plans.{codeSegments, codeSelector}
 use Rattle.definition.specs.Tables.{nodeAt}
 use Rattle.definition.specs.Evaluation.{evalSelectors, evalSelector}
 use Rattle.walks.specs.States.{State}
 use Rattle.walks.specs.Emits.{go, go-nil}
 use Rattle.walks.specs.Steps.{segment-child}
-use Rattle.walks.specs.Items.{SegmentsAt, SelectorAt, parts, last, selectorKind, kind-of-selector}
+use Rattle.walks.specs.Items.{SegmentsAt, SelectorAt, parts, last}
 use Rattle.equal.specs.declared.members.Member.{Member}
 use Rattle.equal.specs.declared.members.Member.the-variants.{At, Nothing as Absent}
-use Rattle.steps.specs.Ends.{AskNext, DoneNext}
+use Rattle.steps.specs.Ends.{DoneNext}
 use Rattle.steps.specs.Leaves.{memberNodes, AskOne, DoneOne}
-use Rattle.visits.specs.Visits.{Given, DoneSingular, Front}
+use Rattle.visits.specs.Visits.{Given, Head, Front}
 use Rattle.visits.specs.Loops.{Along, InReach}
 
 pub never : false ≡ true → ⊥
 never e = let n : _≡_ {A = ℕ} 0 1 = cc in omega arith
-
--- where the answer is no, nothing is said
-pub not-singular : (P : List ℕ) (pc : ℕ) → DoneSingular P pc false
-not-singular P pc = record { child = λ u. absurd (never u); alone = λ u. absurd (never u); kind = λ u. absurd (never u) }
 
 -- the query g at q is a child segment of the selector x alone, and the query behind it
 pub record Single (P L : List ℕ) (q j : ℕ) (g : Segments) : Type 0 where
@@ -38,7 +33,6 @@ pub record Single (P L : List ℕ) (q j : ℕ) (g : Segments) : Type 0 where
   pub behind : Segments
   pub j′ : ℕ
   pub made : g ≡ child (one x) behind
-  pub bound : q + 3 < length P
   pub here : SelectorAt P L (q + 3) j x
   pub after : SegmentsAt P L (q + 3 + length (codeSelector x j)) j′ behind
   pub long : length (codeSegments g j) ≡ 3 + length (codeSelector x j) + length (codeSegments behind j′)
@@ -46,10 +40,10 @@ pub record Single (P L : List ℕ) (q j : ℕ) (g : Segments) : Type 0 where
 segments-at : {P L : List ℕ} {p k : ℕ} {f : Segments} (p′ : ℕ) → p′ ≡ p → SegmentsAt P L p k f → SegmentsAt P L p′ k f
 segments-at p′ e a = rw e a
 
-pub single : {P L : List ℕ} {q j : ℕ} {g : Segments} {b : Bits} → length P ≤ maxPlan → DoneSingular P q b → b ≡ true → SegmentsAt P L q j g → Single P L q j g
-single {P} {L} {q} {j} {g} few d e at =
-    let t = d .child e in
-    let u = d .alone e in
+pub single : {P L : List ℕ} {q j : ℕ} {g : Segments} {c : ℕ} → length P ≤ maxPlan → Head P q c → SegmentsAt P L q j g → Single P L q j g
+single {P} {L} {q} {j} {g} few d at =
+    let t = d .child in
+    let u = d .alone in
     let y = parts P L few q j g at (λ z. omega arith) in
     let n = y .count in
     let w = last P L (q + 3) j (y .ss) (y .selectors) (omega arith) in
@@ -60,19 +54,10 @@ single {P} {L} {q} {j} {g} few d e at =
       behind = y .q;
       j′ = _;
       made = y .is-child t ∙ ap (λ (ss : Selectors). child ss (y .q)) (w .made);
-      bound = y .bound;
       here = w .here;
       after = segments-at (q + 3 + length (codeSelector (w .s) j)) (ap (λ (z : ℕ). q + 3 + z) (sym l)) (y .after);
       long = omega arith;
     }
-
-selector-low : (x : Selector) → 5 ≤ selectorKind x
-unfolding selectorKind
-selector-low (name s) = omega arith
-selector-low (index z) = omega arith
-selector-low (slice a b c) = omega arith
-selector-low wildcard = omega arith
-selector-low (filter t) = omega arith
 
 -- ---- what it selects of a node
 
@@ -90,10 +75,10 @@ module _ {P L : List ℕ} {q j : ℕ} {g : Segments} (y : Single P L q j g) (S X
 pub along-start : {P L S X : List ℕ} {node pc k : ℕ} {f : Segments} → SegmentsAt P L pc k f → Along P L S X node pc node pc f k
 along-start {k = k} {f = f} a = record { g = f; j = k; at = a; ends = refl; same = λ R s. refl }
 
-module _ {P L S X : List ℕ} {node pc m q : ℕ} {b : Bits} (z : Given P L S X) (i : InReach P L S X node pc m q) (d : DoneSingular P q b) (e : b ≡ true) where
-  pub one-asked : AskOne P L S X (q + 3) m 5 6
+module _ {P L S X : List ℕ} {node pc m q c : ℕ} (z : Given P L S X) (i : InReach P L S X node pc m q) (d : Head P q c) where
+  pub one-asked : AskOne P L S X (q + 3) m c c
   one-asked =
-      let y = single (z .fewP) d e (i .query .at) in
+      let y = single (z .fewP) d (i .query .at) in
       record {
         fewP = z .fewP;
         fewL = z .fewL;
@@ -102,21 +87,15 @@ module _ {P L S X : List ℕ} {node pc m q : ℕ} {b : Bits} (z : Given P L S X)
         x = y .x;
         k = i .query .k;
         at = y .here;
-        kind-low = omega (arith, kind-of-selector P (q + 3) (i .query .k) (y .x) (y .here .holds), selector-low (y .x));
-        kind-high = d .kind e;
+        kind-low = omega (arith, d .kind-is);
+        kind-high = omega (arith, d .kind-is);
       }
-
-  pub next-asked : AskNext P (q + 3)
-  next-asked = let y = single (z .fewP) d e (i .query .at) in record { few = z .fewP; s = y .x; k = i .query .k; holds = y .here .holds }
-
-  pub next-bound : q + 3 < length P
-  next-bound = single (z .fewP) d e (i .query .at) .bound
 
   -- there is no such node
   pub reach-lost : (r : Member) → DoneOne P L S X (q + 3) m r → r ≡ Absent → (f : Segments) (k : ℕ) → SegmentsAt P L pc k f → Front P L S X node pc (record { node = m; pc = q; some = false }) f k
   reach-lost r o a f k at =
       let w = i .front f k at in
-      let y = single (z .fewP) d e (w .at) in
+      let y = single (z .fewP) d (w .at) in
       record {
         g = w .g;
         j = w .j;
@@ -128,12 +107,9 @@ module _ {P L S X : List ℕ} {node pc m q : ℕ} {b : Bits} (z : Given P L S X)
 
   -- there is one
   module _ (r : Member) (o : DoneOne P L S X (q + 3) m r) (n : ℕ) (a : r ≡ At n) (q′ : ℕ) (v : DoneNext P (q + 3) q′) where
-    pub reach-later : q < q′
-    reach-later = let y = single (z .fewP) d e (i .query .at) in omega (arith, v (y .x) (i .query .k) (y .here .holds))
-
     along-next : (f : Segments) (k : ℕ) → Along P L S X node pc m q f k → Along P L S X node pc n q′ f k
     along-next f k w =
-        let y = single (z .fewP) d e (w .at) in
+        let y = single (z .fewP) d (w .at) in
         let p = v (y .x) (w .j) (y .here .holds) in
         let l = y .long in
         let u = w .ends in
@@ -147,7 +123,7 @@ module _ {P L S X : List ℕ} {node pc m q : ℕ} {b : Bits} (z : Given P L S X)
 
     pub reach-next : InReach P L S X node pc n q′
     reach-next =
-        let y = single (z .fewP) d e (i .query .at) in
+        let y = single (z .fewP) d (i .query .at) in
         let p = v (y .x) (i .query .k) (y .here .holds) in
         let h = o .deeper n a in
         record {

@@ -3,7 +3,7 @@
 use Prim.Native.Nat.{ℕ, zero, suc, _+_, _*_, _-_, _≤_, _<_}
 use mathlib.Core.Path.{_≡_}
 use mathlib.Core.List.{List, [], _∷_}
-use mathlib.Core.Bool.{Bool as Bits, true, false}
+use mathlib.Core.Bool.{true, false}
 use lib.ListN.{length, getD}
 use Rattle.definition.specs.Bytes.{number, part}
 use Rattle.definition.specs.Limits.{maxPlan, maxNodes}
@@ -69,15 +69,11 @@ pub record Given (P L S X : List ℕ) : Type 0 where
   pub fewL : length L ≤ maxPlan
   pub tab : Accepted S X
 
-pub record AskSingular (P : List ℕ) (pc : ℕ) : Type 0 where
-  pub few : length P ≤ maxPlan
-  pub L : List ℕ
-  pub query : Query P L pc
-
-pub record DoneSingular (P : List ℕ) (pc : ℕ) (r : Bits) : Type 0 where
-  pub child : r ≡ true → getD P pc 0 ≡ 3
-  pub alone : r ≡ true → number (part P (pc + 1) 2) ≡ 1
-  pub kind : r ≡ true → getD P (pc + 3) 0 ≤ 6
+-- a child segment of one selector of a kind stands at pc
+pub record Head (P : List ℕ) (pc kind : ℕ) : Type 0 where
+  pub child : getD P pc 0 ≡ 3
+  pub alone : number (part P (pc + 1) 2) ≡ 1
+  pub kind-is : getD P (pc + 3) 0 ≡ kind
 
 pub record AskReach (P L S X : List ℕ) (node pc : ℕ) : Type 0 where
   pub given : Given P L S X

@@ -3,7 +3,6 @@
 use equal::members::Member;
 use slices::Walk;
 use steps::leaves;
-use steps::plans;
 use table::records;
 use text::bytes;
 ghost use mathlib.Core.Path.{_≡_};
@@ -12,11 +11,12 @@ ghost use lib.ListN.{length};
 ghost use Rattle.definition.specs.Limits.{maxNodes};
 ghost use Rattle.slices.specs.Walks.{Inside, walked};
 ghost use Rattle.walks.specs.States.{st, push as pushed, emit};
-ghost use Rattle.visits.specs.Visits.{AskPush, AskReach, DoneReach, AskSingular, DoneSingular, AskVisit, DoneVisit, AskEach, DoneEach, AskPlaces, DonePlaces, AskPlaced, DonePlaced, AskNumbers, numbersFrom, AskWalked, AskContainer, DoneContainer, Further};
+ghost use Rattle.visits.specs.Visits.{AskPush, AskReach, DoneReach, AskVisit, DoneVisit, AskEach, DoneEach, AskPlaces, DonePlaces, AskPlaced, DonePlaced, AskNumbers, numbersFrom, AskWalked, AskContainer, DoneContainer, Further};
 
-const CHILD: u8 = 0x03;
+// The first four bytes of a child segment of one selector, as a number: the segment's kind, the number of its selectors, and the selector's kind.
+const NAME_HEAD: usize = 0x05000103;
 
-const INDEX: u8 = 0x06;
+const INDEX_HEAD: usize = 0x06000103;
 
 const END: u8 = 0x0A;
 
@@ -84,38 +84,47 @@ pub fn push_each(list: &mut [u32], i: usize, e: usize, at: usize, cap: usize) ->
     a
 }
 
-// Whether a child segment of one selector, a name or an index, stands at pc.
-fn singular(plan: &[u8], pc: usize) -> bool
-    requires { ⌜ AskSingular (now plan) pc ⌝ }
-    ensures { λ r. ⌜ DoneSingular (now (plan .entry)) pc r ⌝ }
-{
-    if plan[pc] != CHILD {
-        return false;
-    }
-    if bytes::word16(plan, pc + 1) != 1 {
-        return false;
-    }
-    plan[pc + 3] <= INDEX
-}
-
-// From a node along the segments of one name or index at pc.
+// From a node along the segments of one name or index at pc. The first four bytes of such a segment are read as one number.
 pub fn reach(plan: &[u8], pool: &[u8], table: &[u8], text: &[u8], node: usize, pc: usize) -> Reached
     requires { ⌜ AskReach (now plan) (now pool) (now table) (now text) node pc ⌝ }
     ensures { λ r. ⌜ DoneReach (now (plan .entry)) (now (pool .entry)) (now (table .entry)) (now (text .entry)) node pc r ⌝ }
 {
     let mut m = node;
     let mut q = pc;
-    while singular(plan, q) {
-        let found = leaves::select_one(plan, pool, table, text, q + 3, m);
-        let Member::At(n) = found else {
-            return Reached {
-                node: m,
-                pc: q,
-                some: false,
+    while q + 8 <= plan.len() {
+        let head = bytes::word32(plan, q);
+        if head == NAME_HEAD {
+            let a = bytes::word16(plan, q + 4);
+            let n = bytes::word16(plan, q + 6);
+            let found = leaves::named(plan, pool, table, text, q + 3, a, n, m);
+            let Member::At(k) = found else {
+                return Reached {
+                    node: m,
+                    pc: q,
+                    some: false,
+                };
             };
-        };
-        m = n;
-        q = plans::next_selector(plan, q + 3);
+            m = k;
+            q += 8;
+        } else {
+            if head != INDEX_HEAD {
+                return Reached {
+                    node: m,
+                    pc: q,
+                    some: true,
+                };
+            }
+            let found = leaves::by_index(plan, pool, table, text, q + 3, m);
+            let Member::At(k) = found else {
+                return Reached {
+                    node: m,
+                    pc: q,
+                    some: false,
+                };
+            };
+            m = k;
+            q += 12;
+        }
     }
     Reached {
         node: m,

@@ -1,8 +1,7 @@
 -- `read_atom` meets its contract: each test that it passes says a part. Assumes nothing.
-use mathlib.Core.Path.{refl, sym, _∙_}
-use borrow.Author.Tests.{not-true, not-false}
-use Rattle.filters.specs.Tests.{literal-kind}
-use Rattle.filters.specs.Atoms.{atom-in, atom-name, atom-mode, atom-behind, form-says}
+use mathlib.Core.Path.{refl}
+use borrow.Author.Tests.{not-false}
+use Rattle.filters.specs.Atoms.{form-says}
 use native.Mathlib.Omega.{arith}
 use borrow.Author.Needs.{needs}
 use Rattle.filters.proofs.atoms.read_atom.Statement.{statement}
@@ -13,11 +12,10 @@ use Rattle.filters.proofs.atoms.behind_literal.Reads as behind-literal-
 use Rattle.filters.proofs.atoms.form_of.Reads as form-of-reads
 use Rattle.filters.proofs.atoms.names_member.Reads as names-member-reads
 use Rattle.filters.proofs.atoms.no_atom.Reads as no-atom-reads
-use Rattle.filters.proofs.is_literal.Reads as is-literal-reads
 use Rattle.text.proofs.bytes.word16.Reads as word16-reads
 
-shared-slice-read-if1 : tie.Need-shared-slice-read-if1
-shared-slice-read-if1 c = atom-in (c .before .before .pre)
+add-if1 : tie.Need-add-if1
+add-if1 c = search needs
 
 no-atom-requires : tie.Need-no-atom-requires
 no-atom-requires c κs = search needs
@@ -25,11 +23,8 @@ no-atom-requires c κs = search needs
 returns : tie.Need-returns
 returns c = λ n. absurd (n (c .no-atom .ensures))
 
-add-c : tie.Need-add-c
-add-c c = search needs
-
-names-member-requires : tie.Need-names-member-requires
-names-member-requires c κs = atom-name (c .before .before .before .pre) (c .if1 .left)
+shared-slice-read-if2 : tie.Need-shared-slice-read-if2
+shared-slice-read-if2 c = search needs
 
 no-atom-requires-2 : tie.Need-no-atom-requires-2
 no-atom-requires-2 c κs = search needs
@@ -37,52 +32,53 @@ no-atom-requires-2 c κs = search needs
 returns-2 : tie.Need-returns-2
 returns-2 c = λ n. absurd (n (c .no-atom2 .ensures))
 
-add-word16 : tie.Need-add-word16
-add-word16 c = omega (arith, atom-mode (c .before .before .before .before .before .pre) (c .before .before .if1 .left) (c .before .names-member .ensures (not-false _ (c .if2 .left))), c .before .before .before .before .before .pre .few)
+add-c : tie.Need-add-c
+add-c c = search needs
 
-add-word16-2 : tie.Need-add-word16-2
-add-word16-2 c = omega (arith, atom-mode (c .before .before .before .before .before .pre) (c .before .before .if1 .left) (c .before .names-member .ensures (not-false _ (c .if2 .left))), c .before .before .before .before .before .pre .few)
-
-word16-requires : tie.Need-word16-requires
-word16-requires c κs = omega (arith, atom-mode (c .before .before .before .before .before .pre) (c .before .before .if1 .left) (c .before .names-member .ensures (not-false _ (c .if2 .left))), c .before .before .before .before .before .pre .few)
-
-add-word16-3 : tie.Need-add-word16-3
-add-word16-3 c = omega (arith, atom-mode (c .before .before .before .before .before .before .pre) (c .before .before .before .if1 .left) (c .before .before .names-member .ensures (not-false _ (c .before .if2 .left))), c .before .before .before .before .before .before .pre .few)
-
-add-word16-4 : tie.Need-add-word16-4
-add-word16-4 c = omega (arith, atom-mode (c .before .before .before .before .before .before .pre) (c .before .before .before .if1 .left) (c .before .before .names-member .ensures (not-false _ (c .before .if2 .left))), c .before .before .before .before .before .before .pre .few)
-
-word16-requires-2 : tie.Need-word16-requires-2
-word16-requires-2 c κs = omega (arith, atom-mode (c .before .before .before .before .before .before .pre) (c .before .before .before .if1 .left) (c .before .before .names-member .ensures (not-false _ (c .before .if2 .left))), c .before .before .before .before .before .before .pre .few)
-
-add-k : tie.Need-add-k
-add-k c = omega (arith, atom-mode (c .before .before .before .before .before .before .before .pre) (c .before .before .before .before .if1 .left) (c .before .before .before .names-member .ensures (not-false _ (c .before .before .if2 .left))), c .before .before .before .before .before .before .before .pre .few)
-
-shared-slice-read-k : tie.Need-shared-slice-read-k
-shared-slice-read-k c = atom-mode (c .before .before .before .before .before .before .before .before .pre) (c .before .before .before .before .before .if1 .left) (c .before .before .before .before .names-member .ensures (not-false _ (c .before .before .before .if2 .left)))
-
-add-t16 : tie.Need-add-t16
-add-t16 c = omega (arith, atom-mode (c .before .before .before .before .before .before .before .before .before .pre) (c .before .before .before .before .before .before .if1 .left) (c .before .before .before .before .before .names-member .ensures (not-false _ (c .before .before .before .before .if2 .left))), c .before .before .before .before .before .before .before .before .before .pre .few)
-
-returns-3 : tie.Need-returns-3
-returns-3 c = λ n. record { current = c .before .before .before .before .before .before .if1 .left; here = c .before .before .before .before .before .names-member .ensures (not-false _ (c .before .before .before .before .if2 .left)); start-is = c .before .before .before .word16 .ensures .is; size-is = c .before .before .word162 .ensures .is; has = λ i. (c .if3 .taken, refl); compared = λ i. absurd (i refl); integer-is = λ i. absurd (omega arith) }
-
-is-literal-requires : tie.Need-is-literal-requires
-is-literal-requires c κs = search needs
+names-member-requires : tie.Need-names-member-requires
+names-member-requires c κs = search needs
 
 no-atom-requires-3 : tie.Need-no-atom-requires-3
 no-atom-requires-3 c κs = search needs
 
+returns-3 : tie.Need-returns-3
+returns-3 c = λ n. absurd (n (c .no-atom3 .ensures))
+
+add-word16 : tie.Need-add-word16
+add-word16 c = search needs
+
+add-word16-2 : tie.Need-add-word16-2
+add-word16-2 c = search needs
+
+word16-requires : tie.Need-word16-requires
+word16-requires c κs = search needs
+
+add-word16-3 : tie.Need-add-word16-3
+add-word16-3 c = search needs
+
+add-word16-4 : tie.Need-add-word16-4
+add-word16-4 c = search needs
+
+word16-requires-2 : tie.Need-word16-requires-2
+word16-requires-2 c κs = search needs
+
+add-k : tie.Need-add-k
+add-k c = search needs
+
+shared-slice-read-k : tie.Need-shared-slice-read-k
+shared-slice-read-k c = search needs
+
+add-t16 : tie.Need-add-t16
+add-t16 c = search needs
+
 returns-4 : tie.Need-returns-4
-returns-4 c = λ n. absurd (n (c .no-atom3 .ensures))
+returns-4 c = λ n. record { current = c .before .before .before .before .before .before .if2 .left; here = c .before .before .before .before .before .names-member .ensures (not-false _ (c .before .before .before .before .if3 .left)); start-is = c .before .before .before .word16 .ensures .is; size-is = c .before .before .word162 .ensures .is; has = λ i. (c .if4 .taken, refl); compared = λ i. absurd (i refl); integer-is = λ i. absurd (omega arith); more = omega (arith, c .before .before .before .before .before .before .before .before .if1 .left); room = omega (arith, c .before .before .before .before .before .before .before .before .if1 .left, c .before .before .before .before .before .before .before .before .before .before .pre .inside) }
 
 add-behind-literal : tie.Need-add-behind-literal
-add-behind-literal c = omega (arith, atom-mode (c .before .before .before .before .before .before .before .before .before .before .before .pre) (c .before .before .before .before .before .before .before .before .if1 .left) (c .before .before .before .before .before .before .before .names-member .ensures (not-false _ (c .before .before .before .before .before .before .if2 .left))), c .before .before .before .before .before .before .before .before .before .before .before .pre .few)
+add-behind-literal c = search needs
 
 behind-literal-requires : tie.Need-behind-literal-requires
-behind-literal-requires c κs =
-    let k = literal-kind _ (sym (c .before .is-literal .ensures) ∙ not-false _ (c .if4 .left)) in
-    atom-behind (c .before .before .before .before .before .before .before .before .before .before .before .pre) (c .before .before .before .before .before .before .before .before .if1 .left) (c .before .before .before .before .before .before .before .names-member .ensures (not-false _ (c .before .before .before .before .before .before .if2 .left))) (k .0) (k .1)
+behind-literal-requires c κs = search needs
 
 no-atom-requires-4 : tie.Need-no-atom-requires-4
 no-atom-requires-4 c κs = search needs
@@ -97,26 +93,31 @@ returns-6 : tie.Need-returns-6
 returns-6 c =
     λ n.
     record {
-      current = c .before .before .before .before .before .before .before .before .before .before .before .before .if1 .left;
-      here = c .before .before .before .before .before .before .before .before .before .before .before .names-member .ensures (not-false _ (c .before .before .before .before .before .before .before .before .before .before .if2 .left));
-      start-is = c .before .before .before .before .before .before .before .before .before .word16 .ensures .is;
-      size-is = c .before .before .before .before .before .before .before .before .word162 .ensures .is;
+      current = c .before .before .before .before .before .before .before .before .before .before .if2 .left;
+      here = c .before .before .before .before .before .before .before .before .before .names-member .ensures (not-false _ (c .before .before .before .before .before .before .before .before .if3 .left));
+      start-is = c .before .before .before .before .before .before .before .word16 .ensures .is;
+      size-is = c .before .before .before .before .before .before .word162 .ensures .is;
       has = λ i. absurd (form-says _ _ (c .form-of .ensures) .0 i);
       compared = λ i. c .before .before .before .behind-literal .ensures (not-false _ (c .before .if5 .left));
       integer-is = λ i. form-says _ _ (c .form-of .ensures) .1 i;
+      more = omega (arith, c .before .before .before .before .before .before .before .before .before .before .before .before .if1 .left);
+      room = omega (arith, c .before .before .before .before .before .before .before .before .before .before .before .before .if1 .left, c .before .before .before .before .before .before .before .before .before .before .before .before .before .before .pre .inside);
     }
 
 pub read-atom-spec : {M : Type 1} → statement M
 read-atom-spec =
     tie.close
     (tie.spec
-    shared-slice-read-if1
+    add-if1
     no-atom-requires
     returns
-    add-c
-    names-member-requires
+    shared-slice-read-if2
     no-atom-requires-2
     returns-2
+    add-c
+    names-member-requires
+    no-atom-requires-3
+    returns-3
     add-word16
     add-word16-2
     word16-requires
@@ -126,9 +127,6 @@ read-atom-spec =
     add-k
     shared-slice-read-k
     add-t16
-    returns-3
-    is-literal-requires
-    no-atom-requires-3
     returns-4
     add-behind-literal
     behind-literal-requires
