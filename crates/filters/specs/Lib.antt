@@ -3,3 +3,4 @@ pub mod Tests
 pub mod Kept
 pub mod Atoms
 pub mod Keeps
+pub mod Scalars

@@ -354,7 +354,7 @@ module _ (P L : List ℕ) (z w e : ℕ) (d : DoneLiteral P z w) (lo : 0x10 ≤ g
     pub operator-in : w + 1 < length P
     operator-in = at-compare P L w e R N acc v (literalValue (here .l)) want onward n c .bound
 
-    compared : (b : Bits) → ((l : Literal) (k : ℕ) → Holds P z (codeLiteral l k) → Holds L k (poolLiteral l) → literalRight l ≡ true → Compares v (literalValue l) (getD P (w + 1) 0) b) → Left P L (w + 2) e R N b want
+    pub compared : (b : Bits) → ((l : Literal) (k : ℕ) → Holds P z (codeLiteral l k) → Holds L k (poolLiteral l) → literalRight l ≡ true → Compares v (literalValue l) (getD P (w + 1) 0) b) → Left P L (w + 2) e R N b want
     compared b s = let g = at-compare P L w e R N acc v (literalValue (here .l)) want onward n c in g .then b (s (here .l) (here .k) (here .holds) (here .pool) (here .right) (g .o) (g .byte))
 
 module _ {P L S X : List ℕ} {n first z e : ℕ} (a : AskAgainst P L S X n first z e) (m : z < e) where
