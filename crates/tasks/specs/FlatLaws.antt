@@ -14,7 +14,7 @@ use Rattle.definition.specs.Forms.{Segments, Selectors, Selector}
 use Rattle.definition.specs.Forms.Segments.{end, descendant}
 use Rattle.definition.specs.Forms.Selectors.{one}
 use Rattle.definition.specs.Plans.{poolSelectors}
-use Rattle.definition.specs.Tables.{nodeCount, nodeAt}
+use Rattle.definition.specs.Tables.{nodeCount, nodeAt, firstChild, childCount}
 use Rattle.definition.specs.Evaluation.{evalSelectors, evalSelector}
 use Rattle.tables.specs.Accepted.{Accepted}
 use Rattle.text.specs.Words.{Word}
@@ -33,8 +33,24 @@ use Rattle.visits.specs.Places.{push-bound, emit-room}
 use Rattle.visits.specs.Fronts.{never}
 use Rattle.tasks.specs.declared.flats.Flat.{Flat}
 use Rattle.tasks.specs.Laws.{descendant-byte, segments-at, selector-least, one-found, one-absent}
-use Rattle.tasks.specs.Selects.{wildcard-range}
-use Rattle.tasks.specs.Flats.{Shallow, AskSelected, DoneSelected, Passes, DoneFlats, InFlats, Lone, DonePlain, DoneStart}
+use Rattle.tasks.specs.Selects.{wildcard-range, below-passed}
+use Rattle.tasks.specs.Flats.{Bare, AskSelected, DoneSelected, Passes, DoneFlats, InFlats, Lone, DonePlain, DoneStart}
+
+-- ---- a node with nothing below its children
+
+pub bare-empty : (S : List ℕ) (node : ℕ) → childCount S node ≡ 0 → Bare S node
+bare-empty S node e m u v = absurd (omega arith)
+
+-- all its children are passed
+pub bare-passed : (S : List ℕ) (node first n : ℕ) → Range S node first n → 0 < n → (i : ℕ) → DoneContainer S first (first + n) i → i ≡ first + n → Bare S node
+bare-passed S node first n r l i c e m u v = let a = r .first l in let b = r .count in c .passed m (omega arith) (omega arith)
+
+-- all that selectors select of it and below it they select of the node itself
+pub bare-below : (S X : List ℕ) (tab : Accepted S X) (node : ℕ) → node < nodeCount S → Bare S node → (ss : Selectors) (q : Segments) (R : Json) (s : State) → go q R (evalSelectors ss R (nodeAt S X node)) s ≡ go q R (below ss R (nodeAt S X node)) s
+bare-below S X tab node l b =
+    let j = firstChild S node in
+    let n = childCount S node in
+    below-passed S X tab node l j n (record { count = refl; first = λ u. refl }) (j + n) (record { low = omega arith; high = λ u. omega arith; passed = b }) refl
 
 -- ---- what is selected of a node
 
@@ -90,7 +106,7 @@ module _ {P L S X : List ℕ} {i e p cap : ℕ} {l₀ : List ℕ} {a₀ : ℕ} {
         again = λ x k s R. over-end end R (below (one x) R) S X e e (st cap l a) (omega arith) ∙ sym (over-full end R (below (one x) R) S X j e cap l a u b (omega (arith, t .same))) ∙ t .done .again x k s R;
       }
 
-  pub flats-step : (tab : Accepted S X) → e ≤ nodeCount S → Shallow S j → (l′ : List ℕ) (b : ℕ) → length l′ ≡ length l → DoneSelected P L S X j p cap l a l′ b → (n : ℕ) → DoneContainer S (j + 1) e n → InFlats P L S X i e p cap l₀ a₀ l′ b n
+  pub flats-step : (tab : Accepted S X) → e ≤ nodeCount S → Bare S j → (l′ : List ℕ) (b : ℕ) → length l′ ≡ length l → DoneSelected P L S X j p cap l a l′ b → (n : ℕ) → DoneContainer S (j + 1) e n → InFlats P L S X i e p cap l₀ a₀ l′ b n
   unfolding evalSelectors
   flats-step tab into s l′ b m d n c =
       let u = c .low in
@@ -102,7 +118,7 @@ module _ {P L S X : List ℕ} {i e p cap : ℕ} {l₀ : List ℕ} {a₀ : ℕ} {
               passes = record { low = omega (arith, low); high = λ w. v; room = d .room; still = λ w. absurd (omega (arith, low)) };
               again = λ x k y R.
                   over-passed end R (one x) S X tab (j + 1) n e (st cap l′ b) u v (λ w. into) (c .passed)
-                  ∙ over-step end R (below (one x) R) S X j e (st cap l a) (st cap l′ b) h (d .goes x k y R ∙ s X tab (one x) end R (st cap l a))
+                  ∙ over-step end R (below (one x) R) S X j e (st cap l a) (st cap l′ b) h (d .goes x k y R ∙ bare-below S X tab j (omega arith) s (one x) end R (st cap l a))
                   ∙ t .done .again x k y R;
             };
       }

@@ -5,27 +5,30 @@ use mathlib.Core.Path.{_≡_}
 use mathlib.Core.List.{List}
 use mathlib.Core.Bool.{Bool as Bits, true}
 use lib.ListN.{length, getD}
+use Rattle.definition.specs.Bytes.{number, part}
 use Rattle.definition.specs.Limits.{maxPlan}
 use Rattle.definition.specs.Values.{Json}
 use Rattle.definition.specs.Forms.{Segments, Selectors, Selector}
 use Rattle.definition.specs.Forms.Segments.{end, descendant}
 use Rattle.definition.specs.Forms.Selectors.{one}
-use Rattle.definition.specs.Tables.{nodeCount, nodeAt}
-use Rattle.definition.specs.Evaluation.{evalSelectors, evalSelector}
+use Rattle.definition.specs.Tables.{nodeCount, nodeAt, kindAt, kindList, firstChild, childCount}
+use Rattle.definition.specs.Evaluation.{evalSelector}
 use Rattle.tables.specs.Accepted.{Accepted}
-use Rattle.walks.specs.States.{State, st}
+use Rattle.walks.specs.States.{st}
 use Rattle.walks.specs.Emits.{go}
 use Rattle.walks.specs.Steps.{below}
 use Rattle.walks.specs.Items.{SegmentsAt, SelectorAt}
 use Rattle.visits.specs.Visits.{Given, over}
+use Rattle.filters.specs.Atoms.{AtomAt}
+use Rattle.filters.specs.declared.atoms.Atom.{Atom}
 use Rattle.tasks.specs.declared.flats.Flat.{Flat}
 use Rattle.tasks.specs.Asks.{Room}
 
--- ---- a node with nothing below it
+-- ---- a node with nothing below its children
 
--- all that selectors select of it and below it they select of the node itself
-abbrev pub Shallow : List ℕ → ℕ → Type 0
-Shallow S node = (X : List ℕ) → Accepted S X → (ss : Selectors) (q : Segments) (R : Json) (s : State) → go q R (evalSelectors ss R (nodeAt S X node)) s ≡ go q R (below ss R (nodeAt S X node)) s
+-- no child of the node is a list or a map
+abbrev pub Bare : List ℕ → ℕ → Type 0
+Bare S node = (m : ℕ) → firstChild S node ≤ m → m < firstChild S node + childCount S node → kindAt S m < kindList
 
 pub record AskFlat (S : List ℕ) (node : ℕ) : Type 0 where
   pub X : List ℕ
@@ -33,7 +36,7 @@ pub record AskFlat (S : List ℕ) (node : ℕ) : Type 0 where
   pub node-in : node < nodeCount S
 
 abbrev pub DoneFlat : List ℕ → ℕ → Bits → Type 0
-DoneFlat S node r = r ≡ true → Shallow S node
+DoneFlat S node r = r ≡ true → Bare S node
 
 -- ---- a name, an index or a wildcard
 
@@ -100,6 +103,44 @@ pub record DonePlain (P : List ℕ) (pc : ℕ) (r : Bits) : Type 0 where
   pub most : r ≡ true → getD P (pc + 3) 0 ≤ 8
   pub whole : r ≡ true → getD P (pc + 3) 0 ≡ 7 → ⊥
   pub lone : r ≡ true → (L : List ℕ) (ss : Selectors) (q : Segments) (k : ℕ) → SegmentsAt P L pc k (descendant ss q) → Lone P L (pc + 3) k ss q
+
+-- ---- a filter that is one test of a member
+
+pub record AskMember (P : List ℕ) (pc : ℕ) : Type 0 where
+  pub few : length P ≤ maxPlan
+  pub L : List ℕ
+  pub fewL : length L ≤ maxPlan
+  pub ss : Selectors
+  pub q : Segments
+  pub k : ℕ
+  pub at : SegmentsAt P L pc k (descendant ss q)
+
+-- the segment at pc has one selector, a filter whose code up to z is such a test
+pub record MemberAt (P : List ℕ) (pc : ℕ) : Type 0 where
+  pub alone : number (part P (pc + 1) 2) ≡ 1
+  pub filter-is : getD P (pc + 3) 0 ≡ 9
+  pub z : ℕ
+  pub size : z ≡ pc + 3 + 3 + number (part P (pc + 3 + 1) 2)
+  pub more : pc + 3 + 3 < z
+  pub t : Atom
+  pub test : AtomAt P (pc + 3 + 3) z t
+  pub whole : t .next ≡ z
+
+abbrev pub DoneMember : List ℕ → ℕ → Bits → Type 0
+DoneMember P pc r = r ≡ true → MemberAt P pc
+
+-- the nodes of a range up to the first that has more below it
+pub record AskSkipped (S : List ℕ) (i e : ℕ) : Type 0 where
+  pub X : List ℕ
+  pub tab : Accepted S X
+  pub range : i < e → e ≤ nodeCount S
+
+pub record DoneSkipped (S : List ℕ) (i e r : ℕ) : Type 0 where
+  pub low : i ≤ r
+  pub high : i ≤ e → r ≤ e
+  pub bare : (m : ℕ) → i ≤ m → m < r → Bare S m
+
+-- ---- a descendant segment on the nodes of a range
 
 pub record AskStart (P L S X : List ℕ) (i e pc len at cap : ℕ) : Type 0 where
   pub given : Given P L S X

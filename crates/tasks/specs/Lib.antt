@@ -7,4 +7,5 @@ pub mod Stacks
 pub mod Selects
 pub mod Flats
 pub mod FlatLaws
+pub mod FlatTests
 pub mod Turns

@@ -1,16 +1,19 @@
 // Nodes with no list or map among their children under a descendant segment of one name, index or wildcard that ends its query: there is nothing below them, so
-// that what is selected of them is pushed at once, and no task is needed.
+// that what is selected of them is pushed at once, and no task is needed. Under a filter that is one test of a member nothing is selected of them.
 use equal::members::Member;
+use filters::atoms;
 use steps::leaves;
 use steps::plans;
 use table::records;
 use text::bytes;
 ghost use lib.ListN.{length};
-ghost use Rattle.tasks.specs.Flats.{AskFlat, DoneFlat, AskPlain, DonePlain, AskSelected, DoneSelected, AskFlats, DoneFlats, AskStart, DoneStart};
+ghost use Rattle.tasks.specs.Flats.{AskFlat, DoneFlat, AskPlain, DonePlain, AskSelected, DoneSelected, AskFlats, DoneFlats, AskMember, DoneMember, AskSkipped, DoneSkipped, AskStart, DoneStart};
 
 const SLICE: u8 = 0x07;
 
 const WILDCARD: u8 = 0x08;
+
+const FILTER: u8 = 0x09;
 
 const END: u8 = 0x0A;
 
@@ -117,6 +120,44 @@ fn is_plain(plan: &[u8], pc: usize) -> bool
     plan[rest] == END
 }
 
+// Whether the descendant segment at pc has one selector, a filter that is one test of a member.
+fn asks_member(plan: &[u8], pc: usize) -> bool
+    requires { ⌜ AskMember (now plan) pc ⌝ }
+    ensures { λ r. ⌜ DoneMember (now (plan .entry)) pc r ⌝ }
+{
+    if bytes::word16(plan, pc + 1) != 1 {
+        return false;
+    }
+    let p = pc + 3;
+    if plan[p] != FILTER {
+        return false;
+    }
+    let z = p + 3 + bytes::word16(plan, p + 1);
+    if z <= p + 3 {
+        return false;
+    }
+    let t = atoms::read_atom(plan, p + 3, z);
+    if t.form == 0 {
+        return false;
+    }
+    t.next == z
+}
+
+// The first node from i on that has a list or a map among its children, or e.
+fn skip_flats(table: &[u8], i: usize, e: usize) -> usize
+    requires { ⌜ AskSkipped (now table) i e ⌝ }
+    ensures { λ r. ⌜ DoneSkipped (now (table .entry)) i e r ⌝ }
+{
+    let mut j = i;
+    while j < e {
+        if !is_flat(table, j) {
+            return j;
+        }
+        j = visits::next_container(table, j + 1, e);
+    }
+    j
+}
+
 // The nodes from i up to e with the descendant segment at pc, as far as they need no task.
 pub fn flat_start(
     plan: &[u8],
@@ -136,9 +177,15 @@ pub fn flat_start(
     if e <= i {
         return Flat { i, at };
     }
-    if !is_plain(plan, pc) {
-        return Flat { i, at };
+    if is_plain(plan, pc) {
+        let p = pc + 3;
+        return flat_each(plan, pool, table, text, i, e, p, list, at, cap);
     }
-    let p = pc + 3;
-    flat_each(plan, pool, table, text, i, e, p, list, at, cap)
+    if asks_member(plan, pc) {
+        return Flat {
+            i: skip_flats(table, i, e),
+            at,
+        };
+    }
+    Flat { i, at }
 }

@@ -3,7 +3,7 @@
 //
 //   cells     a task in its five cells
 //   segments  a segment of a query on one node
-//   flats     nodes with nothing below them under a descendant segment that ends its query
+//   flats     nodes with nothing below their children under a descendant segment of one selector
 //   turns     one turn of a task that needs no filter
 ghost use mathlib.Core.Path.{_≡_};
 

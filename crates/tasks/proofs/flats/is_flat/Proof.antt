@@ -1,10 +1,10 @@
--- `tasks::flats::is_flat` meets its contract: a node without children has nothing below it, nor has one whose children are neither lists nor maps. Assumes nothing.
+-- `tasks::flats::is_flat` meets its contract: without children there is no list or map among them, nor where all are passed. Assumes nothing.
 use mathlib.Core.Path.{sym, _∙_}
 use native.Mathlib.Omega.{arith}
 use borrow.Author.Needs.{needs}
 use borrow.Author.Tests.{eqb-true}
 use Rattle.walks.specs.Ranges.{range-of, range-in}
-use Rattle.tasks.specs.Selects.{below-empty, below-passed}
+use Rattle.tasks.specs.FlatLaws.{bare-empty, bare-passed}
 use Rattle.tasks.proofs.flats.is_flat.Statement.{statement}
 use Rattle.tasks.proofs.flats.is_flat.Tie as tie
 
@@ -15,7 +15,7 @@ cast-n : tie.Need-cast-n
 cast-n c = search needs
 
 returns : tie.Need-returns
-returns c = λ u X tab. below-empty _ _ tab _ (c .before .before .before .pre .node-in) (sym (c .before .child-count .ensures) ∙ c .if1 .taken)
+returns c = λ u. bare-empty _ _ (sym (c .before .child-count .ensures) ∙ c .if1 .taken)
 
 first-child-requires : tie.Need-first-child-requires
 first-child-requires c κs = search needs
@@ -36,7 +36,8 @@ next-container-requires c κs =
 returns-2 : tie.Need-returns-2
 returns-2 c =
     let z = c .before .before .before .before .before .pre in
-    λ u X tab. below-passed _ _ tab _ (z .node-in) _ _ (range-of _ _ tab _ (z .node-in) _ _ (c .before .first-child .ensures) (c .before .before .before .child-count .ensures)) _ (c .next-container .ensures) (eqb-true _ _ u)
+    let n = c .before .before .if1 .left in
+    λ u. bare-passed _ _ _ _ (range-of _ _ (z .tab) _ (z .node-in) _ _ (c .before .first-child .ensures) (c .before .before .before .child-count .ensures)) (omega arith) _ (c .next-container .ensures) (eqb-true _ _ u)
 
 pub is-flat-spec : {M : Type 1} → statement M
 is-flat-spec =
