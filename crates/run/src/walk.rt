@@ -3,6 +3,7 @@
 // it. A selection has as many places as its cap; a query in a filter has one place, for its first node.
 use crate::answers;
 use equal::Operand;
+use filters::kept;
 use steps::Regs;
 use steps::leaves;
 use steps::plans;
@@ -156,14 +157,35 @@ fn turn_filter(
     let rest = t.rest;
     let e = t.b;
     let p = t.c;
+    let i = t.a;
     let z = p + 3 + bytes::word16(plan, p + 1);
+    let g = kept::read_form(plan, p + 3, z, rest);
+    if g.way != 0 {
+        let n = kept::keep(
+            plan,
+            pool,
+            table,
+            text,
+            root,
+            i,
+            e,
+            p + 3,
+            z,
+            g,
+            rest,
+            list,
+            at,
+            cap,
+        );
+        return Pos { h: j, at: n };
+    }
     let s = eval_filter(
         plan,
         pool,
         table,
         text,
         root,
-        t.a,
+        i,
         e,
         p + 3,
         z,
