@@ -6,10 +6,11 @@ use mathlib.Core.Path.{_≡_, refl, sym, ap, _∙_, subst}
 use mathlib.Core.List.{List, [], _∷_}
 use mathlib.Core.Bool.{Bool as Bits, true, false, _&&_}
 use lib.Dec.{leb}
+use lib.IntN.{ℤ, pos}
 use lib.ListN.{length, getD}
 use native.Mathlib.Omega.{arith}
 use borrow.Author.Tests.{leb-true, le-leb, lt-leb}
-use Rattle.definition.specs.Bytes.{number, part}
+use Rattle.definition.specs.Bytes.{number, part, signed64}
 use Rattle.definition.specs.Limits.{maxPlan, maxNodes}
 use Rattle.definition.specs.Values.{Json}
 use Rattle.definition.specs.Forms.{Segments, Test}
@@ -25,6 +26,9 @@ use Rattle.walks.specs.Items.{SegmentsAt, segments-in}
 use Rattle.walks.specs.Todos.{todo-start, todo-end}
 use Rattle.equal.specs.declared.members.Member.{Member}
 use Rattle.equal.specs.declared.members.Member.the-variants.{At, Nothing as Absent}
+use Rattle.equal.specs.Alike.{Compares}
+use Rattle.equal.specs.declared.Operand.the-variants.{Int}
+use Rattle.steps.specs.LeafLaws.{literal-room, done-integer}
 use Rattle.steps.specs.Leaves.{AskValue, AskOne, DoneOne, beginsAt}
 use Rattle.visits.specs.Visits.{Given, Query, Head, AskVisit, DoneVisit, DoneReach, over}
 use Rattle.visits.specs.Fronts.{never, reach-found}
@@ -32,7 +36,7 @@ use Rattle.visits.specs.Turns.{visit-lost, visit-end}
 use Rattle.visits.specs.declared.Visited.{Visited}
 use Rattle.visits.specs.declared.Stop.{Stop}
 use Rattle.filters.specs.Queries.{Within, begins-node}
-use Rattle.filters.specs.Tests.{Left, AskShort, DoneShort, AskLogic, DoneLogic, logic-and-enter, logic-and-skip, logic-or-enter, logic-or-skip, Star, AskCount, DoneCount, AskCounting, AskCounted, counting-counted, counting-done, counted-value, counted-done, short-query}
+use Rattle.filters.specs.Tests.{Left, AskShort, DoneShort, AskLogic, DoneLogic, logic-and-enter, logic-and-skip, logic-or-enter, logic-or-skip, Star, AskCount, DoneCount, count-done, AskCounting, AskCounted, counting-counted, counting-done, counted-value, counted-done, short-query}
 use Rattle.filters.specs.Kept.{Tested, AskTest, DoneTest, AskKept, DoneKept, InKept}
 use Rattle.filters.specs.Atoms.{AskCode, AtomAt, AgainstAt, NameAt, tells, start-here, name-lost, name-reached, name-one}
 use Rattle.filters.specs.declared.Told.{Told}
@@ -189,11 +193,9 @@ pub record CountsAt (P : List ℕ) (p z op : ℕ) : Type 0 where
   pub current : getD P p 0 ≡ 2
   pub star : Star P (p + 1)
   pub count : getD P (p + 1 + 5) 0 ≡ 0x19
+  pub integer-is : getD P (p + 1 + 6) 0 ≡ 0x10
   pub against : AgainstAt P (p + 1 + 6) z op z
   pub room : p + 1 + 6 < length P
-
-pub count-room : {P L S X : List ℕ} {root node p z op : ℕ} → Within P L S X root node → CountsAt P p z op → p + 1 + 6 ≤ maxPlan
-count-room w g = let h = w .fewP in let e = g .count in omega (arith, g .room)
 
 module _ {P L S X : List ℕ} {root node p z op : ℕ} (w : Within P L S X root node) (a : AskTest P L p z) (g : CountsAt P p z op) (n : ℕ) (c : n ≡ childCount S node) where
   count-first : AskShort P L S X root node p z
@@ -211,15 +213,26 @@ module _ {P L S X : List ℕ} {root node p z op : ℕ} (w : Within P L S X root 
   counted : AskCounted P L S X n (p + 1 + 6) z
   counted = counting-counted count-first counting (g .star) (g .count) n c
 
-  pub count-asked : AskCount P L S X n (p + 1 + 6)
+  count-asked : AskCount P L S X n (p + 1 + 6)
   count-asked = let y = g .against in record { tab = w .tab; few = counted .few; literal = counted-value counted (y .more) (y .low) (y .high) }
 
-  pub count-told : (r : Bits) → DoneCount P L n (p + 1 + 6) op r → DoneTest P L S X root node p z r
+  count-told : (r : Bits) → DoneCount P L n (p + 1 + 6) op r → DoneTest P L S X root node p z r
   count-told r d =
       let y = g .against in
       let e = y .next-is in
       let f : DoneCount P L n (p + 1 + 6) (getD P (y .w + 1) 0) r = subst (λ (o : ℕ). DoneCount P L n (p + 1 + 6) o r) (y .op-is) d in
       tested w r _ (counting-done count-first counting (g .star) (g .count) n c _ (counted-done counted (y .more) (y .low) (y .high) (y .w) (y .past) (y .inside) (y .compare-is) r f)) (sym e)
+
+  -- the integer is there to be read
+  pub count-bound : p + 1 + 6 + 9 ≤ length P
+  count-bound = literal-room P L (p + 1 + 6) (count-asked .literal) .of-integer (g .integer-is)
+
+  pub count-small : n ≤ maxNodes
+  count-small = counted .few
+
+  pub count-ints : (op′ : ℕ) → op′ ≡ op → (v y : ℤ) → v ≡ pos n → y ≡ signed64 (number (part P (p + 1 + 6 + 1) 8)) → (r : Bits) → Compares (Value.integer v) (Value.integer y) op′ r → DoneTest P L S X root node p z r
+  count-ints op′ o v y i j r d =
+      count-told r (subst (λ (x : ℕ). DoneCount P L n (p + 1 + 6) x r) o (count-done P L S X n (p + 1 + 6) op′ r v i (Int y) (done-integer P L (p + 1 + 6) (g .integer-is) y j) d))
 
 -- ---- a whole range
 
@@ -309,12 +322,13 @@ DoneCounts P p z r = r .some ≡ true → CountsAt P p z (r .op)
 pub none-counts : {P : List ℕ} {p z op : ℕ} → DoneCounts P p z (record { op = op; some = false })
 none-counts e = absurd (never e)
 
-pub counts-at : {P : List ℕ} {p z op next : ℕ} → getD P p 0 ≡ 2 → Head P (p + 1) 8 → getD P (p + 1 + 4) 0 ≡ 0x0A → getD P (p + 1 + 5) 0 ≡ 0x19 → AgainstAt P (p + 1 + 6) z op next → next ≡ z → p + 1 + 6 < length P → CountsAt P p z op
-counts-at {P} {p} {z} {op} {next} a h b c d e r =
+pub counts-at : {P : List ℕ} {p z op next : ℕ} → getD P p 0 ≡ 2 → Head P (p + 1) 8 → getD P (p + 1 + 4) 0 ≡ 0x0A → getD P (p + 1 + 5) 0 ≡ 0x19 → getD P (p + 1 + 6) 0 ≡ 0x10 → AgainstAt P (p + 1 + 6) z op next → next ≡ z → p + 1 + 6 < length P → CountsAt P p z op
+counts-at {P} {p} {z} {op} {next} a h b c i d e r =
     record {
       current = a;
       star = record { child-is = h .child; alone = h .alone; wildcard-is = h .kind-is; end-is = b };
       count = c;
+      integer-is = i;
       against = subst (λ (n : ℕ). AgainstAt P (p + 1 + 6) z op n) e d;
       room = r;
     }

@@ -1,5 +1,5 @@
 // The nodes of a range for which a test holds, where nothing or one name follows, and where the test is of one member, of two with `&&` or `||` between them, or of
-// the number of all children compared with a literal. Such a test is read from the plan once, and needs neither tasks nor registers.
+// the number of all children compared with an integer. Such a test is read from the plan once, and needs neither tasks nor registers.
 use crate::atoms;
 use crate::atoms::Atom;
 use equal::members::Member;
@@ -23,6 +23,8 @@ const WILDCARD_HEAD: usize = 0x08000103;
 
 const END: u8 = 0x0A;
 
+const INTEGER: u8 = 0x10;
+
 const AND: u8 = 0x16;
 
 const OR: u8 = 0x17;
@@ -42,7 +44,7 @@ pub struct Pair {
     pub some: bool,
 }
 
-// The operator between the number of children and a literal; `some` is false where there is no such test.
+// The operator between the number of children and an integer; `some` is false where there is no such test.
 pub struct Counts {
     pub op: u8,
     pub some: bool,
@@ -167,7 +169,7 @@ fn keep_pair(
     a
 }
 
-// Whether the number of children of a node stands so to the literal behind p.
+// Whether the number of children of a node stands so to the integer behind p.
 fn count_passes(
     plan: &[u8],
     pool: &[u8],
@@ -184,8 +186,9 @@ fn count_passes(
     requires { ⌜ CountsAt (now plan) p z op ⌝ }
     ensures { λ r. ⌜ DoneTest (now (plan .entry)) (now (pool .entry)) (now (table .entry)) (now (text .entry)) root node p z r ⌝ }
 {
-    let n = records::child_count(table, node) as usize;
-    crate::compare_count(plan, pool, table, text, op, n, p + 1 + 6)
+    let n = records::child_count(table, node) as i64;
+    let b = bytes::int64(plan, p + 1 + 6 + 1);
+    crate::compare_ints(op, n, b)
 }
 
 // The nodes from i up to e for which that test holds, where nothing follows.
@@ -245,6 +248,9 @@ fn read_counts(plan: &[u8], p: usize, z: usize) -> Counts
         return Counts { op: 0, some: false };
     }
     if plan[c + 5] != COUNT {
+        return Counts { op: 0, some: false };
+    }
+    if plan[c + 6] != INTEGER {
         return Counts { op: 0, some: false };
     }
     let b = atoms::behind_literal(plan, c + 6, z);

@@ -29,8 +29,11 @@ fn same_each(a: &[u8], b: &[u8]) -> bool
     requires { ⌜ length (now a) ≡ length (now b) ⌝ }
     ensures { λ r. ⌜ r ≡ sameBytes (now (a .entry)) (now (b .entry)) ⌝ }
 {
-    if a.len() < 4 {
+    if a.len() < 2 {
         return same_few(a, b);
+    }
+    if a.len() < 4 {
+        return same_pairs(a, b);
     }
     if 8 <= a.len() {
         return same_words(a, b);
@@ -40,6 +43,19 @@ fn same_each(a: &[u8], b: &[u8]) -> bool
     }
     let last = a.len() - 4;
     bytes::word32(a, last) == bytes::word32(b, last)
+}
+
+// The same of two or three bytes, two at a time.
+fn same_pairs(a: &[u8], b: &[u8]) -> bool
+    requires { ⌜ (length (now a) ≡ length (now b)) × (2 ≤ length (now a)) ⌝ }
+    requires { ⌜ length (now a) ≤ 3 ⌝ }
+    ensures { λ r. ⌜ r ≡ sameBytes (now (a .entry)) (now (b .entry)) ⌝ }
+{
+    if bytes::word16(a, 0) != bytes::word16(b, 0) {
+        return false;
+    }
+    let last = a.len() - 2;
+    bytes::word16(a, last) == bytes::word16(b, last)
 }
 
 // The same, byte by byte.

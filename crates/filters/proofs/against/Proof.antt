@@ -1,4 +1,4 @@
--- `run::tests::against` meets its contract. Assumes nothing.
+-- `against` meets its contract. Assumes nothing.
 use Rattle.filters.specs.Tests.{against-none, against-value, against-past, against-in, against-operator, against-nothing, against-node}
 use native.Mathlib.Omega.{arith}
 use borrow.Author.Needs.{needs}
@@ -9,51 +9,39 @@ use Rattle.filters.proofs.against.Lts as lts
 use Rattle.filters.proofs.compare_node.Reads as compare-node-reads
 use Rattle.steps.proofs.plans.past_literal.Reads as past-literal-reads
 
--- src/tests.rt:171:9
 returns : tie.Need-returns
 returns c = against-none _ _ _ _ _ _ _ _ _
 
--- src/tests.rt:173:9
 past-literal-requires : tie.Need-past-literal-requires
 past-literal-requires c κs = against-past (c .before .before .before .before .before .pre) (c .if1 .left)
 
--- src/tests.rt:175:9
 returns-2 : tie.Need-returns-2
 returns-2 c = against-none _ _ _ _ _ _ _ _ _
 
--- src/tests.rt:177:8
 shared-slice-read-if3 : tie.Need-shared-slice-read-if3
 shared-slice-read-if3 c = against-in (c .before .before .before .before .before .before .before .before .pre) (c .before .before .before .if1 .left) _ (c .before .before .past-literal .ensures) (c .before .if2 .left)
 
--- src/tests.rt:178:9
 returns-3 : tie.Need-returns-3
 returns-3 c = against-none _ _ _ _ _ _ _ _ _
 
--- src/tests.rt:181:38
 add-t15 : tie.Need-add-t15
 add-t15 c = omega (arith, against-in (c .before .before .before .before .before .before .before .before .before .before .pre) (c .before .before .before .before .before .if1 .left) _ (c .before .before .before .before .past-literal .ensures) (c .before .before .before .if2 .left), c .before .before .before .before .before .before .before .before .before .before .pre .fewP)
 
--- src/tests.rt:181:9
 returns-4 : tie.Need-returns-4
 returns-4 c = against-nothing (c .before .before .before .before .before .before .before .before .before .before .pre) (c .before .before .before .before .before .if1 .left) _ (c .before .before .before .before .past-literal .ensures) (c .before .before .before .if2 .left) (c .before .if3 .left) (c .if4 .taken)
 
--- src/tests.rt:183:19
 add-op : tie.Need-add-op
 add-op c = search needs
 
--- src/tests.rt:183:14
 shared-slice-read-op : tie.Need-shared-slice-read-op
 shared-slice-read-op c = against-operator (c .before .before .before .before .before .before .before .before .before .before .before .pre) (c .before .before .before .before .before .before .if1 .left) _ (c .before .before .before .before .before .past-literal .ensures) (c .before .before .before .before .if2 .left) (c .before .before .if3 .left)
 
--- src/tests.rt:184:9
 compare-node-requires : tie.Need-compare-node-requires
 compare-node-requires c κs = record { tab = c .before .before .before .before .before .before .before .before .before .before .before .pre .tab; node-in = c .before .before .before .before .before .before .before .before .before .before .before .pre .inside (omega (arith, c .before .if4 .left)); literal = against-value (c .before .before .before .before .before .before .before .before .before .before .before .pre) (c .before .before .before .before .before .before .if1 .left) }
 
--- src/tests.rt:185:23
 add-t16 : tie.Need-add-t16
 add-t16 c = omega (arith, against-in (c .before .before .before .before .before .before .before .before .before .before .before .before .pre) (c .before .before .before .before .before .before .before .if1 .left) _ (c .before .before .before .before .before .before .past-literal .ensures) (c .before .before .before .before .before .if2 .left), c .before .before .before .before .before .before .before .before .before .before .before .before .pre .fewP)
 
--- src/tests.rt:157:1
 returns-5 : tie.Need-returns-5
 returns-5 c = against-node (c .before .before .before .before .before .before .before .before .before .before .before .before .pre) (c .before .before .before .before .before .before .before .if1 .left) _ (c .before .before .before .before .before .before .past-literal .ensures) (c .before .before .before .before .before .if2 .left) (c .before .before .before .if3 .left) (c .before .before .if4 .left) _ (c .compare-node .ensures)
 

@@ -1,4 +1,4 @@
--- `run::tests::compare_count` meets its contract. Assumes nothing.
+-- `compare_count` meets its contract. Assumes nothing.
 use Rattle.filters.specs.Tests.{count-done}
 use Rattle.steps.specs.LeafLaws.{literal-room, done-integer}
 use Rattle.equal.specs.declared.Operand.the-variants.{Int}
@@ -17,39 +17,30 @@ use Rattle.filters.proofs.compare_ints.Reads as compare-ints-reads
 use Rattle.steps.proofs.leaves.literal.Reads as literal-reads
 use Rattle.text.proofs.bytes.int64.Reads as int64-reads
 
--- src/tests.rt:307:13
 cast-a : tie.Need-cast-a
 cast-a c = search needs
 
--- src/tests.rt:308:8
 shared-slice-read-if1 : tie.Need-shared-slice-read-if1
 shared-slice-read-if1 c = omega (arith, literal-room (c .before .before .before .before .before .args .plan .now) (c .before .before .before .before .before .args .pool .now) (c .before .before .before .before .before .args .q) (c .before .before .before .before .before .pre .literal) .two-bytes)
 
--- src/tests.rt:309:55
 add-int64 : tie.Need-add-int64
 add-int64 c = omega (arith, literal-room (c .before .before .before .before .before .before .args .plan .now) (c .before .before .before .before .before .before .args .pool .now) (c .before .before .before .before .before .before .args .q) (c .before .before .before .before .before .before .pre .literal) .two-bytes)
 
--- src/tests.rt:309:36
 int64-requires : tie.Need-int64-requires
 int64-requires c κs = omega (arith, literal-room (c .before .before .before .before .before .before .args .plan .now) (c .before .before .before .before .before .before .args .pool .now) (c .before .before .before .before .before .before .args .q) (c .before .before .before .before .before .before .pre .literal) .of-integer (c .if1 .taken))
 
--- src/tests.rt:309:9
 compare-ints-requires : tie.Need-compare-ints-requires
 compare-ints-requires c κs = search needs
 
--- src/tests.rt:309:9
 returns : tie.Need-returns
 returns c = count-done _ _ (c .before .before .before .before .before .before .before .before .args .table .now) (c .before .before .before .before .before .before .before .before .args .text .now) _ _ _ _ _ (toZ-pos w64 _ (omega (arith, c .before .before .before .before .before .before .before .before .pre .few))) (Int _) (done-integer (c .before .before .before .before .before .before .before .before .args .plan .now) (c .before .before .before .before .before .before .before .before .args .pool .now) (c .before .before .before .before .before .before .before .before .args .q) (c .before .before .if1 .taken) _ (back (c .before .int64 .result) (c .before .int64 .ok) ∙ c .before .int64 .ensures)) (c .compare-ints .ensures)
 
--- src/tests.rt:311:9
 literal-requires : tie.Need-literal-requires
 literal-requires c κs = search needs
 
--- src/tests.rt:312:5
 compare-values-requires : tie.Need-compare-values-requires
 compare-values-requires c κs = let l = c .before .before .before .before .before .before .before .pre .literal in (c .before .before .before .before .before .before .before .pre .tab, record { first = tt; second = c .literal .ensures (l .l) (l .k) (l .holds) (l .pool) (l .right) .fine _ _ })
 
--- src/tests.rt:295:1
 returns-2 : tie.Need-returns-2
 returns-2 c = count-done _ _ (c .before .before .before .before .before .before .before .before .args .table .now) (c .before .before .before .before .before .before .before .before .args .text .now) _ _ _ _ _ (toZ-pos w64 _ (omega (arith, c .before .before .before .before .before .before .before .before .pre .few))) _ (c .before .literal .ensures) (c .compare-values .ensures)
 

@@ -1,4 +1,4 @@
--- `run::tests::compare_integers` meets its contract. Assumes nothing.
+-- `compare_integers` meets its contract. Assumes nothing.
 use Rattle.filters.specs.Tests.{integers-done}
 use Rattle.steps.specs.LeafLaws.{literal-room}
 use Rattle.filters.proofs.Signs.{back}
@@ -12,31 +12,24 @@ use Rattle.filters.proofs.compare_integers.Lts as lts
 use Rattle.filters.proofs.compare_ints.Reads as compare-ints-reads
 use Rattle.text.proofs.bytes.int64.Reads as int64-reads
 
--- src/tests.rt:96:33
 mul-int64 : tie.Need-mul-int64
 mul-int64 c = search needs
 
--- src/tests.rt:96:33
 add-int64 : tie.Need-add-int64
 add-int64 c = search needs
 
--- src/tests.rt:96:9
 int64-requires : tie.Need-int64-requires
 int64-requires c κs = search needs
 
--- src/tests.rt:97:32
 add-int64-2 : tie.Need-add-int64-2
 add-int64-2 c = omega (arith, literal-room (c .before .before .before .before .before .args .plan .now) (c .before .before .before .before .before .args .pool .now) (c .before .before .before .before .before .args .q) (c .before .before .before .before .before .pre .0 .literal) .two-bytes)
 
--- src/tests.rt:97:9
 int64-requires-2 : tie.Need-int64-requires-2
 int64-requires-2 c κs = omega (arith, literal-room (c .before .before .before .before .before .args .plan .now) (c .before .before .before .before .before .args .pool .now) (c .before .before .before .before .before .args .q) (c .before .before .before .before .before .pre .0 .literal) .of-integer (c .before .before .before .before .before .pre .1 .0))
 
--- src/tests.rt:98:5
 compare-ints-requires : tie.Need-compare-ints-requires
 compare-ints-requires c κs = search needs
 
--- src/tests.rt:91:1
 returns : tie.Need-returns
 returns c = integers-done (c .before .before .before .before .before .before .before .pre .0) _ _ (c .before .before .before .before .before .before .before .pre .1 .0) (c .before .before .before .before .before .before .before .pre .1 .1) _ _ (back (c .before .before .int64 .result) (c .before .before .int64 .ok) ∙ c .before .before .int64 .ensures) (back (c .before .int642 .result) (c .before .int642 .ok) ∙ c .before .int642 .ensures) (c .compare-ints .ensures)
 

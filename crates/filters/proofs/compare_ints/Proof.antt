@@ -1,4 +1,4 @@
--- `run::tests::compare_ints` meets its contract: four operators by the order of the two numbers, the others by the order the other way round. Assumes nothing.
+-- `compare_ints` meets its contract: four operators by the order of the two numbers, the others by the order the other way round. Assumes nothing.
 use mir.Syntax.{w64}
 use mir.ValLaws.{toZ-ofZ}
 use borrow.Author.Needs.{needs}

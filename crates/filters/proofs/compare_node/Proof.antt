@@ -1,4 +1,4 @@
--- `run::tests::compare_node` meets its contract. Assumes nothing.
+-- `compare_node` meets its contract. Assumes nothing.
 use Rattle.filters.specs.Tests.{DoneNode}
 use Rattle.steps.specs.LeafLaws.{literal-room}
 use native.Mathlib.Omega.{arith}
@@ -14,37 +14,29 @@ use Rattle.filters.proofs.compare_operands.Reads as compare-operands-re
 use Rattle.filters.proofs.same_text.Reads as same-text-reads
 use Rattle.table.proofs.records.kind.Reads as kind-reads
 
--- src/tests.rt:129:13
 shared-slice-read-k : tie.Need-shared-slice-read-k
 shared-slice-read-k c = omega (arith, literal-room (c .before .before .before .before .before .args .plan .now) (c .before .before .before .before .before .args .pool .now) (c .before .before .before .before .before .args .q) (c .before .before .before .before .before .pre .literal) .two-bytes)
 
--- src/tests.rt:130:9
 kind-requires : tie.Need-kind-requires
 kind-requires c κs = search needs
 
--- src/tests.rt:133:13
 compare-integers-requires : tie.Need-compare-integers-requires
 compare-integers-requires c κs = search needs
 
--- src/tests.rt:133:13
 returns : tie.Need-returns
 returns c = search needs
 
--- src/tests.rt:139:17
 same-text-requires : tie.Need-same-text-requires
 same-text-requires c κs = search needs
 
--- src/tests.rt:139:17
 returns-2 : tie.Need-returns-2
 returns-2 c =
     let s = c .before .before .before .before .before .before .before .before .before .before .before in
     subst (λ (o : ℕ). DoneNode (s .args .plan .now) (s .args .pool .now) (s .args .table .now) (s .args .text .now) (s .args .m) (s .args .q) o (c .same-text .result)) (sym (c .before .if5 .taken)) (c .same-text .ensures)
 
--- src/tests.rt:143:5
 compare-operands-requires : tie.Need-compare-operands-requires
 compare-operands-requires c κs = search needs
 
--- src/tests.rt:125:1
 returns-3 : tie.Need-returns-3
 returns-3 c = search needs
 

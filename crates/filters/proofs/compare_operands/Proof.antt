@@ -1,4 +1,4 @@
--- `run::tests::compare_operands` meets its contract. Assumes nothing.
+-- `compare_operands` meets its contract. Assumes nothing.
 use Rattle.filters.specs.Tests.{operands-done}
 use borrow.Author.Needs.{needs}
 use Rattle.filters.proofs.compare_operands.Statement.{statement}
@@ -9,19 +9,15 @@ use Rattle.equal.proofs.compare_values.Reads as compare-values-reads
 use Rattle.equal.proofs.operands.node_value.Reads as node-value-reads
 use Rattle.steps.proofs.leaves.literal.Reads as literal-reads
 
--- src/tests.rt:119:9
 node-value-requires : tie.Need-node-value-requires
 node-value-requires c κs = search needs
 
--- src/tests.rt:120:9
 literal-requires : tie.Need-literal-requires
 literal-requires c κs = search needs
 
--- src/tests.rt:121:5
 compare-values-requires : tie.Need-compare-values-requires
 compare-values-requires c κs = let z = c .before .before .before .before .before .before .pre in let l = z .literal in (z .tab, record { first = c .before .node-value .ensures .fine _; second = c .literal .ensures (l .l) (l .k) (l .holds) (l .pool) (l .right) .fine _ _ })
 
--- src/tests.rt:115:1
 returns : tie.Need-returns
 returns c = operands-done (c .before .before .before .before .before .before .before .pre) _ _ _ _ (c .before .before .node-value .ensures) (c .before .literal .ensures) (c .compare-values .ensures)
 

@@ -1,4 +1,4 @@
--- `run::tests::count_against` meets its contract. Assumes nothing.
+-- `count_against` meets its contract. Assumes nothing.
 use Rattle.filters.specs.Tests.{literal-kind, counted-none, counted-in, counted-value, counted-past, counted-behind, counted-operator, counted-done}
 use borrow.Author.Tests.{not-false}
 use native.Mathlib.Omega.{arith}
@@ -12,55 +12,42 @@ use Rattle.filters.proofs.compare_count.Reads as compare-count-reads
 use Rattle.filters.proofs.is_literal.Reads as is-literal-reads
 use Rattle.steps.proofs.plans.past_literal.Reads as past-literal-reads
 
--- src/tests.rt:329:9
 returns : tie.Need-returns
 returns c = counted-none _ _ _ _ _ _
 
--- src/tests.rt:335:20
 shared-slice-read-is-literal : tie.Need-shared-slice-read-is-literal
 shared-slice-read-is-literal c = counted-in (c .before .before .before .before .before .before .pre) (c .before .if1 .left)
 
--- src/tests.rt:335:9
 is-literal-requires : tie.Need-is-literal-requires
 is-literal-requires c κs = search needs
 
--- src/tests.rt:336:9
 returns-2 : tie.Need-returns-2
 returns-2 c = counted-none _ _ _ _ _ _
 
--- src/tests.rt:342:9
 past-literal-requires : tie.Need-past-literal-requires
 past-literal-requires c κs = let k = literal-kind _ (sym (c .before .is-literal .ensures) ∙ not-false _ (c .if2 .left)) in counted-past (c .before .before .before .before .before .before .before .before .pre) (c .before .before .before .if1 .left) (k .0) (k .1)
 
--- src/tests.rt:344:9
 returns-3 : tie.Need-returns-3
 returns-3 c = counted-none _ _ _ _ _ _
 
--- src/tests.rt:350:8
 shared-slice-read-if4 : tie.Need-shared-slice-read-if4
 shared-slice-read-if4 c = let k = literal-kind _ (sym (c .before .before .before .before .is-literal .ensures) ∙ not-false _ (c .before .before .before .if2 .left)) in counted-behind (c .before .before .before .before .before .before .before .before .before .before .before .pre) (c .before .before .before .before .before .before .if1 .left) (k .0) (k .1) _ (c .before .before .past-literal .ensures) (c .before .if3 .left)
 
--- src/tests.rt:351:9
 returns-4 : tie.Need-returns-4
 returns-4 c = counted-none _ _ _ _ _ _
 
--- src/tests.rt:357:19
 add-op : tie.Need-add-op
 add-op c = search needs
 
--- src/tests.rt:357:14
 shared-slice-read-op : tie.Need-shared-slice-read-op
 shared-slice-read-op c = let k = literal-kind _ (sym (c .before .before .before .before .before .before .is-literal .ensures) ∙ not-false _ (c .before .before .before .before .before .if2 .left)) in counted-operator (c .before .before .before .before .before .before .before .before .before .before .before .before .before .pre) (c .before .before .before .before .before .before .before .before .if1 .left) (k .0) (k .1) _ (c .before .before .before .before .past-literal .ensures) (c .before .before .before .if3 .left) (c .before .if4 .left)
 
--- src/tests.rt:358:9
 compare-count-requires : tie.Need-compare-count-requires
 compare-count-requires c κs = let k = literal-kind _ (sym (c .before .before .before .before .before .before .is-literal .ensures) ∙ not-false _ (c .before .before .before .before .before .if2 .left)) in record { tab = c .before .before .before .before .before .before .before .before .before .before .before .before .before .pre .tab; few = c .before .before .before .before .before .before .before .before .before .before .before .before .before .pre .few; literal = counted-value (c .before .before .before .before .before .before .before .before .before .before .before .before .before .pre) (c .before .before .before .before .before .before .before .before .if1 .left) (k .0) (k .1) }
 
--- src/tests.rt:361:12
 add-t16 : tie.Need-add-t16
 add-t16 c = let k = literal-kind _ (sym (c .before .before .before .before .before .before .before .is-literal .ensures) ∙ not-false _ (c .before .before .before .before .before .before .if2 .left)) in omega (arith, counted-behind (c .before .before .before .before .before .before .before .before .before .before .before .before .before .before .pre) (c .before .before .before .before .before .before .before .before .before .if1 .left) (k .0) (k .1) _ (c .before .before .before .before .before .past-literal .ensures) (c .before .before .before .before .if3 .left), c .before .before .before .before .before .before .before .before .before .before .before .before .before .before .pre .fewP)
 
--- src/tests.rt:316:1
 returns-5 : tie.Need-returns-5
 returns-5 c = let k = literal-kind _ (sym (c .before .before .before .before .before .before .before .is-literal .ensures) ∙ not-false _ (c .before .before .before .before .before .before .if2 .left)) in counted-done (c .before .before .before .before .before .before .before .before .before .before .before .before .before .before .pre) (c .before .before .before .before .before .before .before .before .before .if1 .left) (k .0) (k .1) _ (c .before .before .before .before .before .past-literal .ensures) (c .before .before .before .before .if3 .left) (c .before .before .if4 .left) _ (c .compare-count .ensures)
 

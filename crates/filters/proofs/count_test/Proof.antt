@@ -1,4 +1,4 @@
--- `run::tests::count_test` meets its contract. Assumes nothing.
+-- `count_test` meets its contract. Assumes nothing.
 use Rattle.filters.specs.Tests.{short-none, counting-asked, counting-counted, counting-done}
 use borrow.Author.Tests.{not-false}
 use native.Mathlib.Omega.{arith}
@@ -11,31 +11,24 @@ use Rattle.filters.proofs.count_against.Reads as count-against-reads
 use Rattle.filters.proofs.counts_children.Reads as counts-children-reads
 use Rattle.table.proofs.records.child_count.Reads as child-count-reads
 
--- src/tests.rt:384:9
 counts-children-requires : tie.Need-counts-children-requires
 counts-children-requires c κs = counting-asked (c .before .before .before .before .pre .0) (c .before .before .before .before .pre .1)
 
--- src/tests.rt:385:9
 returns : tie.Need-returns
 returns c = short-none _ _ _ _ _ _ _ _ _
 
--- src/tests.rt:391:13
 child-count-requires : tie.Need-child-count-requires
 child-count-requires c κs = c .before .before .before .before .before .before .pre .1 .reach .node-in
 
--- src/tests.rt:391:13
 cast-n : tie.Need-cast-n
 cast-n c = search needs
 
--- src/tests.rt:392:47
 add-count-against : tie.Need-add-count-against
 add-count-against c = let z = counting-asked (c .before .before .before .before .before .before .before .pre .0) (c .before .before .before .before .before .before .before .pre .1) in omega (arith, z .behind, z .few)
 
--- src/tests.rt:392:5
 count-against-requires : tie.Need-count-against-requires
 count-against-requires c κs = let t = not-false _ (c .before .if1 .left) in counting-counted (c .before .before .before .before .before .before .before .pre .0) (c .before .before .before .before .before .before .before .pre .1) (c .before .before .counts-children .ensures .star t) (c .before .before .counts-children .ensures .count t) _ (c .child-count .ensures)
 
--- src/tests.rt:367:1
 returns-2 : tie.Need-returns-2
 returns-2 c = let t = not-false _ (c .before .before .if1 .left) in counting-done (c .before .before .before .before .before .before .before .before .pre .0) (c .before .before .before .before .before .before .before .before .pre .1) (c .before .before .before .counts-children .ensures .star t) (c .before .before .before .counts-children .ensures .count t) _ (c .before .child-count .ensures) _ (c .count-against .ensures)
 

@@ -1,4 +1,4 @@
--- `run::tests::counts_children` meets its contract. Assumes nothing.
+-- `counts_children` meets its contract. Assumes nothing.
 use Rattle.filters.specs.Tests.{children-none, star-bound, star-next, star-long}
 use Rattle.walks.specs.Items.{segments-in}
 use borrow.Author.Tests.{eqb-true}
@@ -11,59 +11,45 @@ use Rattle.filters.proofs.counts_children.Reads as reads
 use Rattle.filters.proofs.counts_children.Lts as lts
 use Rattle.text.proofs.bytes.word16.Reads as word16-reads
 
--- src/tests.rt:279:8
 shared-slice-read-if1 : tie.Need-shared-slice-read-if1
 shared-slice-read-if1 c = segments-in _ _ _ _ _ (c .before .before .pre .query .at)
 
--- src/tests.rt:280:9
 returns : tie.Need-returns
 returns c = children-none _ _
 
--- src/tests.rt:282:28
 add-word16 : tie.Need-add-word16
 add-word16 c = search needs
 
--- src/tests.rt:282:8
 word16-requires : tie.Need-word16-requires
 word16-requires c κs = let z = c .before .before .before .pre in omega (arith, star-bound _ _ (z .few) _ _ _ (z .query .at) (c .if1 .left))
 
--- src/tests.rt:283:9
 returns-2 : tie.Need-returns-2
 returns-2 c = children-none _ _
 
--- src/tests.rt:285:13
 add-if3 : tie.Need-add-if3
 add-if3 c = search needs
 
--- src/tests.rt:285:8
 shared-slice-read-if3 : tie.Need-shared-slice-read-if3
 shared-slice-read-if3 c = let z = c .before .before .before .before .before .before .pre in star-bound _ _ (z .few) _ _ _ (z .query .at) (c .before .before .before .if1 .left)
 
--- src/tests.rt:286:9
 returns-3 : tie.Need-returns-3
 returns-3 c = children-none _ _
 
--- src/tests.rt:288:13
 add-if4 : tie.Need-add-if4
 add-if4 c = search needs
 
--- src/tests.rt:288:8
 shared-slice-read-if4 : tie.Need-shared-slice-read-if4
 shared-slice-read-if4 c = let z = c .before .before .before .before .before .before .before .before .pre in star-next _ _ (z .few) _ _ _ (z .query .at) (c .before .before .before .before .before .if1 .left) (sym (c .before .before .before .before .word16 .ensures .is) ∙ c .before .before .before .if2 .left) (c .before .if3 .left)
 
--- src/tests.rt:289:9
 returns-4 : tie.Need-returns-4
 returns-4 c = children-none _ _
 
--- src/tests.rt:291:10
 add-result : tie.Need-add-result
 add-result c = search needs
 
--- src/tests.rt:291:5
 shared-slice-read-result : tie.Need-shared-slice-read-result
 shared-slice-read-result c = let z = c .before .before .before .before .before .before .before .before .before .before .pre in omega (arith, z .behind, star-long _ _ (z .few) _ _ _ (z .query .at) (c .before .before .before .before .before .before .before .if1 .left) (sym (c .before .before .before .before .before .before .word16 .ensures .is) ∙ c .before .before .before .before .before .if2 .left) (c .before .before .before .if3 .left) (c .before .if4 .left))
 
--- src/tests.rt:275:1
 returns-5 : tie.Need-returns-5
 returns-5 c = record { star = λ e. record { child-is = c .before .before .before .before .before .before .before .if1 .left; alone = sym (c .before .before .before .before .before .before .word16 .ensures .is) ∙ c .before .before .before .before .before .if2 .left; wildcard-is = c .before .before .before .if3 .left; end-is = c .before .if4 .left }; count = λ e. eqb-true _ _ e }
 

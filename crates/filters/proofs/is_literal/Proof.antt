@@ -1,15 +1,13 @@
--- `run::tests::is_literal` meets its contract. Assumes nothing.
+-- `is_literal` meets its contract. Assumes nothing.
 use borrow.Author.Tests.{le-leb, lt-leb}
 use Rattle.filters.proofs.is_literal.Statement.{statement}
 use Rattle.filters.proofs.is_literal.Tie as tie
 use Rattle.filters.proofs.is_literal.Reads as reads
 use Rattle.filters.proofs.is_literal.Lts as lts
 
--- src/tests.rt:151:9
 returns : tie.Need-returns
 returns c = rw (lt-leb 0x10 (c .before .args .k) (c .if1 .taken))
 
--- src/tests.rt:147:1
 returns-2 : tie.Need-returns-2
 returns-2 c = rw (le-leb 0x10 (c .before .args .k) (c .if1 .left))
 

@@ -1,15 +1,13 @@
--- `run::tests::is_logic` meets its contract. Assumes nothing.
+-- `is_logic` meets its contract. Assumes nothing.
 use borrow.Author.Tests.{le-leb, lt-leb}
 use Rattle.filters.proofs.is_logic.Statement.{statement}
 use Rattle.filters.proofs.is_logic.Tie as tie
 use Rattle.filters.proofs.is_logic.Reads as reads
 use Rattle.filters.proofs.is_logic.Lts as lts
 
--- src/tests.rt:244:9
 returns : tie.Need-returns
 returns c = rw (lt-leb 0x15 (c .before .args .k) (c .if1 .taken))
 
--- src/tests.rt:240:1
 returns-2 : tie.Need-returns-2
 returns-2 c = rw (le-leb 0x15 (c .before .args .k) (c .if1 .left))
 

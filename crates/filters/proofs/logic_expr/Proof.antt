@@ -1,4 +1,4 @@
--- `run::tests::logic_expr` meets its contract, by a law for each way. Assumes nothing.
+-- `logic_expr` meets its contract, by a law for each way. Assumes nothing.
 use Rattle.filters.specs.Tests.{logic-in, logic-not, logic-right, logic-and-enter, logic-and-skip, logic-or-skip, logic-or-enter}
 use native.Mathlib.Omega.{arith}
 use mathlib.Core.Path.{refl}
@@ -8,51 +8,39 @@ use Rattle.filters.proofs.logic_expr.Reads as reads
 use Rattle.filters.proofs.logic_expr.Lts as lts
 use Rattle.text.proofs.bytes.word16.Reads as word16-reads
 
--- src/tests.rt:242:13
 shared-slice-read-k : tie.Need-shared-slice-read-k
 shared-slice-read-k c = logic-in (c .before .before .pre)
 
--- src/tests.rt:244:37
 add-t11 : tie.Need-add-t11
 add-t11 c = omega (arith, logic-in (c .before .before .before .pre), c .before .before .before .pre .few)
 
--- src/tests.rt:244:9
 returns : tie.Need-returns
 returns c = logic-not (c .before .before .before .pre) (c .if1 .taken)
 
--- src/tests.rt:246:18
 add-inside : tie.Need-add-inside
 add-inside c = omega (arith, logic-in (c .before .before .before .pre), c .before .before .before .pre .few)
 
--- src/tests.rt:247:18
 add-behind : tie.Need-add-behind
 add-behind c = omega (arith, logic-in (c .before .before .before .pre), c .before .before .before .pre .few)
 
--- src/tests.rt:247:46
 add-word16 : tie.Need-add-word16
 add-word16 c = omega (arith, logic-in (c .before .before .before .pre), c .before .before .before .pre .few)
 
--- src/tests.rt:247:26
 word16-requires : tie.Need-word16-requires
 word16-requires c κs = omega (arith, logic-right (c .before .before .before .pre) (c .if1 .left))
 
--- src/tests.rt:247:18
 add-behind-2 : tie.Need-add-behind-2
 add-behind-2 c = omega (arith, logic-in (c .before .before .before .before .pre), c .before .before .before .before .pre .few, c .word16 .ensures .fits)
 
--- src/tests.rt:250:13
 returns-2 : tie.Need-returns-2
 returns-2 c = logic-and-enter (c .before .before .before .before .before .before .pre) (c .before .before .before .if1 .left) (c .before .if2 .taken) (c .if3 .taken)
 
--- src/tests.rt:252:9
 returns-3 : tie.Need-returns-3
 returns-3 c = logic-and-skip (c .before .before .before .before .before .before .pre) (c .before .before .before .if1 .left) (c .before .if2 .taken) (c .if3 .left) _ (c .before .before .word16 .ensures .is)
 
--- src/tests.rt:255:9
 returns-4 : tie.Need-returns-4
 returns-4 c = logic-or-skip (c .before .before .before .before .before .before .pre) (c .before .before .before .if1 .left) (c .before .if2 .left) (c .if4 .taken) _ (c .before .before .word16 .ensures .is)
 
--- src/tests.rt:238:1
 returns-5 : tie.Need-returns-5
 returns-5 c = logic-or-enter (c .before .before .before .before .before .before .pre) (c .before .before .before .if1 .left) (c .before .if2 .left) (c .if4 .left)
 

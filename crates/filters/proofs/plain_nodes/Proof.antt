@@ -1,4 +1,4 @@
--- `run::tests::plain_nodes` meets its contract: names and indices lead to nothing, to the end, or to where a walk begins. Assumes nothing.
+-- `plain_nodes` meets its contract: names and indices lead to nothing, to the end, or to where a walk begins. Assumes nothing.
 use Rattle.filters.specs.Tests.{plain-lost, plain-one, plain-none}
 use Rattle.walks.specs.Items.{segments-in}
 use borrow.Author.Tests.{not-true, not-false}
@@ -11,35 +11,27 @@ use Rattle.filters.proofs.plain_nodes.Lts as lts
 use Rattle.steps.proofs.plans.past_query.Reads as past-query-reads
 use Rattle.visits.proofs.reach.Reads as reach-reads
 
--- src/tests.rt:193:58
 add-reach : tie.Need-add-reach
 add-reach c = let h = c .before .before .before .before .pre .query in omega (arith, segments-in _ _ _ _ _ (h .at), c .before .before .before .before .pre .given .fewP)
 
--- src/tests.rt:193:9
 reach-requires : tie.Need-reach-requires
 reach-requires c κs = search needs
 
--- src/tests.rt:197:13
 past-query-requires : tie.Need-past-query-requires
 past-query-requires c κs = let h = c .before .before .before .before .before .before .before .pre .query in let y = c .before .before .reach .ensures .front (h .f) (h .k) (h .at) in record { few = c .before .before .before .before .before .before .before .pre .given .fewP; f = y .g; k = y .j; holds = y .at .holds }
 
--- src/tests.rt:198:9
 returns : tie.Need-returns
 returns c = plain-lost (c .before .before .before .before .before .before .before .before .pre) _ (c .before .before .before .reach .ensures) (not-true _ (c .before .if1 .taken)) _ (c .past-query .ensures)
 
--- src/tests.rt:200:8
 shared-slice-read-if2 : tie.Need-shared-slice-read-if2
 shared-slice-read-if2 c = let h = c .before .before .before .before .before .before .before .before .pre .query in segments-in _ _ _ _ _ (c .before .before .before .reach .ensures .front (h .f) (h .k) (h .at) .at)
 
--- src/tests.rt:201:43
 add-t15 : tie.Need-add-t15
 add-t15 c = let h = c .before .before .before .before .before .before .before .before .before .pre .query in omega (arith, segments-in _ _ _ _ _ (c .before .before .before .before .reach .ensures .front (h .f) (h .k) (h .at) .at), c .before .before .before .before .before .before .before .before .before .pre .given .fewP)
 
--- src/tests.rt:201:9
 returns-2 : tie.Need-returns-2
 returns-2 c = plain-one (c .before .before .before .before .before .before .before .before .before .pre) _ (c .before .before .before .before .reach .ensures) (not-false _ (c .before .before .if1 .left)) (c .if2 .taken)
 
--- src/tests.rt:189:1
 returns-3 : tie.Need-returns-3
 returns-3 c = plain-none (c .before .before .before .before .before .before .before .before .before .pre) _ (c .before .before .before .before .reach .ensures) (not-false _ (c .before .before .if1 .left))
 

@@ -1,4 +1,4 @@
--- `run::tests::same_text` meets its contract. Assumes nothing.
+-- `same_text` meets its contract. Assumes nothing.
 use mathlib.Core.Bool.{true}
 use mathlib.Core.Path.{refl}
 use native.Mathlib.Omega.{arith}

@@ -1,4 +1,4 @@
--- `run::tests::says` meets its contract, order by order. Assumes nothing.
+-- `says` meets its contract, order by order. Assumes nothing.
 use Rattle.filters.specs.Tests.{saysOf, says-yes, says-no}
 use mathlib.Core.Path.{sym, ap, _∙_}
 use borrow.Author.Needs.{needs}
@@ -7,31 +7,24 @@ use Rattle.filters.proofs.says.Tie as tie
 use Rattle.filters.proofs.says.Reads as reads
 use Rattle.filters.proofs.says.Lts as lts
 
--- src/tests.rt:69:24
 enum-told : tie.Need-enum-told
 enum-told c = search needs
 
--- src/tests.rt:71:16
 enum-told-2 : tie.Need-enum-told-2
 enum-told-2 c = search needs
 
--- src/tests.rt:72:17
 returns : tie.Need-returns
 returns c = says-yes _ (c .if1 .taken) ∙ ap (saysOf (c .before .before .before .args .op)) (sym (c .before .enum-told2 .given .1))
 
--- src/tests.rt:76:27
 enum-told-3 : tie.Need-enum-told-3
 enum-told-3 c = search needs
 
--- src/tests.rt:65:1
 returns-2 : tie.Need-returns-2
 returns-2 c = ap (saysOf (c .before .before .args .op)) (sym (c .enum-told .given .1))
 
--- src/tests.rt:65:1
 returns-3 : tie.Need-returns-3
 returns-3 c = says-no _ (c .if1 .left) ∙ ap (saysOf (c .before .before .before .args .op)) (sym (c .before .enum-told2 .given .1))
 
--- src/tests.rt:65:1
 returns-4 : tie.Need-returns-4
 returns-4 c = ap (saysOf (c .before .before .args .op)) (sym (c .enum-told3 .given .1))
 

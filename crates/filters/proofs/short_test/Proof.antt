@@ -1,4 +1,4 @@
--- `run::tests::short_test` meets its contract. Assumes nothing.
+-- `short_test` meets its contract. Assumes nothing.
 use Rattle.filters.specs.Tests.{literal-kind, short-in, short-query, short-mode, short-tested, short-asked, short-compared, short-none}
 use Rattle.filters.specs.Queries.{begins-in}
 use lib.ListN.{getD}
@@ -16,51 +16,39 @@ use Rattle.filters.proofs.is_literal.Reads as is-literal-reads
 use Rattle.filters.proofs.plain_nodes.Reads as plain-nodes-reads
 use Rattle.steps.proofs.leaves.begins.Reads as begins-reads
 
--- src/tests.rt:409:31
 shared-slice-read-begins : tie.Need-shared-slice-read-begins
 shared-slice-read-begins c = short-in (c .before .before .before .before .before .pre) _ refl
 
--- src/tests.rt:409:9
 begins-requires : tie.Need-begins-requires
 begins-requires c κs = search needs
 
--- src/tests.rt:410:9
 plain-nodes-requires : tie.Need-plain-nodes-requires
 plain-nodes-requires c κs = let s = c .before .before .before .before .before .before .pre .within in record { given = record { fewP = s .fewP; fewL = s .fewL; tab = s .tab }; node-in = begins-in _ (getD (c .before .before .before .before .before .before .args .plan .now) (c .before .before .before .before .before .before .args .q) 0) _ _ _ (c .begins .ensures) (s .root-in) (s .node-in); query = short-query (c .before .before .before .before .before .before .pre) _ refl }
 
--- src/tests.rt:414:9
 count-test-requires : tie.Need-count-test-requires
 count-test-requires c κs = (c .before .before .before .before .before .before .before .before .before .pre, record { begins = c .before .before .before .begins .ensures; reach = c .before .before .plain-nodes .ensures .onward (not-true _ (c .if1 .taken)) })
 
--- src/tests.rt:414:9
 returns : tie.Need-returns
 returns c = search needs
 
--- src/tests.rt:428:16
 shared-slice-read-mode : tie.Need-shared-slice-read-mode
 shared-slice-read-mode c = short-mode (c .before .before .before .before .before .before .before .before .before .before .pre) _ (c .before .before .before .before .begins .ensures) _ (c .before .before .before .plain-nodes .ensures) (not-false _ (c .before .if1 .left)) .1
 
--- src/tests.rt:432:16
 add-t19 : tie.Need-add-t19
 add-t19 c = omega (arith, short-mode (c .before .before .before .before .before .before .before .before .before .before .before .pre) _ (c .before .before .before .before .before .begins .ensures) _ (c .before .before .before .before .plain-nodes .ensures) (not-false _ (c .before .before .if1 .left)) .1, c .before .before .before .before .before .before .before .before .before .before .before .pre .within .fewP)
 
--- src/tests.rt:430:9
 returns-2 : tie.Need-returns-2
 returns-2 c = short-tested (c .before .before .before .before .before .before .before .before .before .before .before .pre) _ (c .before .before .before .before .before .begins .ensures) _ (c .before .before .before .before .plain-nodes .ensures) (not-false _ (c .before .before .if1 .left)) (c .if2 .taken) _ refl
 
--- src/tests.rt:436:9
 is-literal-requires : tie.Need-is-literal-requires
 is-literal-requires c κs = search needs
 
--- src/tests.rt:437:9
 returns-3 : tie.Need-returns-3
 returns-3 c = short-none _ _ _ _ _ _ _ _ _
 
--- src/tests.rt:443:5
 against-requires : tie.Need-against-requires
 against-requires c κs = let k = literal-kind _ (sym (c .before .is-literal .ensures) ∙ not-false _ (c .if3 .left)) in short-asked (c .before .before .before .before .before .before .before .before .before .before .before .before .before .pre) _ (c .before .before .before .before .before .before .before .begins .ensures) _ (c .before .before .before .before .before .before .plain-nodes .ensures) (not-false _ (c .before .before .before .before .if1 .left)) (k .0) (k .1)
 
--- src/tests.rt:396:1
 returns-4 : tie.Need-returns-4
 returns-4 c = let k = literal-kind _ (sym (c .before .before .is-literal .ensures) ∙ not-false _ (c .before .if3 .left)) in short-compared (c .before .before .before .before .before .before .before .before .before .before .before .before .before .before .pre) _ (c .before .before .before .before .before .before .before .before .begins .ensures) _ (c .before .before .before .before .before .before .before .plain-nodes .ensures) (not-false _ (c .before .before .before .before .before .if1 .left)) (k .0) (k .1) _ (c .against .ensures)
 

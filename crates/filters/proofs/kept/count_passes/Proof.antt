@@ -1,31 +1,42 @@
--- `count_passes` meets its contract. Assumes nothing.
-use Rattle.filters.specs.Keeps.{count-asked, count-told, count-room}
+-- `count_passes` meets its contract: the number of children and the integer, by the operator. Assumes nothing.
+use mathlib.Core.Path.{refl, _∙_}
+use mir.ValLaws.{toZ-pos}
+use mir.Syntax.{w64}
+use Rattle.filters.proofs.Signs.{back}
+use Rattle.filters.specs.Keeps.{count-bound, count-small, count-ints}
 use native.Mathlib.Omega.{arith}
 use borrow.Author.Needs.{needs}
 use Rattle.filters.proofs.kept.count_passes.Statement.{statement}
 use Rattle.filters.proofs.kept.count_passes.Tie as tie
 use Rattle.filters.proofs.kept.count_passes.Reads as reads
 use Rattle.filters.proofs.kept.count_passes.Lts as lts
-use Rattle.filters.proofs.compare_count.Reads as compare-count-reads
+use Rattle.filters.proofs.compare_ints.Reads as compare-ints-reads
 use Rattle.table.proofs.records.child_count.Reads as child-count-reads
+use Rattle.text.proofs.bytes.int64.Reads as int64-reads
 
 child-count-requires : tie.Need-child-count-requires
-child-count-requires c κs = search needs
+child-count-requires c κs = c .before .before .before .before .pre .0 .node-in
 
 cast-n : tie.Need-cast-n
 cast-n c = search needs
 
-add-compare-count : tie.Need-add-compare-count
-add-compare-count c = omega (arith, count-room (c .before .before .before .before .before .pre .0) (c .before .before .before .before .before .pre .1 .1))
+add-int64 : tie.Need-add-int64
+add-int64 c = search needs
 
-add-compare-count-2 : tie.Need-add-compare-count-2
-add-compare-count-2 c = omega (arith, count-room (c .before .before .before .before .before .pre .0) (c .before .before .before .before .before .pre .1 .1))
+add-int64-2 : tie.Need-add-int64-2
+add-int64-2 c = search needs
 
-compare-count-requires : tie.Need-compare-count-requires
-compare-count-requires c κs = count-asked (c .before .before .before .before .before .pre .0) (c .before .before .before .before .before .pre .1 .0) (c .before .before .before .before .before .pre .1 .1) _ (c .child-count .ensures)
+add-int64-3 : tie.Need-add-int64-3
+add-int64-3 c = search needs
+
+int64-requires : tie.Need-int64-requires
+int64-requires c κs = omega (arith, count-bound (c .before .before .before .before .before .pre .0) (c .before .before .before .before .before .pre .1 .0) (c .before .before .before .before .before .pre .1 .1) _ (c .child-count .ensures))
+
+compare-ints-requires : tie.Need-compare-ints-requires
+compare-ints-requires c κs = search needs
 
 returns : tie.Need-returns
-returns c = count-told (c .before .before .before .before .before .before .pre .0) (c .before .before .before .before .before .before .pre .1 .0) (c .before .before .before .before .before .before .pre .1 .1) _ (c .before .child-count .ensures) _ (c .compare-count .ensures)
+returns c = count-ints (c .before .before .before .before .before .before .before .pre .0) (c .before .before .before .before .before .before .before .pre .1 .0) (c .before .before .before .before .before .before .before .pre .1 .1) _ (c .before .before .child-count .ensures) _ refl _ _ (toZ-pos w64 _ (omega (arith, count-small (c .before .before .before .before .before .before .before .pre .0) (c .before .before .before .before .before .before .before .pre .1 .0) (c .before .before .before .before .before .before .before .pre .1 .1) _ (c .before .before .child-count .ensures)))) (back (c .before .int64 .result) (c .before .int64 .ok) ∙ c .before .int64 .ensures) _ (c .compare-ints .ensures)
 
 pub count-passes-spec : {M : Type 1} → statement M
 count-passes-spec =
@@ -33,7 +44,9 @@ count-passes-spec =
     (tie.spec
     child-count-requires
     cast-n
-    add-compare-count
-    add-compare-count-2
-    compare-count-requires
+    add-int64
+    add-int64-2
+    add-int64-3
+    int64-requires
+    compare-ints-requires
     returns)

@@ -50,17 +50,26 @@ shared-slice-read-if5 c = search needs
 returns-5 : tie.Need-returns-5
 returns-5 c = none-counts
 
+add-if6 : tie.Need-add-if6
+add-if6 c = search needs
+
+shared-slice-read-if6 : tie.Need-shared-slice-read-if6
+shared-slice-read-if6 c = search needs
+
+returns-6 : tie.Need-returns-6
+returns-6 c = none-counts
+
 add-behind-literal : tie.Need-add-behind-literal
 add-behind-literal c = search needs
 
 behind-literal-requires : tie.Need-behind-literal-requires
 behind-literal-requires c κs = search needs
 
-returns-6 : tie.Need-returns-6
-returns-6 c = none-counts
-
 returns-7 : tie.Need-returns-7
-returns-7 c = λ e. counts-at (c .before .before .before .before .before .before .before .before .before .before .if2 .left) (head-of 8 (λ k. c .before .before .before .before .before .before .before .before .before .before .before .before .before .shared-slice-known .given k .fits) (omega (arith, c .before .before .before .before .before .before .before .before .before .before .before .before .if1 .left, c .before .before .before .before .before .before .before .before .before .before .before .before .before .before .pre .inside)) (c .before .before .before .before .before .before .before .before .before .word32 .ensures .is) (c .before .before .before .before .before .before .before .before .if3 .left)) (c .before .before .before .before .before .before .if4 .left) (c .before .before .before .before .if5 .left) (c .before .before .before .behind-literal .ensures (not-false _ (c .before .if6 .left))) (eqb-true _ _ e) (omega (arith, c .before .before .before .before .before .before .before .before .before .before .before .before .if1 .left, c .before .before .before .before .before .before .before .before .before .before .before .before .before .before .pre .inside))
+returns-7 c = none-counts
+
+returns-8 : tie.Need-returns-8
+returns-8 c = λ e. counts-at (c .before .before .before .before .before .before .before .before .before .before .before .before .if2 .left) (head-of 8 (λ k. c .before .before .before .before .before .before .before .before .before .before .before .before .before .before .before .shared-slice-known .given k .fits) (omega (arith, c .before .before .before .before .before .before .before .before .before .before .before .before .before .before .if1 .left, c .before .before .before .before .before .before .before .before .before .before .before .before .before .before .before .before .pre .inside)) (c .before .before .before .before .before .before .before .before .before .before .before .word32 .ensures .is) (c .before .before .before .before .before .before .before .before .before .before .if3 .left)) (c .before .before .before .before .before .before .before .before .if4 .left) (c .before .before .before .before .before .before .if5 .left) (c .before .before .before .before .if6 .left) (c .before .before .before .behind-literal .ensures (not-false _ (c .before .if7 .left))) (eqb-true _ _ e) (omega (arith, c .before .before .before .before .before .before .before .before .before .before .before .before .before .before .if1 .left, c .before .before .before .before .before .before .before .before .before .before .before .before .before .before .before .before .pre .inside))
 
 pub read-counts-spec : {M : Type 1} → statement M
 read-counts-spec =
@@ -79,7 +88,10 @@ read-counts-spec =
     add-if5
     shared-slice-read-if5
     returns-5
+    add-if6
+    shared-slice-read-if6
+    returns-6
     add-behind-literal
     behind-literal-requires
-    returns-6
-    returns-7)
+    returns-7
+    returns-8)
