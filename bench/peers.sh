@@ -41,7 +41,7 @@ cc -O2 -Wall -o "$work/peers" bench/peers.c "$archive"
 
 load() { cut -d' ' -f1-3 /proc/loadavg; }
 {
-    echo "processor: $(sed -n 's/^model name[^:]*: //p' /proc/cpuinfo | head -n 1), $(uname -m)"
+    echo "processor: $(lscpu | sed -n 's/^Model name: *//p' | head -n 1), $(uname -m)"
     rustc --version
     gcc --version | head -n 1
     echo "load before: $(load)"
