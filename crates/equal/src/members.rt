@@ -2,6 +2,7 @@
 use table::records;
 use text::parts;
 ghost use mathlib.Core.Path.{_≡_};
+ghost use mathlib.Core.Bool.{true};
 ghost use Prim.Native.Nat.{_+_, _≤_};
 ghost use lib.ListN.{length};
 ghost use Rattle.definition.specs.Bytes.{part};
@@ -33,6 +34,47 @@ pub fn find_member(
         let start = records::key_start(table, node) as usize;
         let size = records::key_length(table, node) as usize;
         if parts::same_part(text, start, size, s, a, n) {
+            return Member::At(node);
+        }
+        i += 1;
+    }
+    Member::Nothing
+}
+
+// Whether a name has four to eight bytes.
+pub fn is_short(n: usize) -> bool
+    ensures { λ r. ⌜ (r ≡ true → (4 ≤ n) × (n ≤ 8)) ⌝ }
+{
+    if n < 4 {
+        return false;
+    }
+    n <= 8
+}
+
+// The same for a name of four to eight bytes, whose ends are read once.
+pub fn find_short(
+    table: &[u8],
+    text: &[u8],
+    first: usize,
+    count: usize,
+    s: &[u8],
+    a: usize,
+    n: usize,
+) -> Member
+    requires { ⌜ Members (now table) (now text) first count ⌝ }
+    requires { ⌜ a + n ≤ length (now s) ⌝ }
+    requires { ⌜ (4 ≤ n) × (n ≤ 8) ⌝ }
+    ensures { λ r. ⌜ Looked (now (table .entry)) (now (text .entry)) first count (part (now (s .entry)) a n) r ⌝ }
+{
+    let ends = parts::part_ends(s, a, n);
+    let low = ends.low;
+    let high = ends.high;
+    let mut i = 0;
+    while i < count {
+        let node = first + i;
+        let start = records::key_start(table, node) as usize;
+        let size = records::key_length(table, node) as usize;
+        if parts::part_has_ends(text, start, size, n, low, high) {
             return Member::At(node);
         }
         i += 1;

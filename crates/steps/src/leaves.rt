@@ -107,6 +107,9 @@ pub fn named(
     }
     let first = records::low_word(table, node) as usize;
     let count = records::child_count(table, node) as usize;
+    if members::is_short(size) {
+        return members::find_short(table, text, first, count, pool, start, size);
+    }
     members::find_member(table, text, first, count, pool, start, size)
 }
 
@@ -122,6 +125,9 @@ fn by_name(plan: &[u8], pool: &[u8], table: &[u8], text: &[u8], p: usize, node: 
     let count = records::child_count(table, node) as usize;
     let start = bytes::word16(plan, p + 1);
     let size = bytes::word16(plan, p + 3);
+    if members::is_short(size) {
+        return members::find_short(table, text, first, count, pool, start, size);
+    }
     members::find_member(table, text, first, count, pool, start, size)
 }
 

@@ -13,6 +13,7 @@ use lib.Seq.{drop-drop, take-all}
 use Rattle.definition.specs.Bytes.{every, part, number, sameBytes}
 use Rattle.utf8.specs.Bytes.{by-test}
 use Rattle.text.specs.Words.{Word}
+use Rattle.text.specs.Ends.{EndsOf}
 use Rattle.text.proofs.Numbers.{length-part, part-one}
 use Rattle.text.proofs.Ascii.{isByte, are-bytes, every-part}
 
@@ -130,3 +131,25 @@ same-last {s} {t} {j} {n} {x} {y} i l h a bs bt ws wt u =
     let d = sym (last-part s j n h) ∙ p ∙ last-part t j n (h ∙ l) in
     e ∙ sym (u ∙ same-equal (drop i s) (drop i t) (later-equal s t j i a d)))
     (λ f. f ∙ sym (same-unlike s t (λ e. words-unlike ws wt (eqb-false x y f) (ap (λ (r : List ℕ). part r j n) e))))
+
+-- ---- a text by its first and its last four bytes
+
+-- the same text, as a part
+pub ends-as : {n m : ℕ} {t u : List ℕ} {low high : ℕ} → n ≡ m → t ≡ u → EndsOf n t low high → EndsOf m u low high
+ends-as p q e = rw (← p, ← q) e
+
+module _ (s : List ℕ) {t : List ℕ} {n low high : ℕ} (e : EndsOf n t low high) where
+  pub ends-lengths : (length s ≡ n → ⊥) → false ≡ sameBytes s t
+  ends-lengths d = sym (same-lengths s t (λ l. d (l ∙ e .long)))
+
+  pub ends-first : {x : ℕ} → Word 4 s 0 x → (x ≡ low → ⊥) → false ≡ sameBytes s t
+  ends-first w d = sym (same-stop s t 0 4 (words-unlike w (e .first) d))
+
+  pub ends-last : {j x y : ℕ} → length s ≡ n → ((k : ℕ) → getD s k 0 < 256) → Word 4 s 0 x → x ≡ low → j + 4 ≡ length s → Word 4 s j y → eqb y high ≡ sameBytes s t
+  ends-last {j} l b w d h v =
+      let f = e .least in
+      let m = e .most in
+      let g = e .long in
+      let p : n - 4 ≡ j = omega arith in
+      let z : Word 4 t j high = rw (← p) (e .last) in
+      same-last 4 (l ∙ sym g) h (omega arith) b (e .bytes) v z (same-on s t 0 4 (words-equal (omega arith) (omega arith) b (e .bytes) w (e .first) d))

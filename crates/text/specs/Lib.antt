@@ -2,3 +2,4 @@ pub mod Words
 pub mod Chars
 pub mod Places
 pub mod Orders
+pub mod Ends

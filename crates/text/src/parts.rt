@@ -1,11 +1,13 @@
 // Parts of texts: equality, order by bytes, and copies. A part is given by its start and its length, and nothing of it is copied to be compared.
 use crate::bytes;
 ghost use mathlib.Core.Path.{_≡_};
-ghost use Prim.Native.Nat.{_+_, _≤_};
+ghost use Prim.Native.Nat.{ℕ, _+_, _≤_};
+ghost use mathlib.Core.List.{List};
 ghost use lib.ListN.{length};
 ghost use Rattle.definition.specs.Bytes.{part, sameBytes, orderBytes};
 ghost use Rattle.reading.specs.Reads.{Wrote};
 ghost use Rattle.text.specs.Orders.{answer};
+ghost use Rattle.text.specs.Ends.{EndsOf};
 
 // How one text stands to another.
 pub enum Order {
@@ -29,11 +31,8 @@ fn same_each(a: &[u8], b: &[u8]) -> bool
     requires { ⌜ length (now a) ≡ length (now b) ⌝ }
     ensures { λ r. ⌜ r ≡ sameBytes (now (a .entry)) (now (b .entry)) ⌝ }
 {
-    if a.len() < 2 {
-        return same_few(a, b);
-    }
     if a.len() < 4 {
-        return same_pairs(a, b);
+        return same_short(a, b);
     }
     if 8 <= a.len() {
         return same_words(a, b);
@@ -43,6 +42,17 @@ fn same_each(a: &[u8], b: &[u8]) -> bool
     }
     let last = a.len() - 4;
     bytes::word32(a, last) == bytes::word32(b, last)
+}
+
+// The same of fewer than four bytes.
+fn same_short(a: &[u8], b: &[u8]) -> bool
+    requires { ⌜ (length (now a) ≡ length (now b)) × (length (now a) ≤ 3) ⌝ }
+    ensures { λ r. ⌜ r ≡ sameBytes (now (a .entry)) (now (b .entry)) ⌝ }
+{
+    if a.len() < 2 {
+        return same_few(a, b);
+    }
+    same_pairs(a, b)
 }
 
 // The same of two or three bytes, two at a time.
@@ -95,6 +105,55 @@ pub fn same_part(s: &[u8], a: usize, n: usize, t: &[u8], b: usize, m: usize) -> 
     ensures { λ r. ⌜ r ≡ sameBytes (part (now (s .entry)) a n) (part (now (t .entry)) b m) ⌝ }
 {
     same_bytes(&s[a..a + n], &t[b..b + m])
+}
+
+// The numbers that the first four and the last four bytes of a text stand for. Of a text of four to eight bytes they tell every byte.
+pub struct Ends {
+    pub low: usize,
+    pub high: usize,
+}
+
+fn ends_of(a: &[u8]) -> Ends
+    requires { ⌜ (4 ≤ length (now a)) × (length (now a) ≤ 8) ⌝ }
+    ensures { λ r. ⌜ EndsOf (length (now (a .entry))) (now (a .entry)) (r .low) (r .high) ⌝ }
+{
+    let last = a.len() - 4;
+    let low = bytes::word32(a, 0);
+    let high = bytes::word32(a, last);
+    Ends { low, high }
+}
+
+// The same of the n bytes of s from a on.
+pub fn part_ends(s: &[u8], a: usize, n: usize) -> Ends
+    requires { ⌜ a + n ≤ length (now s) ⌝ }
+    requires { ⌜ (4 ≤ n) × (n ≤ 8) ⌝ }
+    ensures { λ r. ⌜ EndsOf n (part (now (s .entry)) a n) (r .low) (r .high) ⌝ }
+{
+    ends_of(&s[a..a + n])
+}
+
+// Whether a is the text of n bytes, four to eight, that has these numbers.
+fn has_ends(a: &[u8], n: usize, low: usize, high: usize) -> bool
+    requires { ⌜ 4 ≤ n ⌝ }
+    ensures { λ r. ⌜ ((t : List ℕ) → EndsOf n t low high → r ≡ sameBytes (now (a .entry)) t) ⌝ }
+{
+    if a.len() != n {
+        return false;
+    }
+    if bytes::word32(a, 0) != low {
+        return false;
+    }
+    let last = a.len() - 4;
+    bytes::word32(a, last) == high
+}
+
+// The same of the m bytes of s from a on.
+pub fn part_has_ends(s: &[u8], a: usize, m: usize, n: usize, low: usize, high: usize) -> bool
+    requires { ⌜ a + m ≤ length (now s) ⌝ }
+    requires { ⌜ 4 ≤ n ⌝ }
+    ensures { λ r. ⌜ ((t : List ℕ) → EndsOf n t low high → r ≡ sameBytes (part (now (s .entry)) a m) t) ⌝ }
+{
+    has_ends(&s[a..a + m], n, low, high)
 }
 
 // The order of a and b that the first unlike byte decides, the shorter first where there is none.

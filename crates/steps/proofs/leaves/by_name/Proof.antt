@@ -1,13 +1,15 @@
 -- `by_name` meets its contract: the member that is found under the name, or none. Assumes nothing.
 use native.Mathlib.Omega.{arith}
 use mathlib.Core.Path.{sym, _∙_}
-use borrow.Author.Needs.{needs}
 use Rattle.steps.specs.LeafLaws.{name-asked, name-else, name-members, name-found}
+use borrow.Author.Needs.{needs}
 use Rattle.steps.proofs.leaves.by_name.Statement.{statement}
 use Rattle.steps.proofs.leaves.by_name.Tie as tie
 use Rattle.steps.proofs.leaves.by_name.Reads as reads
 use Rattle.steps.proofs.leaves.by_name.Lts as lts
 use Rattle.equal.proofs.members.find_member.Reads as find-member-reads
+use Rattle.equal.proofs.members.find_short.Reads as find-short-reads
+use Rattle.equal.proofs.members.is_short.Reads as is-short-reads
 use Rattle.table.proofs.records.child_count.Reads as child-count-reads
 use Rattle.table.proofs.records.kind.Reads as kind-reads
 use Rattle.table.proofs.records.low_word.Reads as low-word-reads
@@ -17,9 +19,7 @@ kind-requires : tie.Need-kind-requires
 kind-requires c κs = c .before .before .before .before .pre .node-in
 
 returns : tie.Need-returns
-returns c =
-    let s = c .before .before .before .before .before .before in
-    name-else (s .pre) (λ z. c .if1 .taken (c .before .kind .ensures ∙ z))
+returns c = name-else (c .before .before .before .before .before .before .pre) (λ z. c .if1 .taken (c .before .kind .ensures ∙ z))
 
 low-word-requires : tie.Need-low-word-requires
 low-word-requires c κs = c .before .before .before .before .before .before .pre .node-in
@@ -45,17 +45,28 @@ add-word16-2 c = omega (arith, name-asked (c .before .before .before .before .be
 word16-requires-2 : tie.Need-word16-requires-2
 word16-requires-2 c κs = omega (arith, name-asked (c .before .before .before .before .before .before .before .before .before .pre) .stands .bound)
 
-find-member-requires : tie.Need-find-member-requires
-find-member-requires c κs =
-    let s = c .before .before .before .before .before .before .before .before .before .before in
-    let d = name-asked (s .pre) .stands in
-    (name-members (s .pre) (sym (c .before .before .before .before .before .kind .ensures) ∙ c .before .before .before .before .if1 .left) _ _ (c .before .before .before .low-word .ensures) (c .before .before .child-count .ensures), omega (arith, c .before .word16 .ensures .is, c .word162 .ensures .is, d .start, d .size, d .inside))
+is-short-requires : tie.Need-is-short-requires
+is-short-requires c κs = search needs
+
+find-short-requires : tie.Need-find-short-requires
+find-short-requires c κs = 
+    let d = name-asked (c .before .before .before .before .before .before .before .before .before .before .before .before .pre) .stands in
+    (name-members (c .before .before .before .before .before .before .before .before .before .before .before .before .pre) (sym (c .before .before .before .before .before .before .before .kind .ensures) ∙ c .before .before .before .before .before .before .if1 .left) _ _ (c .before .before .before .before .before .low-word .ensures) (c .before .before .before .before .child-count .ensures), (omega (arith, c .before .before .before .word16 .ensures .is, c .before .before .word162 .ensures .is, d .start, d .size, d .inside), c .before .is-short .ensures (c .if2 .taken)))
 
 returns-2 : tie.Need-returns-2
-returns-2 c =
-    let s = c .before .before .before .before .before .before .before .before .before .before .before in
-    name-found (s .pre) (sym (c .before .before .before .before .before .before .kind .ensures) ∙ c .before .before .before .before .before .if1 .left) _ _ (c .before .before .before .before .low-word .ensures) (c .before .before .before .child-count .ensures)
-    _ _ (c .before .before .word16 .ensures .is) (c .before .word162 .ensures .is) _ (c .find-member .ensures)
+returns-2 c = 
+    name-found (c .before .before .before .before .before .before .before .before .before .before .before .before .before .pre) (sym (c .before .before .before .before .before .before .before .before .kind .ensures) ∙ c .before .before .before .before .before .before .before .if1 .left) _ _ (c .before .before .before .before .before .before .low-word .ensures) (c .before .before .before .before .before .child-count .ensures)
+    _ _ (c .before .before .before .before .word16 .ensures .is) (c .before .before .before .word162 .ensures .is) _ (c .find-short .ensures)
+
+find-member-requires : tie.Need-find-member-requires
+find-member-requires c κs = 
+    let d = name-asked (c .before .before .before .before .before .before .before .before .before .before .before .before .pre) .stands in
+    (name-members (c .before .before .before .before .before .before .before .before .before .before .before .before .pre) (sym (c .before .before .before .before .before .before .before .kind .ensures) ∙ c .before .before .before .before .before .before .if1 .left) _ _ (c .before .before .before .before .before .low-word .ensures) (c .before .before .before .before .child-count .ensures), omega (arith, c .before .before .before .word16 .ensures .is, c .before .before .word162 .ensures .is, d .start, d .size, d .inside))
+
+returns-3 : tie.Need-returns-3
+returns-3 c = 
+    name-found (c .before .before .before .before .before .before .before .before .before .before .before .before .before .pre) (sym (c .before .before .before .before .before .before .before .before .kind .ensures) ∙ c .before .before .before .before .before .before .before .if1 .left) _ _ (c .before .before .before .before .before .before .low-word .ensures) (c .before .before .before .before .before .child-count .ensures)
+    _ _ (c .before .before .before .before .word16 .ensures .is) (c .before .before .before .word162 .ensures .is) _ (c .find-member .ensures)
 
 pub by-name-spec : {M : Type 1} → statement M
 by-name-spec =
@@ -71,5 +82,8 @@ by-name-spec =
     word16-requires
     add-word16-2
     word16-requires-2
+    is-short-requires
+    find-short-requires
+    returns-2
     find-member-requires
-    returns-2)
+    returns-3)
