@@ -7,13 +7,18 @@
 //   plan      the plan check
 //   run       a whole run with both checks
 //   select    compile and run
-//   walk      a run less both checks: a batch of runs and a batch of table checks are timed in turn, and the median of their differences is taken,
+//   walk      the walk of a run alone, which the crate `measured` hands out; the plan and the table were checked before, as it asks
+//   less      a run less both checks: a batch of runs and a batch of table checks are timed in turn, and the median of their differences is taken,
 //             less the plan check. Where the walk is short beside the table check, as for a path into a large table, this says nothing.
 #include "../include/stewpebble.h"
 #include <stdio.h>
 #include <stdlib.h>
 #include <string.h>
 #include <time.h>
+
+// Asks for a plan and a pool that compile wrote, for a table that the check accepts, and for at most cap + 1 places; the number of nodes, or cap + 1.
+size_t stewpebble_walk(const uint8_t *plan, size_t plan_length, const uint8_t *pool, size_t pool_length, const uint8_t *table, size_t table_length,
+                       const uint8_t *text, size_t text_length, uint32_t *list, size_t list_length, size_t cap);
 
 enum { RECORD = 24, ROUNDS = 201, LINE = 4096 };
 
@@ -27,6 +32,7 @@ static uint32_t compile(void) { return stewpebble_compile((const uint8_t *)query
 static uint32_t check_plan(void) { return stewpebble_check_plan(plan, plan_length, pool, pool_length); }
 static uint32_t check_table(void) { return stewpebble_check_table(table, table_length, text, text_length, &first); }
 static uint32_t run(void) { return stewpebble_run(plan, plan_length, pool, pool_length, table, table_length, text, text_length, list, places, 0, &first, &second); }
+static uint32_t walk(void) { return stewpebble_walk(plan, plan_length, pool, pool_length, table, table_length, text, text_length, list, places, places); }
 static uint32_t select_nodes(void) {
     return stewpebble_select((const uint8_t *)query, query_length, table, table_length, text, text_length, list, places, 0, &first, &second);
 }
@@ -94,14 +100,16 @@ static void one_query(const char *id) {
     plan_length = first, pool_length = second;
     if (run()) fail(query);
     unsigned long selected = first;
+    if (walk() != selected) fail("the walk");
     measure(id, selected, "compile", compile);
     measure(id, selected, "run", run);
     measure(id, selected, "select", select_nodes);
     int rounds;
     double checked = median(check_plan, NULL, &rounds);
     say(id, selected, "plan", checked, rounds);
-    double walked = median(run, check_table, &rounds) - checked;
-    say(id, selected, "walk", walked, rounds);
+    measure(id, selected, "walk", walk);
+    double less = median(run, check_table, &rounds) - checked;
+    say(id, selected, "less", less, rounds);
 }
 
 static void queries(const char *name) {

@@ -8,7 +8,7 @@ import statistics
 import sys
 
 BEGIN, END = "<!-- peers: written by bench/peers.sh -->\n", "<!-- end -->"
-# On a larger table the walk of this query is too short beside the table check to be had as a difference.
+# On a larger table what this query takes is too short beside the table check to be had as a difference.
 SHORT = "one"
 
 
@@ -38,9 +38,12 @@ class Figures:
         return self.value["c", nodes, query, "eval"]
 
     def ours(self, nodes, query, what):
-        if what == "walk" and query == SHORT:
-            nodes = self.sizes[0]
         return self.value["ours", nodes, query, what]
+
+    def less(self, nodes, query):
+        """A run less both checks, where this says something."""
+        value = self.ours(nodes, query, "less")
+        return number(value) if value > 0 and (query != SHORT or nodes == self.sizes[0]) else "-"
 
 
 def number(x):
@@ -71,12 +74,9 @@ def size_table(f, queries, nodes):
     for name, text in queries:
         rust, c = f.rust(nodes, name), f.c(nodes, name)
         walk, run, select = (f.ours(nodes, name, what) for what in ("walk", "run", "select"))
-        mark = "*" if name == SHORT and nodes != f.sizes[0] else ""
-        # A difference that is not above 0 says nothing.
-        walked = [number(walk) + mark, ratio(rust / walk) + mark, ratio(walk / c) + mark] if walk > 0 else ["-"] * 3
-        rows.append([shown(text), f"{int(f.selected[nodes, name]):,}", number(rust), number(c), walked[0], number(run), number(select),
-                     walked[1], walked[2], ratio(rust / run)])
-    head = ["query", "selected", "Rust module", "C, flat table", "ours: walk", "ours: whole run", "ours: select", "Rust / walk", "walk / C", "Rust / run"]
+        rows.append([shown(text), f"{int(f.selected[nodes, name]):,}", number(rust), number(c), number(walk), f.less(nodes, name), number(run),
+                     number(select), ratio(rust / walk), ratio(walk / c), ratio(rust / run)])
+    head = ["query", "selected", "Rust module", "C, flat table", "ours: walk", "run less checks", "ours: whole run", "ours: select", "Rust / walk", "walk / C", "Rust / run"]
     return [f"### {nodes:,} nodes", ""] + table(head, rows)
 
 
@@ -107,9 +107,9 @@ def spread_row(title, values):
 
 def spreads(f):
     rows = []
-    for engine, title in (("rust", "Rust module"), ("c", "C, flat table"), ("ours", "ours, but the walk")):
-        rows.append(spread_row(title, [x for k, x in f.spread.items() if k[0] == engine and k[3] != "walk"]))
-    rows.append(spread_row("ours, the walk", [x for k, x in f.spread.items() if k[3] == "walk" and (k[2] != SHORT or k[1] == f.sizes[0])]))
+    for engine, title in (("rust", "Rust module"), ("c", "C, flat table"), ("ours", "ours, but the run less checks")):
+        rows.append(spread_row(title, [x for k, x in f.spread.items() if k[0] == engine and k[3] != "less"]))
+    rows.append(spread_row("ours, the run less checks", [x for k, x in f.spread.items() if k[3] == "less" and (k[2] != SHORT or k[1] == f.sizes[0])]))
     return ["### Spread", "", "Greatest over least of the passes, over all figures of an engine.", ""] + table(["", "median", "worst"], rows)
 
 
@@ -120,7 +120,7 @@ def main():
     out += ["![Times of other engines and of this one, as ratios to the Rust module](performance.svg)", ""]
     for nodes in f.sizes:
         out += size_table(f, queries, nodes)
-    out += [f"*: from the table of {f.sizes[0]} nodes.", ""] + check_table(f) + query_table(f, queries) + spreads(f)
+    out += check_table(f) + query_table(f, queries) + spreads(f)
     with open(sys.argv[4]) as d:
         head, rest = d.read().split(BEGIN)
     with open(sys.argv[4], "w") as d:

@@ -20,13 +20,14 @@ docs=$(cd "${2:-$(dirname "$0")/../docs}" && pwd)
 cd "$(dirname "$0")/.."
 sizes='16 166 1666 10833' # rows; a table has 2 + 6 * rows nodes
 
-archive=$work/libexports.a
-if [ -n "${NATIVE_ARCHIVE:-}" ]; then
-    "$NATIVE_ARCHIVE" exports "$archive"
-else
-    rt staticlib exports
-    cp target/staticlib/libexports.a "$archive"
-fi
+for crate in exports measured; do
+    if [ -n "${NATIVE_ARCHIVE:-}" ]; then
+        "$NATIVE_ARCHIVE" $crate "$work/lib$crate.a"
+    else
+        rt staticlib $crate
+        cp target/staticlib/lib$crate.a "$work/"
+    fi
+done
 mkdir -p "$work/docs" "$work/rust/docs"
 python3 "$peers/gen.py" "$work/docs" $sizes
 # The Rust text: its own build, with the peers' program in place of its bench.
@@ -37,7 +38,7 @@ chmod -R u+w "$work/rust"
 cp "$peers/peers.rs" "$work/rust/rust-oracle/src/bench.rs"
 "$work/rust/rust-oracle/build" "$work/rust/build" >"$work/rust/log" 2>&1 || { cat "$work/rust/log"; exit 1; }
 gcc -O3 -o "$work/flat" "$peers/flat.c"
-cc -O2 -Wall -o "$work/peers" bench/peers.c "$archive"
+cc -O2 -Wall -o "$work/peers" bench/peers.c "$work/libexports.a" "$work/libmeasured.a"
 
 load() { cut -d' ' -f1-3 /proc/loadavg; }
 {

@@ -7,7 +7,7 @@ import math
 import re
 import sys
 
-from peers import SHORT, Figures, read_queries
+from peers import Figures, read_queries
 
 NODES = 9998
 # Columns of PEERS.md, what RESULTS calls the others, and a colour for each: of those that are told apart without red and green.
@@ -39,7 +39,7 @@ def peers(name):
 
 
 def ratios(queries, figures, given):
-    """For each query the ratio of each bar, none where the engine cannot answer it, or where a difference of times came out below 0."""
+    """For each query the ratio of each bar, none where the engine cannot answer it."""
     out = []
     for name, text in queries:
         rust, line = figures.rust(NODES, name), []
@@ -109,9 +109,8 @@ def main():
     out = [f'<svg xmlns="http://www.w3.org/2000/svg" viewBox="0 0 {size[0]} {size[1]}" font-family="sans-serif" font-size="11">',
            f"<title>{title}</title>", f'<rect width="{size[0]}" height="{size[1]}" fill="#fff"/>', text(LEFT, 22, title, 'font-size="14"')]
     out += legend() + grid() + bars(found)
-    foot = ["jq, PostgreSQL and Jayway: as measured earlier on another machine, against the Rust module there. No bar: the engine has no such query.",
-            f"The walk of {dict(queries)[SHORT]} was measured on {figures.sizes[0]} nodes."]
-    out += [text(LEFT, size[1] - 25 + 14 * i, line) for i, line in enumerate(foot)] + ["</svg>"]
+    foot = "jq, PostgreSQL and Jayway: as measured earlier on another machine, against the Rust module there. No bar: the engine has no such query."
+    out += [text(LEFT, size[1] - 18, foot), "</svg>"]
     with open(sys.argv[4], "w") as f:
         f.write("\n".join(out) + "\n")
 

@@ -7,7 +7,7 @@ ghost use Rattle.run.specs.Outcomes.{ran, Planned, RunsForm, AskPlacing,
 use table::TableChecked;
 
 mod answers;
-mod walk;
+pub mod walk;
 
 // What a run comes to.
 pub enum Ran {
