@@ -5,3 +5,4 @@ pub mod Alike
 pub mod Floats
 pub mod Values
 pub mod Same
+pub mod Near

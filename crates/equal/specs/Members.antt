@@ -1,8 +1,8 @@
 -- The words of the search for a member, and its laws. Assumes nothing.
-use Prim.Native.Nat.{ℕ, _+_, _-_, _≤_, _<_}
+use Prim.Native.Nat.{ℕ, zero, suc, _+_, _-_, _≤_, _<_}
 use native.Mathlib.Omega.{arith}
 use mathlib.Core.Bool.{Bool, true, false}
-use mathlib.Core.Path.{_≡_, sym, ap, _∙_}
+use mathlib.Core.Path.{_≡_, refl, sym, ap, _∙_}
 use Rattle.definition.specs.Bytes.{part, sameBytes}
 use Rattle.definition.specs.Tables.{keyBytes}
 use mathlib.Core.List.{List}
@@ -32,6 +32,10 @@ pub record Looked (S X : List ℕ) (j c : ℕ) (k : List ℕ) (r : Member) : Typ
   pub is : lookup k (kids S X j c) ≡ memberOf S X r
   pub inside : Between j c r
 
+-- a key that is read by its start and its length
+pub key-same : (S X k : List ℕ) (m a n : ℕ) (r : Bool) → a ≡ keyStart S m → n ≡ keyLength S m → r ≡ sameBytes (part X a n) k → r ≡ sameBytes (keyBytes S X m) k
+key-same S X k m a n r p q e = e ∙ ap (λ (z : ℕ). sameBytes (part X z n) k) p ∙ ap (λ (z : ℕ). sameBytes (part X (keyStart S m) z) k) q
+
 -- ---- the search, member by member: what is left gives the whole
 
 module _ (S X k : List ℕ) (j c : ℕ) where
@@ -42,17 +46,21 @@ module _ (S X k : List ℕ) (j c : ℕ) where
       rw (a, b)
 
   module _ (i : ℕ) (w : lookup k (kids S X (j + i) (c - i)) ≡ lookup k (kids S X j c)) where
-    key-is : (a n : ℕ) (r : Bool) → a ≡ keyStart S (j + i) → n ≡ keyLength S (j + i) → r ≡ sameBytes (part X a n) k → sameBytes (keyBytes S X (j + i)) k ≡ r
-    key-is a n r p q e = ap (λ (z : ℕ). sameBytes (part X z (keyLength S (j + i))) k) (sym p) ∙ ap (λ (z : ℕ). sameBytes (part X a z) k) (sym q) ∙ sym e
+    pub lookup-found : i < c → (r : Bool) → r ≡ sameBytes (keyBytes S X (j + i)) k → r ≡ true → Looked S X j c k (At (j + i))
+    lookup-found l r e t = record { is = sym w ∙ lookup-first S X k (j + i) (c - i) (omega arith) (sym e ∙ t); inside = (omega arith, omega arith) }
 
-    pub lookup-found : i < c → (a n : ℕ) (r : Bool) → a ≡ keyStart S (j + i) → n ≡ keyLength S (j + i) → r ≡ sameBytes (part X a n) k → r ≡ true → Looked S X j c k (At (j + i))
-    lookup-found l a n r p q e t = record { is = sym w ∙ lookup-first S X k (j + i) (c - i) (omega arith) (key-is a n r p q e ∙ t); inside = (omega arith, omega arith) }
-
-    pub lookup-step : i < c → (a n : ℕ) (r : Bool) → a ≡ keyStart S (j + i) → n ≡ keyLength S (j + i) → r ≡ sameBytes (part X a n) k → r ≡ false → lookup k (kids S X (j + (i + 1)) (c - (i + 1))) ≡ lookup k (kids S X j c)
-    lookup-step l a n r p q e t =
+    pub lookup-step : i < c → (r : Bool) → r ≡ sameBytes (keyBytes S X (j + i)) k → r ≡ false → lookup k (kids S X (j + (i + 1)) (c - (i + 1))) ≡ lookup k (kids S X j c)
+    lookup-step l r e t =
         let x : j + (i + 1) ≡ j + i + 1 = omega arith in
         let y : c - (i + 1) ≡ c - i - 1 = omega arith in
-        ap (λ (z : ℕ). lookup k (kids S X z (c - (i + 1)))) x ∙ ap (λ (z : ℕ). lookup k (kids S X (j + i + 1) z)) y ∙ lookup-next S X k (j + i) (c - i) (omega arith) (key-is a n r p q e ∙ t) ∙ w
+        ap (λ (z : ℕ). lookup k (kids S X z (c - (i + 1)))) x ∙ ap (λ (z : ℕ). lookup k (kids S X (j + i + 1) z)) y ∙ lookup-next S X k (j + i) (c - i) (omega arith) (sym e ∙ t) ∙ w
 
     pub lookup-end : c ≤ i → Looked S X j c k Nothing
     lookup-end l = record { is = sym w ∙ lookup-none S X k (j + i) (c - i) (omega arith); inside = tt }
+
+  -- where the members before place n have other names, what is left from there on gives the whole
+  pub lookup-passed : (n : ℕ) → n ≤ c → ((i : ℕ) → i < n → sameBytes (keyBytes S X (j + i)) k ≡ false) → lookup k (kids S X (j + n) (c - n)) ≡ lookup k (kids S X j c)
+  lookup-passed zero l h = lookup-start
+  lookup-passed (suc n) l h =
+      let e : suc n ≡ n + 1 = omega arith in
+      rw e (lookup-step n (lookup-passed n (omega arith) (λ i b. h i (omega arith))) (omega arith) false (sym (h n (omega arith))) refl)

@@ -3,15 +3,31 @@ use table::records;
 use text::parts;
 ghost use mathlib.Core.Path.{_≡_};
 ghost use mathlib.Core.Bool.{true};
-ghost use Prim.Native.Nat.{_+_, _≤_};
+ghost use Prim.Native.Nat.{_+_, _≤_, _<_};
 ghost use lib.ListN.{length};
-ghost use Rattle.definition.specs.Bytes.{part};
+ghost use Rattle.definition.specs.Bytes.{part, sameBytes};
+ghost use Rattle.definition.specs.Tables.{nodeCount, keyStart, keyLength, keyBytes};
+ghost use Rattle.tables.specs.Accepted.{Accepted};
 ghost use Rattle.equal.specs.Members.{Members, Looked};
+ghost use Rattle.equal.specs.Near.{DoneNear};
+
+const KIND_MAP: u8 = 7;
 
 // What a name finds.
 pub enum Member {
     At(usize),
     Nothing,
+}
+
+// Whether the name of a node is the `n` bytes of s from `a` on.
+pub fn is_named(table: &[u8], text: &[u8], node: usize, s: &[u8], a: usize, n: usize) -> bool
+    requires { ⌜ (node < nodeCount (now table)) × (keyStart (now table) node + keyLength (now table) node ≤ length (now text)) ⌝ }
+    requires { ⌜ a + n ≤ length (now s) ⌝ }
+    ensures { λ r. ⌜ r ≡ sameBytes (keyBytes (now (table .entry)) (now (text .entry)) node) (part (now (s .entry)) a n) ⌝ }
+{
+    let start = records::key_start(table, node) as usize;
+    let size = records::key_length(table, node) as usize;
+    parts::same_part(text, start, size, s, a, n)
 }
 
 // Among `count` members from `first` on, the one whose name is the `n` bytes of s from `a` on.
@@ -31,9 +47,7 @@ pub fn find_member(
     let mut i = 0;
     while i < count {
         let node = first + i;
-        let start = records::key_start(table, node) as usize;
-        let size = records::key_length(table, node) as usize;
-        if parts::same_part(text, start, size, s, a, n) {
+        if is_named(table, text, node, s, a, n) {
             return Member::At(node);
         }
         i += 1;
@@ -80,4 +94,28 @@ pub fn find_short(
         i += 1;
     }
     Member::Nothing
+}
+
+// Whether a node is a map with more than `near` members whose member at place `near` has that name. Members of one map have different names, so that this is the one
+// that a search finds.
+pub fn is_near(
+    table: &[u8],
+    text: &[u8],
+    node: usize,
+    near: usize,
+    s: &[u8],
+    a: usize,
+    n: usize,
+) -> bool
+    requires { ⌜ Accepted (now table) (now text) × (node < nodeCount (now table)) ⌝ }
+    requires { ⌜ a + n ≤ length (now s) ⌝ }
+    ensures { λ r. ⌜ DoneNear (now (table .entry)) (now (text .entry)) node near (part (now (s .entry)) a n) r ⌝ }
+{
+    if records::kind(table, node) != KIND_MAP {
+        return false;
+    }
+    if records::high_word(table, node) as usize <= near {
+        return false;
+    }
+    is_named(table, text, records::low_word(table, node) as usize + near, s, a, n)
 }

@@ -188,6 +188,7 @@ module _ {P L S X : List ℕ} {p i : ℕ} (a : AskOne P L S X p i 5 5) where
             ap (λ (y : Selector). evalSelector y R (nodeAt S X i)) (d .made) ∙ ap (λ (ks : Kids). found (lookup (d .s) ks)) (members-none S X (a .tab) i (a .node-in) n);
         inside = λ m z. let q : _≡_ {A = ℕ} 0 1 = cc in absurd (omega arith);
         deeper = λ m z. let q : _≡_ {A = ℕ} 0 1 = cc in absurd (omega arith);
+        low = λ m z. let q : _≡_ {A = ℕ} 0 1 = cc in absurd (omega arith);
       }
 
   module _ (m : kindAt S i ≡ kindMap) (j c : ℕ) (ej : j ≡ lowWord S i) (ec : c ≡ childCount S i) where
@@ -216,6 +217,7 @@ module _ {P L S X : List ℕ} {p i : ℕ} (a : AskOne P L S X p i 5 5) where
               let b0 = b .0 in
               let e : j + (t - j) ≡ t = omega arith in
               subst (λ (m : ℕ). depthAt S m ≡ depthAt S i + 1) e (child-at S X (a .tab) i (a .node-in) j c member-range (t - j) (omega arith) .1);
+          low = λ t z. let b0 = subst (Between j c) z (l .inside) .0 in omega arith;
         }
 
 one-pick : (S X : List ℕ) (j c t : ℕ) → t < c → pick (t ∷ []) (nodes S X j c) ≡ nodeAt S X (j + t) ∷ []
@@ -252,6 +254,7 @@ module _ {P L S X : List ℕ} {p i : ℕ} (a : AskOne P L S X p i 6 6) where
         selects = λ x k R at. let d = index-here x k at in ap (λ (y : Selector). evalSelector y R (nodeAt S X i)) (d .made) ∙ no-index (d .z) R n;
         inside = λ m z. let q : _≡_ {A = ℕ} 0 1 = cc in absurd (omega arith);
         deeper = λ m z. let q : _≡_ {A = ℕ} 0 1 = cc in absurd (omega arith);
+        low = λ m z. let q : _≡_ {A = ℕ} 0 1 = cc in absurd (omega arith);
       }
 
   module _ (j c : ℕ) (ej : j ≡ lowWord S i) (ec : c ≡ childCount S i) (z : ℤ) (o : Place) (l : placeList o ≡ indexPlaces c z) where
@@ -286,6 +289,7 @@ module _ {P L S X : List ℕ} {p i : ℕ} (a : AskOne P L S X p i 6 6) where
           selects = λ x k R at. index-places m w x k R at ∙ ap (λ (ks : List ℕ). pick ks (nodes S X j c)) (at-means o t u) ∙ one-pick S X j c t (index-at c z o t l u);
           inside = λ k y. let q : j + t ≡ k = cc in let v = element-in t u in omega arith;
           deeper = λ k y. let q : j + t ≡ k = cc in subst (λ (m : ℕ). depthAt S m ≡ depthAt S i + 1) q (child-at S X (a .tab) i (a .node-in) j c element-range t (index-at c z o t l u) .1);
+          low = λ k y. let q : j + t ≡ k = cc in omega arith;
         }
 
     pub index-nothing : kindAt S i ≡ kindList → z ≡ signed64 (number (part P (p + 1) 8)) → o ≡ place.Nothing → DoneOne P L S X p i Absent
@@ -294,4 +298,5 @@ module _ {P L S X : List ℕ} {p i : ℕ} (a : AskOne P L S X p i 6 6) where
           selects = λ x k R at. index-places m w x k R at ∙ ap (λ (ks : List ℕ). pick ks (nodes S X j c)) (nothing-means o u) ∙ no-pick S X j c;
           inside = λ k y. let q : _≡_ {A = ℕ} 0 1 = cc in absurd (omega arith);
           deeper = λ k y. let q : _≡_ {A = ℕ} 0 1 = cc in absurd (omega arith);
+          low = λ k y. let q : _≡_ {A = ℕ} 0 1 = cc in absurd (omega arith);
         }

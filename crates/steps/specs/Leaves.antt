@@ -13,7 +13,7 @@ use Rattle.definition.specs.Values.{Json}
 use Rattle.definition.specs.Forms.{Literal, Selector}
 use Rattle.definition.specs.QueryForms.{literalRight, boundRight}
 use Rattle.definition.specs.Plans.{codeLiteral, codeSlice, poolLiteral}
-use Rattle.definition.specs.Tables.{nodeCount, nodeAt, depthAt, kindAt, kindList, childCount}
+use Rattle.definition.specs.Tables.{nodeCount, nodeAt, depthAt, kindAt, kindList, childCount, lowWord}
 use Rattle.definition.specs.Evaluation.{literalValue, evalSelector}
 use Rattle.tables.specs.Accepted.{Accepted}
 use Rattle.slices.specs.Walks.{Selects, Inside, walked}
@@ -70,6 +70,7 @@ pub record DoneOne (P L S X : List ℕ) (p node : ℕ) (r : Member) : Type 0 whe
   pub selects : (x : Selector) (k : ℕ) (R : Json) → SelectorAt P L p k x → evalSelector x R (nodeAt S X node) ≡ memberNodes S X r
   pub inside : (m : ℕ) → r ≡ At m → m < nodeCount S
   pub deeper : (m : ℕ) → r ≡ At m → depthAt S m ≡ depthAt S node + 1
+  pub low : (m : ℕ) → r ≡ At m → lowWord S node ≤ m
 
 -- ---- slices
 

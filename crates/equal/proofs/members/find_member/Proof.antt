@@ -1,17 +1,16 @@
-use mathlib.Core.Path.{_≡_}
-use Rattle.equal.specs.Members.{lookup-start, lookup-step, lookup-found, lookup-end}
-use Rattle.walks.specs.Nodes.{kids}
-use Rattle.definition.specs.Values.{lookup}
-use Rattle.definition.specs.Bytes.{part}
+-- `find_member` meets its contract: the members that are left give the whole search. Assumes nothing.
 use Prim.Native.Nat.{_+_, _-_}
+use mathlib.Core.Path.{_≡_}
 use native.Mathlib.Omega.{arith}
+use Rattle.definition.specs.Bytes.{part}
+use Rattle.definition.specs.Values.{lookup}
+use Rattle.walks.specs.Nodes.{kids}
+use Rattle.equal.specs.Members.{lookup-start, lookup-step, lookup-found, lookup-end}
 use Rattle.equal.proofs.members.find_member.Statement.{statement}
 use Rattle.equal.proofs.members.find_member.Tie as tie
 use Rattle.equal.proofs.members.find_member.Reads as reads
 use Rattle.equal.proofs.members.find_member.Lts as lts
-use Rattle.table.proofs.records.key_length.Reads as key-length-reads
-use Rattle.table.proofs.records.key_start.Reads as key-start-reads
-use Rattle.text.proofs.parts.same_part.Reads as same-part-reads
+use Rattle.equal.proofs.members.is_named.Reads as is-named-reads
 
 abbrev Inv-loop : tie.InvT-loop
 Inv-loop table text first count s a n i₀ i = lookup (part s a n) (kids table text (first + i) (count - i)) ≡ lookup (part s a n) (kids table text first count)
@@ -19,51 +18,30 @@ Inv-loop table text first count s a n i₀ i = lookup (part s a n) (kids table t
 abbrev μ-loop : tie.MeasureT-loop
 μ-loop table text first count s a n i₀ i = count - i
 
--- src/members.rt:23:5
 loop-holds : tie.Need-loop-holds Inv-loop μ-loop
 loop-holds c = lookup-start _ _ _ _ _
 
--- src/members.rt:24:20
 add-node : tie.Need-add-node Inv-loop μ-loop
 add-node c = omega (arith, c .before .before .before .before .before .pre .0 .nodes (c .before .loop .i) (c .loop-test .taken))
 
--- src/members.rt:25:21
-key-start-requires : tie.Need-key-start-requires Inv-loop μ-loop
-key-start-requires c κs = c .before .before .before .before .before .pre .0 .nodes (c .before .loop .i) (c .loop-test .taken)
+is-named-requires : tie.Need-is-named-requires Inv-loop μ-loop
+is-named-requires c κs =
+    let m = c .before .before .before .before .before .pre .0 in
+    let l = c .loop-test .taken in
+    ((m .nodes (c .before .loop .i) l, m .keys (c .before .loop .i) l), c .before .before .before .before .before .pre .1)
 
--- src/members.rt:25:21
-cast-start : tie.Need-cast-start Inv-loop μ-loop
-cast-start c = omega arith
-
--- src/members.rt:26:20
-key-length-requires : tie.Need-key-length-requires Inv-loop μ-loop
-key-length-requires c κs = c .before .before .before .before .before .before .pre .0 .nodes (c .before .before .loop .i) (c .before .loop-test .taken)
-
--- src/members.rt:26:20
-cast-size : tie.Need-cast-size Inv-loop μ-loop
-cast-size c = omega arith
-
--- src/members.rt:27:12
-same-part-requires : tie.Need-same-part-requires Inv-loop μ-loop
-same-part-requires c κs = (omega (arith, c .before .key-start .ensures, c .key-length .ensures, c .before .before .before .before .before .before .before .pre .0 .keys (c .before .before .before .loop .i) (c .before .before .loop-test .taken)), c .before .before .before .before .before .before .before .pre .1)
-
--- src/members.rt:28:13
 returns : tie.Need-returns Inv-loop μ-loop
-returns c = lookup-found _ _ _ _ _ _ (c .before .before .before .before .before .loop .inv) (c .before .before .before .before .loop-test .taken) _ _ _ (c .before .before .before .key-start .ensures) (c .before .before .key-length .ensures) (c .before .same-part .ensures) (c .if1 .taken)
+returns c = lookup-found _ _ _ _ _ _ (c .before .before .before .loop .inv) (c .before .before .loop-test .taken) _ (c .before .is-named .ensures) (c .if1 .taken)
 
--- src/members.rt:30:9
 add-i : tie.Need-add-i Inv-loop μ-loop
 add-i c = omega arith
 
--- src/members.rt:23:5
 loop-less : tie.Need-loop-less Inv-loop μ-loop
 loop-less c = omega arith
 
--- src/members.rt:23:5
 loop-again : tie.Need-loop-again Inv-loop μ-loop
-loop-again c = lookup-step _ _ _ _ _ _ (c .before .before .before .before .before .loop .inv) (c .before .before .before .before .loop-test .taken) _ _ _ (c .before .before .before .key-start .ensures) (c .before .before .key-length .ensures) (c .before .same-part .ensures) (c .if1 .left)
+loop-again c = lookup-step _ _ _ _ _ _ (c .before .before .before .loop .inv) (c .before .before .loop-test .taken) _ (c .before .is-named .ensures) (c .if1 .left)
 
--- src/members.rt:17:1
 returns-2 : tie.Need-returns-2 Inv-loop μ-loop
 returns-2 c = lookup-end _ _ _ _ _ _ (c .before .loop .inv) (c .loop-test .left)
 
@@ -75,11 +53,7 @@ find-member-spec =
     μ-loop
     loop-holds
     add-node
-    key-start-requires
-    cast-start
-    key-length-requires
-    cast-size
-    same-part-requires
+    is-named-requires
     returns
     add-i
     loop-less

@@ -1,0 +1,68 @@
+-- A member at a place where its name is looked for first: members of one map have different names, so that it is the one that a search finds. Assumes nothing.
+use Prim.Native.Nat.{ℕ, _+_, _≤_, _<_}
+use mathlib.Core.Path.{_≡_, refl, sym, ap, _∙_, subst}
+use mathlib.Core.List.{List, [], _∷_}
+use mathlib.Core.Bool.{Bool, true, false, _&&_, false≢true}
+use lib.Dec.{eqb}
+use lib.ListN.{length}
+use native.Mathlib.Omega.{arith}
+use borrow.Author.Tests.{eqb-true}
+use Rattle.definition.specs.Bytes.{sameBytes}
+use Rattle.definition.specs.Tables.{nodeCount, kindAt, kindMap, lowWord, highWord, childCount, firstChild, keyStart, keyLength, keyBytes}
+use Rattle.tables.specs.Accepted.{Accepted}
+use Rattle.tables.specs.Bools.{and-left, and-right}
+use Rattle.tables.specs.Rights.{count-map}
+use Rattle.walks.specs.Ranges.{Range, range-of}
+use Rattle.equal.specs.Members.{Members, Looked, lookup-passed, lookup-found}
+use Rattle.equal.specs.Same.{members-of}
+use Rattle.equal.specs.declared.members.Member.the-variants.{At}
+
+-- the node is a map, and its member at place near is the one of the name k
+pub record Near (S X : List ℕ) (node near : ℕ) (k : List ℕ) : Type 0 where
+  pub map : kindAt S node ≡ kindMap
+  pub less : near < childCount S node
+  pub looked : Looked S X (lowWord S node) (childCount S node) k (At (lowWord S node + near))
+
+abbrev pub DoneNear : List ℕ → List ℕ → ℕ → ℕ → List ℕ → Bool → Type 0
+DoneNear S X node near k r = r ≡ true → Near S X node near k
+
+-- the same bytes are one text
+same-text : (s t : List ℕ) → sameBytes s t ≡ true → s ≡ t
+unfolding sameBytes
+same-text [] [] e = refl
+same-text [] (y ∷ t) e = absurd (false≢true e)
+same-text (x ∷ s) [] e = absurd (false≢true e)
+same-text (x ∷ s) (y ∷ t) e =
+    ap (λ (z : ℕ). z ∷ s) (eqb-true x y (and-left (eqb x y) (sameBytes s t) e)) ∙ ap (λ (u : List ℕ). y ∷ u) (same-text s t (and-right (eqb x y) (sameBytes s t) e))
+
+pub not-near : (S X : List ℕ) (node near : ℕ) (k : List ℕ) → DoneNear S X node near k false
+not-near S X node near k e = absurd (false≢true e)
+
+module _ {S X : List ℕ} (tab : Accepted S X) {node : ℕ} (h : node < nodeCount S) (m : kindAt S node ≡ kindMap) {near n : ℕ} (e : n ≡ highWord S node) (l : near < n) where
+  near-less : near < childCount S node
+  near-less = let c = count-map S node m in omega arith
+
+  near-range : Range S node (lowWord S node) (childCount S node)
+  near-range = range-of S X tab node h (lowWord S node) (childCount S node) refl refl
+
+  near-members : Members S X (lowWord S node) (childCount S node)
+  near-members = members-of S X tab node h m (lowWord S node) (childCount S node) near-range
+
+  -- the member there is a node, and its key lies inside the text
+  pub near-named : (j : ℕ) → j ≡ lowWord S node + near → (j < nodeCount S) × (keyStart S j + keyLength S j ≤ length X)
+  near-named j i =
+      subst (λ (x : ℕ). (x < nodeCount S) × (keyStart S x + keyLength S x ≤ length X)) (sym i) (near-members .nodes near near-less, near-members .keys near near-less)
+
+  -- a member before it has another name
+  near-apart : (i : ℕ) → i < near → sameBytes (keyBytes S X (lowWord S node + i)) (keyBytes S X (lowWord S node + near)) ≡ false
+  near-apart i b =
+      let g = near-less in
+      subst (λ (x : ℕ). sameBytes (keyBytes S X (x + i)) (keyBytes S X (x + near)) ≡ false) (sym (near-range .first (omega arith))) (tab .apart node h m i near b near-less)
+
+  pub near-is : (k : List ℕ) (j : ℕ) → j ≡ lowWord S node + near → (r : Bool) → r ≡ sameBytes (keyBytes S X j) k → DoneNear S X node near k r
+  near-is k j i r d t =
+      let y : r ≡ sameBytes (keyBytes S X (lowWord S node + near)) k = d ∙ ap (λ (x : ℕ). sameBytes (keyBytes S X x) k) i in
+      let q = same-text (keyBytes S X (lowWord S node + near)) k (sym y ∙ t) in
+      let g = near-less in
+      let p = lookup-passed S X k (lowWord S node) (childCount S node) near (omega arith) (λ x b. subst (λ (z : List ℕ). sameBytes (keyBytes S X (lowWord S node + x)) z ≡ false) q (near-apart x b)) in
+      record { map = m; less = g; looked = lookup-found S X k (lowWord S node) (childCount S node) near p g r y t }
