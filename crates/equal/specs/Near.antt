@@ -2,13 +2,13 @@
 use Prim.Native.Nat.{ℕ, _+_, _≤_, _<_}
 use mathlib.Core.Path.{_≡_, refl, sym, ap, _∙_, subst}
 use mathlib.Core.List.{List, [], _∷_}
-use mathlib.Core.Bool.{Bool, true, false, _&&_, false≢true}
+use mathlib.Core.Bool.{Bool, true, false, false≢true}
 use lib.Dec.{eqb}
 use lib.ListN.{length}
 use native.Mathlib.Omega.{arith}
 use borrow.Author.Tests.{eqb-true}
 use Rattle.definition.specs.Bytes.{sameBytes}
-use Rattle.definition.specs.Tables.{nodeCount, kindAt, kindMap, lowWord, highWord, childCount, firstChild, keyStart, keyLength, keyBytes}
+use Rattle.definition.specs.Tables.{nodeCount, kindAt, kindMap, lowWord, highWord, childCount, keyStart, keyLength, keyBytes}
 use Rattle.tables.specs.Accepted.{Accepted}
 use Rattle.tables.specs.Bools.{and-left, and-right}
 use Rattle.tables.specs.Rights.{count-map}

@@ -117,5 +117,6 @@ pub fn is_near(
     if records::high_word(table, node) as usize <= near {
         return false;
     }
-    is_named(table, text, records::low_word(table, node) as usize + near, s, a, n)
+    let member = records::low_word(table, node) as usize + near;
+    is_named(table, text, member, s, a, n)
 }

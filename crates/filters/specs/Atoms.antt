@@ -9,20 +9,22 @@ use lib.ListN.{length, getD}
 use native.Mathlib.Omega.{arith}
 use borrow.Author.Tests.{eq-eqb, ne-eqb, eqb-true, eqb-false}
 use Rattle.definition.specs.Bytes.{number, part}
-use Rattle.definition.specs.Limits.{maxPlan}
+use Rattle.definition.specs.Limits.{maxPlan, maxNodes}
 use Rattle.definition.specs.Values.{Json}
 use Rattle.definition.specs.Forms.{Segments}
 use Rattle.definition.specs.Plans.{codeSegments, codeSelector}
 use Rattle.definition.specs.Compare.{Value}
-use Rattle.definition.specs.Tables.{nodeCount, nodeAt}
+use Rattle.definition.specs.Tables.{nodeCount, nodeAt, lowWord, childCount}
 use Rattle.definition.specs.Evaluation.{evalSegments, firstValue}
 use Rattle.walks.specs.Items.{SegmentsAt, Parts, parts, segments-in, end-long}
 use Rattle.walks.specs.Todos.{Todo, todo-in, todo-to, at-query, QueryAt, at-literal}
 use Rattle.equal.specs.declared.members.Member.{Member}
 use Rattle.equal.specs.declared.members.Member.the-variants.{At, Nothing as Absent}
+use Rattle.equal.specs.Near.{Near}
 use Rattle.steps.specs.Ends.{DoneLiteral}
 use Rattle.steps.specs.EndLaws.{past-constant, past-text, past-number}
 use Rattle.steps.specs.Leaves.{AskValue, AskOne, DoneOne, beginsAt}
+use Rattle.steps.specs.LeafLaws.{name-asked, name-found}
 use Rattle.visits.specs.Visits.{Query, Given, Head, AskReach, DoneReach}
 use Rattle.visits.specs.Loops.{InReach}
 use Rattle.visits.specs.Heads.{name-ends}
@@ -87,6 +89,29 @@ module _ {P L S X : List ℕ} (given : Given P L S X) {node c : ℕ} (node-in : 
   name-reached r o m e =
       let i = reach-next given name-start (n .head) r o m e (c + 8) (name-ends (given .fewP) (n .head)) in
       record { node-in = i .node-in; deeper = i .deeper; later = i .later; front = reach-found i }
+
+-- ---- the member of a name, at a place or by a search
+
+module _ {P L S X : List ℕ} {p node : ℕ} (a : AskOne P L S X p node 5 5) where
+  -- a search takes an index too
+  pub name-any : AskOne P L S X p node 5 6
+  name-any =
+      let h = a .kind-high in
+      record { fewP = a .fewP; fewL = a .fewL; tab = a .tab; node-in = a .node-in; x = a .x; k = a .k; at = a .at; kind-low = a .kind-low; kind-high = omega arith }
+
+  module _ {start size : ℕ} (u : start ≡ number (part P (p + 1) 2)) (v : size ≡ number (part P (p + 3) 2)) where
+    -- the name lies inside the pool
+    pub name-inside : start + size ≤ length L
+    name-inside = let d = name-asked a .stands in omega (arith, d .start, d .size, d .inside)
+
+    -- the member that has it at a place is the one that it selects
+    module _ {near : ℕ} (n : Near S X node near (part L start size)) (j : ℕ) (i : j ≡ lowWord S node) where
+      pub name-near : DoneOne P L S X p node (At (j + near))
+      name-near =
+          subst (λ (x : ℕ). DoneOne P L S X p node (At (x + near))) (sym i) (name-found a (n .map) (lowWord S node) (childCount S node) refl refl start size u v _ (n .looked))
+
+      pub near-room : j + near < maxNodes
+      near-room = omega (arith, name-near .inside (j + near) refl, a .tab .size .few)
 
 -- ---- a literal and a comparison behind it
 
@@ -154,26 +179,44 @@ none-behind n i = absurd (never (sym n ∙ i))
 
 -- ---- the test of one member
 
--- the form of a comparison with a literal of kind k
-unfoldable pub formOf : ℕ → ℕ
-formOf k = cond (eqb k 0x10) 3 2
+-- the form of a comparison with a literal of kind k by an operator
+unfoldable pub formOf : ℕ → ℕ → ℕ
+formOf k op = cond (eqb k 0x10) 3 (cond (eqb k 0x12) (cond (eqb op 0) 4 2) 2)
 
-pub form-number : (k : ℕ) → k ≡ 0x10 → 3 ≡ formOf k
+pub form-number : (k op : ℕ) → k ≡ 0x10 → 3 ≡ formOf k op
 unfolding formOf
-form-number k e = rw (eq-eqb k 0x10 e)
+form-number k op e = rw (eq-eqb k 0x10 e)
 
-pub form-other : (k : ℕ) → (k ≡ 0x10 → ⊥) → 2 ≡ formOf k
+pub form-other : (k op : ℕ) → (k ≡ 0x10 → ⊥) → (k ≡ 0x12 → ⊥) → 2 ≡ formOf k op
 unfolding formOf
-form-other k n = rw (ne-eqb k 0x10 n)
+form-other k op n m = rw (ne-eqb k 0x10 n, ne-eqb k 0x12 m)
 
-form-by : (k : ℕ) (b : Bits) → eqb k 0x10 ≡ b → (_≡_ {A = ℕ} (cond b 3 2) 1 → ⊥) × (_≡_ {A = ℕ} (cond b 3 2) 3 → k ≡ 0x10)
-form-by k true e = (λ i. absurd (omega arith), λ i. eqb-true k 0x10 e)
-form-by k false e = (λ i. absurd (omega arith), λ i. absurd (omega arith))
-
--- such a form is that of no bare test, and says what kind the literal has
-pub form-says : (k f : ℕ) → f ≡ formOf k → (f ≡ 1 → ⊥) × (f ≡ 3 → k ≡ 0x10)
+pub form-words : (k op : ℕ) → (k ≡ 0x10 → ⊥) → k ≡ 0x12 → op ≡ 0 → 4 ≡ formOf k op
 unfolding formOf
-form-says k f e = let y = form-by k (eqb k 0x10) refl in (λ i. y .0 (sym e ∙ i), λ i. y .1 (sym e ∙ i))
+form-words k op n e z = rw (ne-eqb k 0x10 n, eq-eqb k 0x12 e, eq-eqb op 0 z)
+
+pub form-text : (k op : ℕ) → (k ≡ 0x10 → ⊥) → k ≡ 0x12 → (op ≡ 0 → ⊥) → 2 ≡ formOf k op
+unfolding formOf
+form-text k op n e z = rw (ne-eqb k 0x10 n, eq-eqb k 0x12 e, ne-eqb op 0 z)
+
+-- what a form says of the literal and of the operator: an integer, or a text that is compared by ==
+pub record FormAgainst (k op form : ℕ) : Type 0 where
+  pub integer-is : form ≡ 3 → k ≡ 0x10
+  pub text-is : form ≡ 4 → (k ≡ 0x12) × (op ≡ 0)
+
+pub form-none : (k op form : ℕ) → form ≤ 2 → FormAgainst k op form
+form-none k op form l = record { integer-is = λ i. absurd (omega arith); text-is = λ i. absurd (omega arith) }
+
+form-by : (k op : ℕ) (b d o : Bits) → eqb k 0x10 ≡ b → eqb k 0x12 ≡ d → eqb op 0 ≡ o → (_≡_ {A = ℕ} (cond b 3 (cond d (cond o 4 2) 2)) 1 → ⊥) × FormAgainst k op (cond b 3 (cond d (cond o 4 2) 2))
+form-by k op true d o x y z = (λ i. absurd (omega arith), record { integer-is = λ i. eqb-true k 0x10 x; text-is = λ i. absurd (omega arith) })
+form-by k op false true true x y z = (λ i. absurd (omega arith), record { integer-is = λ i. absurd (omega arith); text-is = λ i. (eqb-true k 0x12 y, eqb-true op 0 z) })
+form-by k op false true false x y z = (λ i. absurd (omega arith), form-none k op 2 (omega arith))
+form-by k op false false o x y z = (λ i. absurd (omega arith), form-none k op 2 (omega arith))
+
+-- the form of a comparison is that of no bare test, and says what it is to say
+pub form-says : (k op f : ℕ) → f ≡ formOf k op → (f ≡ 1 → ⊥) × FormAgainst k op f
+unfolding formOf
+form-says k op f e = subst (λ (x : ℕ). (x ≡ 1 → ⊥) × FormAgainst k op x) (sym e) (form-by k op (eqb k 0x10) (eqb k 0x12) (eqb op 0) refl refl refl)
 
 pub record AtomAt (P : List ℕ) (q e : ℕ) (t : Atom) : Type 0 where
   pub current : getD P q 0 ≡ 2
@@ -182,7 +225,7 @@ pub record AtomAt (P : List ℕ) (q e : ℕ) (t : Atom) : Type 0 where
   pub size-is : t .size ≡ number (part P (q + 1 + 3 + 3) 2)
   pub has : t .form ≡ 1 → (getD P (q + 1 + 9) 0 ≡ 0x18) × (t .next ≡ q + 1 + 10)
   pub compared : (t .form ≡ 1 → ⊥) → AgainstAt P (q + 1 + 9) e (t .op) (t .next)
-  pub integer-is : t .form ≡ 3 → getD P (q + 1 + 9) 0 ≡ 0x10
+  pub form-is : FormAgainst (getD P (q + 1 + 9) 0) (t .op) (t .form)
   pub more : q + 1 + 9 < e
   pub room : q + 1 + 9 < length P
 
@@ -205,10 +248,7 @@ module _ {P L S X : List ℕ} {root node q e : ℕ} (a : AskShort P L S X root n
   told-one = name-one told-given (a .within .node-in) told-query (b .here)
 
   pub told-any : AskOne P L S X (q + 1 + 3) node 5 6
-  told-any =
-      let o = told-one in
-      let h = o .kind-high in
-      record { fewP = o .fewP; fewL = o .fewL; tab = o .tab; node-in = o .node-in; x = o .x; k = o .k; at = o .at; kind-low = o .kind-low; kind-high = omega arith }
+  told-any = name-any told-one
 
   pub told-room : q + 1 + 9 < maxPlan
   told-room = let h = a .within .fewP in omega (arith, b .room)

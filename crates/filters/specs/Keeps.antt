@@ -64,11 +64,8 @@ tail-other = record { ends = λ i. absurd (omega arith); names = λ i. absurd (o
 pub tail-named : {P : List ℕ} {rest tail : ℕ} → TailAt P rest tail → tail ≤ 1 → (tail ≡ 0 → ⊥) → NameAt P rest
 tail-named d h n = d .names (omega arith)
 
-pub name-any : {P L S X : List ℕ} {node rest len at cap : ℕ} → AskVisit P L S X node rest len at cap → NameAt P rest → AskOne P L S X (rest + 3) node 5 6
-name-any a n =
-    let o = name-one (a .given) (a .node-in) (a .query) n in
-    let h = o .kind-high in
-    record { fewP = o .fewP; fewL = o .fewL; tab = o .tab; node-in = o .node-in; x = o .x; k = o .k; at = o .at; kind-low = o .kind-low; kind-high = omega arith }
+pub tail-one : {P L S X : List ℕ} {node rest len at cap : ℕ} → AskVisit P L S X node rest len at cap → NameAt P rest → AskOne P L S X (rest + 3) node 5 5
+tail-one a n = name-one (a .given) (a .node-in) (a .query) n
 
 -- a node with what follows, and nothing left to do
 abbrev pub DonePushed : List ℕ → List ℕ → List ℕ → List ℕ → ℕ → ℕ → ℕ → List ℕ → ℕ → List ℕ → ℕ → Type 0

@@ -7,12 +7,12 @@ use text::bytes;
 ghost use mathlib.Core.Path.{_≡_};
 ghost use Prim.Native.Nat.{_+_, _≤_};
 ghost use mathlib.Core.Bool.{false};
-ghost use lib.ListN.{length};
+ghost use lib.ListN.{length, getD};
 ghost use Rattle.definition.specs.Bytes.{number, part};
 ghost use Rattle.definition.specs.Limits.{maxPlan};
 ghost use Rattle.steps.specs.Leaves.{AskOne, DoneOne};
-ghost use Rattle.filters.specs.Tests.{AskShort, DoneShort};
-ghost use Rattle.filters.specs.Atoms.{DoneName, AskCode, DoneBehind, DoneAtom, AtomAt, formOf, sizeOf, tells};
+ghost use Rattle.filters.specs.Tests.{AskNode, DoneNode, AskShort, DoneShort};
+ghost use Rattle.filters.specs.Atoms.{DoneName, AskCode, DoneBehind, DoneAtom, AtomAt, FormAgainst, formOf, sizeOf, tells};
 
 const CURRENT: u8 = 0x02;
 
@@ -31,16 +31,20 @@ const COMPARE: u8 = 0x14;
 
 const TEST: u8 = 0x18;
 
+const EQ: u8 = 0;
+
 const KIND_INTEGER: u8 = 3;
 
-const KIND_MAP: u8 = 7;
+const KIND_TEXT: u8 = 5;
 
-// The forms of such a test: that the member is there, its comparison with a literal, and with an integer. 0 stands for no such test.
+// The forms of such a test: that the member is there, its comparison with a literal, with an integer, and with a text by ==. 0 stands for no such test.
 const HAS: u8 = 1;
 
 const COMPARED: u8 = 2;
 
 const NUMBER: u8 = 3;
+
+const WORDS: u8 = 4;
 
 // The name's place in the pool, the operator, and the place behind the test.
 pub struct Atom {
@@ -56,6 +60,12 @@ pub struct Behind {
     pub op: u8,
     pub next: usize,
     pub some: bool,
+}
+
+// What a test says of a node, and the place of its member among the node's members: there the member of the next node is looked for first.
+pub struct Held {
+    pub acc: bool,
+    pub near: usize,
 }
 
 // Whether a child segment of one name stands at c, at the end of its query.
@@ -122,12 +132,18 @@ fn not_behind() -> Behind
     }
 }
 
-// The form of a comparison with a literal of kind k.
-fn form_of(k: u8) -> u8
-    ensures { λ r. ⌜ r ≡ formOf k ⌝ }
+// The form of a comparison with a literal of kind k by an operator.
+fn form_of(k: u8, op: u8) -> u8
+    ensures { λ r. ⌜ r ≡ formOf k op ⌝ }
 {
     if k == INTEGER {
         return NUMBER;
+    }
+    if k != TEXT {
+        return COMPARED;
+    }
+    if op == EQ {
+        return WORDS;
     }
     COMPARED
 }
@@ -163,11 +179,12 @@ pub fn read_atom(plan: &[u8], q: usize, e: usize) -> Atom
     if !b.some {
         return no_atom();
     }
+    let op = b.op;
     Atom {
-        form: form_of(k),
+        form: form_of(k, op),
         start,
         size,
-        op: b.op,
+        op,
         next: b.next,
     }
 }
@@ -185,8 +202,8 @@ fn no_atom() -> Atom
     }
 }
 
-// The member of a node whose name is the `size` bytes of the pool from `start` on, as the name at p says. What steps::leaves has for this is called from several
-// places; this one is called from one, so that a compiler puts it where it is called.
+// The member of a node whose name is the `size` bytes of the pool from `start` on, as the name at p says: at place `near`, or else where a search finds it. It is
+// called from one place, so that a compiler puts it there; kept::tail_named says the same for the name behind a test.
 fn named(
     plan: &[u8],
     pool: &[u8],
@@ -196,20 +213,47 @@ fn named(
     start: usize,
     size: usize,
     node: usize,
+    near: usize,
 ) -> Member
     requires { ⌜ AskOne (now plan) (now pool) (now table) (now text) p node 5 5 ⌝ }
     requires { ⌜ (start ≡ number (part (now plan) (p + 1) 2)) × (size ≡ number (part (now plan) (p + 3) 2)) ⌝ }
     ensures { λ r. ⌜ DoneOne (now (plan .entry)) (now (pool .entry)) (now (table .entry)) (now (text .entry)) p node r ⌝ }
 {
-    if records::kind(table, node) != KIND_MAP {
-        return Member::Nothing;
+    if members::is_near(table, text, node, near, pool, start, size) {
+        return Member::At(records::low_word(table, node) as usize + near);
     }
-    let first = records::low_word(table, node) as usize;
-    let count = records::child_count(table, node) as usize;
-    members::find_member(table, text, first, count, pool, start, size)
+    leaves::select_one(plan, pool, table, text, p, node)
 }
 
-// What the test at q of one member says of a node.
+// The value of node m and the literal at q, by an operator, as the form of the comparison says.
+fn compare_form(
+    plan: &[u8],
+    pool: &[u8],
+    table: &[u8],
+    text: &[u8],
+    form: u8,
+    op: u8,
+    m: usize,
+    q: usize,
+) -> bool
+    requires { ⌜ AskNode (now plan) (now pool) (now table) (now text) m q ⌝ }
+    requires { ⌜ FormAgainst (getD (now plan) q 0) op form ⌝ }
+    ensures { λ r. ⌜ DoneNode (now (plan .entry)) (now (pool .entry)) (now (table .entry)) (now (text .entry)) m q op r ⌝ }
+{
+    if form == NUMBER {
+        if records::kind(table, m) == KIND_INTEGER {
+            return crate::compare_integers(plan, pool, table, text, op, m, q);
+        }
+    }
+    if form == WORDS {
+        if records::kind(table, m) == KIND_TEXT {
+            return crate::same_text(plan, pool, table, text, m, q);
+        }
+    }
+    crate::compare_node(plan, pool, table, text, op, m, q)
+}
+
+// What the test at q of one member says of a node. The member is looked for at place `near` first.
 pub fn holds(
     plan: &[u8],
     pool: &[u8],
@@ -220,32 +264,36 @@ pub fn holds(
     q: usize,
     e: usize,
     t: Atom,
-) -> bool
+    near: usize,
+) -> Held
     requires { ⌜ AskShort (now plan) (now pool) (now table) (now text) root node q e ⌝ }
     requires { ⌜ AtomAt (now plan) q e t ⌝ }
-    ensures { λ r. ⌜ DoneShort (now (plan .entry)) (now (pool .entry)) (now (table .entry)) (now (text .entry)) root node q e (tells r (t .next)) ⌝ }
+    ensures { λ r. ⌜ DoneShort (now (plan .entry)) (now (pool .entry)) (now (table .entry)) (now (text .entry)) root node q e (tells (r .acc) (t .next)) ⌝ }
 {
     let form = t.form;
     let op = t.op;
     let start = t.start;
     let size = t.size;
     let c = q + 1;
-    let found = named(plan, pool, table, text, c + 3, start, size, node);
+    let found = named(plan, pool, table, text, c + 3, start, size, node, near);
     let Member::At(m) = found else {
-        return false;
+        return Held { acc: false, near };
     };
+    let there = m - records::low_word(table, node) as usize;
     if form == HAS {
-        return true;
+        return Held {
+            acc: true,
+            near: there,
+        };
     }
-    if form == NUMBER {
-        if records::kind(table, m) == KIND_INTEGER {
-            return crate::compare_integers(plan, pool, table, text, op, m, c + 9);
-        }
+    let b = compare_form(plan, pool, table, text, form, op, m, c + 9);
+    Held {
+        acc: b,
+        near: there,
     }
-    crate::compare_node(plan, pool, table, text, op, m, c + 9)
 }
 
-// The same of a test that is asked for fewer nodes, so that it may be a call.
+// The same of a test that is asked for fewer nodes, so that it may be a call, and looks for the member from the first on.
 pub fn holds_next(
     plan: &[u8],
     pool: &[u8],

@@ -2,14 +2,18 @@
 // the number of all children compared with an integer. Such a test is read from the plan once, and needs neither tasks nor registers.
 use crate::atoms;
 use crate::atoms::Atom;
+use crate::atoms::Held;
+use equal::members;
 use equal::members::Member;
 use steps::leaves;
 use table::records;
 use text::bytes;
 ghost use mathlib.Core.Path.{_≡_};
-ghost use Prim.Native.Nat.{_≤_, _<_};
+ghost use Prim.Native.Nat.{_+_, _≤_, _<_};
 ghost use lib.ListN.{length, getD};
+ghost use Rattle.definition.specs.Bytes.{number, part};
 ghost use Rattle.definition.specs.Limits.{maxPlan};
+ghost use Rattle.steps.specs.Leaves.{AskOne, DoneOne};
 ghost use Rattle.visits.specs.Visits.{AskVisit};
 ghost use Rattle.filters.specs.Queries.{Within};
 ghost use Rattle.filters.specs.Atoms.{AskCode};
@@ -50,6 +54,12 @@ pub struct Counts {
     pub some: bool,
 }
 
+// The place behind a node that is put into the list with what follows, and the place of the member that follows among the node's members.
+struct Pushed {
+    at: usize,
+    near: usize,
+}
+
 // What follows a test: 0 for nothing, 1 for one name at the end of the query, 2 for everything else.
 fn tail_of(plan: &[u8], rest: usize) -> usize
     requires { ⌜ AskTail (now plan) rest ⌝ }
@@ -64,7 +74,29 @@ fn tail_of(plan: &[u8], rest: usize) -> usize
     2
 }
 
-// A node with what follows.
+// As atoms::named, for the name behind a test. A function with two callers is not put where it is called, so each has its own.
+fn tail_named(
+    plan: &[u8],
+    pool: &[u8],
+    table: &[u8],
+    text: &[u8],
+    p: usize,
+    start: usize,
+    size: usize,
+    node: usize,
+    near: usize,
+) -> Member
+    requires { ⌜ AskOne (now plan) (now pool) (now table) (now text) p node 5 5 ⌝ }
+    requires { ⌜ (start ≡ number (part (now plan) (p + 1) 2)) × (size ≡ number (part (now plan) (p + 3) 2)) ⌝ }
+    ensures { λ r. ⌜ DoneOne (now (plan .entry)) (now (pool .entry)) (now (table .entry)) (now (text .entry)) p node r ⌝ }
+{
+    if members::is_near(table, text, node, near, pool, start, size) {
+        return Member::At(records::low_word(table, node) as usize + near);
+    }
+    leaves::select_one(plan, pool, table, text, p, node)
+}
+
+// A node with what follows, which is looked for at place `near` first.
 fn push_tail(
     plan: &[u8],
     pool: &[u8],
@@ -73,25 +105,32 @@ fn push_tail(
     tail: usize,
     node: usize,
     rest: usize,
+    near: usize,
     list: &mut [u32],
     at: usize,
     cap: usize,
-) -> usize
+) -> Pushed
     requires { ⌜ AskVisit (now plan) (now pool) (now table) (now text) node rest (length (now list)) at cap ⌝ }
     requires { ⌜ TailAt (now plan) rest tail × (tail ≤ 1) ⌝ }
-    ensures { λ r. ⌜ DonePushed (now (plan .entry)) (now (pool .entry)) (now (table .entry)) (now (text .entry)) node rest cap (now (list .entry)) at (now (list .exit)) r ⌝ }
+    ensures { λ r. ⌜ DonePushed (now (plan .entry)) (now (pool .entry)) (now (table .entry)) (now (text .entry)) node rest cap (now (list .entry)) at (now (list .exit)) (r .at) ⌝ }
 {
     if tail == 0 {
-        return visits::push(list, at, node, cap);
+        let a = visits::push(list, at, node, cap);
+        return Pushed { at: a, near };
     }
-    let found = leaves::select_one(plan, pool, table, text, rest + 3, node);
+    let p = rest + 3;
+    let start = bytes::word16(plan, p + 1);
+    let size = bytes::word16(plan, p + 3);
+    let found = tail_named(plan, pool, table, text, p, start, size, node, near);
     let Member::At(m) = found else {
-        return at;
+        return Pushed { at, near };
     };
-    visits::push(list, at, m, cap)
+    let there = m - records::low_word(table, node) as usize;
+    let a = visits::push(list, at, m, cap);
+    Pushed { at: a, near: there }
 }
 
-// Whether the test from p up to z holds of a node.
+// Whether the test from p up to z holds of a node. The first member is looked for at place `near` first.
 fn passes(
     plan: &[u8],
     pool: &[u8],
@@ -104,30 +143,50 @@ fn passes(
     t: Atom,
     join: u8,
     u: Atom,
-) -> bool
+    near: usize,
+) -> Held
     requires { ⌜ Within (now plan) (now pool) (now table) (now text) root node ⌝ }
     requires { ⌜ AskTest (now plan) (now pool) p z ⌝ }
     requires { ⌜ PairAt (now plan) p z t join u ⌝ }
-    ensures { λ r. ⌜ DoneTest (now (plan .entry)) (now (pool .entry)) (now (table .entry)) (now (text .entry)) root node p z r ⌝ }
+    ensures { λ r. ⌜ DoneTest (now (plan .entry)) (now (pool .entry)) (now (table .entry)) (now (text .entry)) root node p z (r .acc) ⌝ }
 {
     let q = t.next;
-    let b = atoms::holds(plan, pool, table, text, root, node, p, z, t);
+    let h = atoms::holds(plan, pool, table, text, root, node, p, z, t, near);
+    let b = h.acc;
+    let there = h.near;
     if join == 0 {
-        return b;
+        return Held {
+            acc: b,
+            near: there,
+        };
     }
     if join == AND {
         if b {
-            return atoms::holds_next(plan, pool, table, text, root, node, q + 3, z, u);
+            let d = atoms::holds_next(plan, pool, table, text, root, node, q + 3, z, u);
+            return Held {
+                acc: d,
+                near: there,
+            };
         }
-        return false;
+        return Held {
+            acc: false,
+            near: there,
+        };
     }
     if b {
-        return true;
+        return Held {
+            acc: true,
+            near: there,
+        };
     }
-    atoms::holds_next(plan, pool, table, text, root, node, q + 3, z, u)
+    let d = atoms::holds_next(plan, pool, table, text, root, node, q + 3, z, u);
+    Held {
+        acc: d,
+        near: there,
+    }
 }
 
-// The nodes from i up to e for which that test holds, with what follows.
+// The nodes from i up to e for which that test holds, with what follows. Each node's members are looked for first where those of the node before were found.
 fn keep_pair(
     plan: &[u8],
     pool: &[u8],
@@ -155,12 +214,18 @@ fn keep_pair(
 {
     let mut a = at;
     let mut j = i;
+    let mut near = 0;
+    let mut next = 0;
     while j < e {
         if cap < a {
             return a;
         }
-        if passes(plan, pool, table, text, root, j, p, z, t, join, u) {
-            a = push_tail(plan, pool, table, text, tail, j, rest, list, a, cap);
+        let b = passes(plan, pool, table, text, root, j, p, z, t, join, u, near);
+        near = b.near;
+        if b.acc {
+            let v = push_tail(plan, pool, table, text, tail, j, rest, next, list, a, cap);
+            a = v.at;
+            next = v.near;
             j += 1;
         } else {
             j += 1;

@@ -30,11 +30,11 @@ returns-2 c = not-near _ _ _ _ _
 low-word-requires : tie.Need-low-word-requires
 low-word-requires c κs = search needs
 
-cast-is-named : tie.Need-cast-is-named
-cast-is-named c = search needs
+cast-member : tie.Need-cast-member
+cast-member c = search needs
 
-add-is-named : tie.Need-add-is-named
-add-is-named c = search needs
+add-member : tie.Need-add-member
+add-member c = search needs
 
 is-named-requires : tie.Need-is-named-requires
 is-named-requires c κs =
@@ -56,7 +56,7 @@ is-near-spec =
     cast-if2
     returns-2
     low-word-requires
-    cast-is-named
-    add-is-named
+    cast-member
+    add-member
     is-named-requires
     returns-3)

@@ -1,52 +1,50 @@
--- `named` meets its contract: the member that is found under the name, or none. Assumes nothing.
-use mathlib.Core.Path.{sym, _∙_}
-use Rattle.steps.specs.LeafLaws.{name-asked, name-else, name-members, name-found}
+-- `named` meets its contract: the member at the place that is looked at first, or the one that a search finds. Assumes nothing.
 use native.Mathlib.Omega.{arith}
+use Rattle.filters.specs.Atoms.{name-any, name-inside, name-near, near-room}
 use borrow.Author.Needs.{needs}
 use Rattle.filters.proofs.atoms.named.Statement.{statement}
 use Rattle.filters.proofs.atoms.named.Tie as tie
 use Rattle.filters.proofs.atoms.named.Reads as reads
 use Rattle.filters.proofs.atoms.named.Lts as lts
-use Rattle.equal.proofs.members.find_member.Reads as find-member-reads
-use Rattle.table.proofs.records.child_count.Reads as child-count-reads
-use Rattle.table.proofs.records.kind.Reads as kind-reads
+use Rattle.equal.proofs.members.is_near.Reads as is-near-reads
+use Rattle.steps.proofs.leaves.select_one.Reads as select-one-reads
 use Rattle.table.proofs.records.low_word.Reads as low-word-reads
 
-kind-requires : tie.Need-kind-requires
-kind-requires c κs = c .before .before .before .before .pre .0 .node-in
-
-returns : tie.Need-returns
-returns c = name-else (c .before .before .before .before .before .before .pre .0) (λ z. c .if1 .taken (c .before .kind .ensures ∙ z))
+is-near-requires : tie.Need-is-near-requires
+is-near-requires c κs =
+    let s = c .before .before .before .before .pre in
+    ((s .0 .tab, s .0 .node-in), name-inside (s .0) (s .1 .0) (s .1 .1))
 
 low-word-requires : tie.Need-low-word-requires
-low-word-requires c κs = c .before .before .before .before .before .before .pre .0 .node-in
+low-word-requires c κs = search needs
 
-cast-first : tie.Need-cast-first
-cast-first c = search needs
+cast-t12 : tie.Need-cast-t12
+cast-t12 c = search needs
 
-child-count-requires : tie.Need-child-count-requires
-child-count-requires c κs = c .before .before .before .before .before .before .before .pre .0 .node-in
+add-t13 : tie.Need-add-t13
+add-t13 c =
+    let s = c .before .before .before .before .before .before .before .pre in
+    omega (arith, near-room (s .0) (s .1 .0) (s .1 .1) (c .before .before .is-near .ensures (c .before .if1 .taken)) _ (c .low-word .ensures))
 
-cast-count : tie.Need-cast-count
-cast-count c = search needs
+returns : tie.Need-returns
+returns c =
+    let s = c .before .before .before .before .before .before .before .pre in
+    name-near (s .0) (s .1 .0) (s .1 .1) (c .before .before .is-near .ensures (c .before .if1 .taken)) _ (c .low-word .ensures)
 
-find-member-requires : tie.Need-find-member-requires
-find-member-requires c κs =
-    let d = name-asked (c .before .before .before .before .before .before .before .before .pre .0) .stands in
-    (name-members (c .before .before .before .before .before .before .before .before .pre .0) (sym (c .before .before .before .kind .ensures) ∙ c .before .before .if1 .left) _ _ (c .before .low-word .ensures) (c .child-count .ensures), omega (arith, c .before .before .before .before .before .before .before .before .pre .1 .0, c .before .before .before .before .before .before .before .before .pre .1 .1, d .start, d .size, d .inside))
+select-one-requires : tie.Need-select-one-requires
+select-one-requires c κs = name-any (c .before .before .before .before .before .before .pre .0)
 
 returns-2 : tie.Need-returns-2
-returns-2 c = name-found (c .before .before .before .before .before .before .before .before .before .pre .0) (sym (c .before .before .before .before .kind .ensures) ∙ c .before .before .before .if1 .left) _ _ (c .before .before .low-word .ensures) (c .before .child-count .ensures) _ _ (c .before .before .before .before .before .before .before .before .before .pre .1 .0) (c .before .before .before .before .before .before .before .before .before .pre .1 .1) _ (c .find-member .ensures)
+returns-2 c = search needs
 
 pub named-spec : {M : Type 1} → statement M
 named-spec =
     tie.close
     (tie.spec
-    kind-requires
-    returns
+    is-near-requires
     low-word-requires
-    cast-first
-    child-count-requires
-    cast-count
-    find-member-requires
+    cast-t12
+    add-t13
+    returns
+    select-one-requires
     returns-2)

@@ -1,7 +1,7 @@
 -- `read_atom` meets its contract: each test that it passes says a part. Assumes nothing.
 use mathlib.Core.Path.{refl}
 use borrow.Author.Tests.{not-false}
-use Rattle.filters.specs.Atoms.{form-says}
+use Rattle.filters.specs.Atoms.{form-none, form-says}
 use native.Mathlib.Omega.{arith}
 use borrow.Author.Needs.{needs}
 use Rattle.filters.proofs.atoms.read_atom.Statement.{statement}
@@ -68,11 +68,11 @@ add-k c = search needs
 shared-slice-read-k : tie.Need-shared-slice-read-k
 shared-slice-read-k c = search needs
 
-add-t16 : tie.Need-add-t16
-add-t16 c = search needs
+add-t17 : tie.Need-add-t17
+add-t17 c = search needs
 
 returns-4 : tie.Need-returns-4
-returns-4 c = λ n. record { current = c .before .before .before .before .before .before .if2 .left; here = c .before .before .before .before .before .names-member .ensures (not-false _ (c .before .before .before .before .if3 .left)); start-is = c .before .before .before .word16 .ensures .is; size-is = c .before .before .word162 .ensures .is; has = λ i. (c .if4 .taken, refl); compared = λ i. absurd (i refl); integer-is = λ i. absurd (omega arith); more = omega (arith, c .before .before .before .before .before .before .before .before .if1 .left); room = omega (arith, c .before .before .before .before .before .before .before .before .if1 .left, c .before .before .before .before .before .before .before .before .before .before .pre .inside) }
+returns-4 c = λ n. record { current = c .before .before .before .before .before .before .if2 .left; here = c .before .before .before .before .before .names-member .ensures (not-false _ (c .before .before .before .before .if3 .left)); start-is = c .before .before .before .word16 .ensures .is; size-is = c .before .before .word162 .ensures .is; has = λ i. (c .if4 .taken, refl); compared = λ i. absurd (i refl); form-is = form-none _ _ _ (omega arith); more = omega (arith, c .before .before .before .before .before .before .before .before .if1 .left); room = omega (arith, c .before .before .before .before .before .before .before .before .if1 .left, c .before .before .before .before .before .before .before .before .before .before .pre .inside) }
 
 add-behind-literal : tie.Need-add-behind-literal
 add-behind-literal c = search needs
@@ -97,9 +97,9 @@ returns-6 c =
       here = c .before .before .before .before .before .before .before .before .before .names-member .ensures (not-false _ (c .before .before .before .before .before .before .before .before .if3 .left));
       start-is = c .before .before .before .before .before .before .before .word16 .ensures .is;
       size-is = c .before .before .before .before .before .before .word162 .ensures .is;
-      has = λ i. absurd (form-says _ _ (c .form-of .ensures) .0 i);
+      has = λ i. absurd (form-says _ _ _ (c .form-of .ensures) .0 i);
       compared = λ i. c .before .before .before .behind-literal .ensures (not-false _ (c .before .if5 .left));
-      integer-is = λ i. form-says _ _ (c .form-of .ensures) .1 i;
+      form-is = form-says _ _ _ (c .form-of .ensures) .1;
       more = omega (arith, c .before .before .before .before .before .before .before .before .before .before .before .before .if1 .left);
       room = omega (arith, c .before .before .before .before .before .before .before .before .before .before .before .before .if1 .left, c .before .before .before .before .before .before .before .before .before .before .before .before .before .before .pre .inside);
     }
@@ -126,7 +126,7 @@ read-atom-spec =
     word16-requires-2
     add-k
     shared-slice-read-k
-    add-t16
+    add-t17
     returns-4
     add-behind-literal
     behind-literal-requires

@@ -13,10 +13,10 @@ use Rattle.filters.proofs.kept.passes.Reads as passes-reads
 use Rattle.filters.proofs.kept.push_tail.Reads as push-tail-reads
 
 abbrev Inv-loop : tie.InvT-loop
-Inv-loop plan pool table text root i e p z t join u tail rest list₀ at cap a₀ j₀ list a j = InKept plan pool table text root i e p z rest cap list₀ a₀ list a j
+Inv-loop plan pool table text root i e p z t join u tail rest list₀ at cap a₀ j₀ near₀ next₀ list a j near next = InKept plan pool table text root i e p z rest cap list₀ a₀ list a j
 
 abbrev μ-loop : tie.MeasureT-loop
-μ-loop plan pool table text root i e p z t join u tail rest list₀ at cap a₀ j₀ list a j = e - j
+μ-loop plan pool table text root i e p z t join u tail rest list₀ at cap a₀ j₀ near₀ next₀ list a j near next = e - j
 
 loop-holds : tie.Need-loop-holds Inv-loop μ-loop
 loop-holds c = record { low = omega arith; same = refl; room = c .before .before .before .before .before .pre .0 .room; again = λ t k f k′ h g. refl }
@@ -49,7 +49,7 @@ loop-less : tie.Need-loop-less Inv-loop μ-loop
 loop-less c = search needs
 
 loop-again : tie.Need-loop-again Inv-loop μ-loop
-loop-again c = kept-step (c .before .before .before .before .before .before .before .before .loop .inv) (c .before .before .before .before .before .before .before .loop-test .taken) (c .before .before .before .before .before .passes .ensures) (c .before .before .before .before .if2 .taken) (c .before .before .push-tail .ensures) refl (c .before .before .push-tail .kept .1 .1 .1 .1 .1 .1 .1 .0)
+loop-again c = kept-step (c .before .before .before .before .before .before .before .before .loop .inv) (c .before .before .before .before .before .before .before .loop-test .taken) (c .before .before .before .before .before .passes .ensures) (c .before .before .before .before .if2 .taken) (c .before .before .push-tail .ensures) refl (c .before .before .push-tail .kept .1 .1 .1 .1 .1 .1 .1 .1 .0)
 
 add-j-2 : tie.Need-add-j-2 Inv-loop μ-loop
 add-j-2 c = search needs
