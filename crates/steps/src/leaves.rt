@@ -113,6 +113,29 @@ pub fn named(
     members::find_member(table, text, first, count, pool, start, size)
 }
 
+// The same for the front of a whole query alone. There are two because a compiler puts a function with one caller into it, and only short ones of several.
+pub fn first_named(
+    plan: &[u8],
+    pool: &[u8],
+    table: &[u8],
+    text: &[u8],
+    p: usize,
+    start: usize,
+    size: usize,
+    node: usize,
+) -> Member
+    requires { ⌜ AskOne (now plan) (now pool) (now table) (now text) p node 5 5 ⌝ }
+    requires { ⌜ (start ≡ number (part (now plan) (p + 1) 2)) × (size ≡ number (part (now plan) (p + 3) 2)) ⌝ }
+    ensures { λ r. ⌜ DoneOne (now (plan .entry)) (now (pool .entry)) (now (table .entry)) (now (text .entry)) p node r ⌝ }
+{
+    if records::kind(table, node) != KIND_MAP {
+        return Member::Nothing;
+    }
+    let first = records::low_word(table, node) as usize;
+    let count = records::child_count(table, node) as usize;
+    members::find_member(table, text, first, count, pool, start, size)
+}
+
 // The member that the name at p selects of a node.
 fn by_name(plan: &[u8], pool: &[u8], table: &[u8], text: &[u8], p: usize, node: usize) -> Member
     requires { ⌜ AskOne (now plan) (now pool) (now table) (now text) p node 5 5 ⌝ }

@@ -8,4 +8,5 @@ pub mod Selects
 pub mod Flats
 pub mod FlatLaws
 pub mod FlatTests
+pub mod Straights
 pub mod Turns

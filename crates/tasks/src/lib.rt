@@ -4,12 +4,14 @@
 //   cells     a task in its five cells
 //   segments  a segment of a query on one node
 //   flats     nodes with nothing below their children under a descendant segment of one selector
+//   straight  segments that need no tasks
 //   turns     one turn of a task that needs no filter
 ghost use mathlib.Core.Path.{_≡_};
 
 pub mod cells;
 mod flats;
 pub mod segments;
+pub mod straight;
 pub mod turns;
 
 // A task: its kind, the place in the plan where it goes on, and three numbers that the kind gives their meaning.

@@ -22,8 +22,8 @@ unfolding number
 no-bytes P p = refl
 
 -- the bytes 03 01 00 and that of a kind, read as the number n
-pub head-of : {P : List ℕ} {q n : ℕ} (kind : ℕ) → ((k : ℕ) → getD P k 0 < 256) → q + 8 ≤ length P → n ≡ number (part P q 4) → n ≡ 0x103 + 16777216 * kind → Head P q kind
-head-of {P} {q} {n} kind b l r e =
+pub head-read : {P : List ℕ} {q n : ℕ} (kind : ℕ) → ((k : ℕ) → getD P k 0 < 256) → q + 4 ≤ length P → n ≡ number (part P q 4) → n ≡ 0x103 + 16777216 * kind → Head P q kind
+head-read {P} {q} {n} kind b l r e =
     let e0 = byte-next P q (q + 1) 3 (omega arith) (omega arith) in
     let e1 = byte-next P (q + 1) (q + 2) 2 (omega arith) (omega arith) in
     let e2 = byte-next P (q + 2) (q + 3) 1 (omega arith) (omega arith) in
@@ -37,6 +37,10 @@ head-of {P} {q} {n} kind b l r e =
     let b2 = b (q + 2) in
     let b3 = b (q + 3) in
     record { child = omega arith; alone = omega arith; kind-is = omega arith }
+
+-- the same where more bytes follow
+pub head-of : {P : List ℕ} {q n : ℕ} (kind : ℕ) → ((k : ℕ) → getD P k 0 < 256) → q + 8 ≤ length P → n ≡ number (part P q 4) → n ≡ 0x103 + 16777216 * kind → Head P q kind
+head-of kind b l r e = head-read kind b (omega arith) r e
 
 -- where the name stands in the pool, and how long it is
 pub name-read : {P : List ℕ} {a n : ℕ} (q : ℕ) → Word 2 P (q + 4) a → Word 2 P (q + 6) n → (a ≡ number (part P (q + 3 + 1) 2)) × (n ≡ number (part P (q + 3 + 3) 2))

@@ -133,6 +133,55 @@ pub fn reach(plan: &[u8], pool: &[u8], table: &[u8], text: &[u8], node: usize, p
     }
 }
 
+// The same for the front of a whole query. There are two because a compiler puts a function with one caller into it, and this one has one.
+pub fn front(plan: &[u8], pool: &[u8], table: &[u8], text: &[u8], node: usize, pc: usize) -> Reached
+    requires { ⌜ AskReach (now plan) (now pool) (now table) (now text) node pc ⌝ }
+    ensures { λ r. ⌜ DoneReach (now (plan .entry)) (now (pool .entry)) (now (table .entry)) (now (text .entry)) node pc r ⌝ }
+{
+    let mut m = node;
+    let mut rest = pc;
+    while rest + 8 <= plan.len() {
+        let head = bytes::word32(plan, rest);
+        if head == NAME_HEAD {
+            let a = bytes::word16(plan, rest + 4);
+            let n = bytes::word16(plan, rest + 6);
+            let found = leaves::first_named(plan, pool, table, text, rest + 3, a, n, m);
+            let Member::At(k) = found else {
+                return Reached {
+                    node: m,
+                    pc: rest,
+                    some: false,
+                };
+            };
+            m = k;
+            rest += 8;
+        } else {
+            if head != INDEX_HEAD {
+                return Reached {
+                    node: m,
+                    pc: rest,
+                    some: true,
+                };
+            }
+            let found = leaves::by_index(plan, pool, table, text, rest + 3, m);
+            let Member::At(k) = found else {
+                return Reached {
+                    node: m,
+                    pc: rest,
+                    some: false,
+                };
+            };
+            m = k;
+            rest += 12;
+        }
+    }
+    Reached {
+        node: m,
+        pc: rest,
+        some: true,
+    }
+}
+
 // One node with the query at rest: pushed, or nothing, or what is left.
 pub fn visit(
     plan: &[u8],
@@ -252,7 +301,7 @@ pub fn further(w: Walk) -> Walk
 }
 
 // The places of a walk, one after the other.
-fn push_places(list: &mut [u32], walk: Walk, at: usize, cap: usize) -> usize
+pub fn push_places(list: &mut [u32], walk: Walk, at: usize, cap: usize) -> usize
     requires { ⌜ AskWalked (length (now list)) walk at cap ⌝ }
     ensures { λ r. ⌜ st cap (now (list .exit)) r ≡ emit (walked walk) (st cap (now (list .entry)) at) ⌝ }
 {

@@ -1,0 +1,198 @@
+-- Segments on one node that need no tasks: what the functions ask and give, and what each part of them comes to. Each answer holds for every form whose code stands
+-- there. P is the plan, L the pool, S the table, X the text. Assumes nothing.
+use Prim.Native.Nat.{ℕ, _+_, _*_, _≤_, _<_}
+use mathlib.Core.Path.{_≡_, refl, sym, ap, _∙_, subst}
+use mathlib.Core.List.{List, [], _∷_}
+use mathlib.Core.Bool.{Bool as Bits, true, false}
+use lib.ListN.{length, getD}
+use native.Mathlib.Omega.{arith}
+use Rattle.definition.specs.Bytes.{number, part}
+use Rattle.definition.specs.Limits.{maxPlan, maxNodes}
+use Rattle.definition.specs.Values.{Json}
+use Rattle.definition.specs.Forms.{Segments, Selector}
+use Rattle.definition.specs.Forms.Segments.{end}
+use Rattle.definition.specs.Forms.Selectors.{one}
+use Rattle.definition.specs.Plans.{codeSelector}
+use Rattle.definition.specs.Tables.{nodeCount, nodeAt, lowWord, childCount}
+use Rattle.definition.specs.Evaluation.{evalSelectors, evalSelector}
+use Rattle.tables.specs.Accepted.{Accepted}
+use Rattle.slices.specs.Walks.{Inside, walked}
+use Rattle.slices.specs.Laws.{inside-more}
+use Rattle.slices.specs.declared.Walk.{Walk}
+use Rattle.text.specs.Words.{Word}
+use Rattle.walks.specs.States.{State, st, emit}
+use Rattle.walks.specs.Emits.{go}
+use Rattle.walks.specs.Steps.{kept, span-kept, segment-child}
+use Rattle.walks.specs.Ranges.{Range, range-of, range-in, select-filter}
+use Rattle.walks.specs.Items.{SegmentsAt, Parts, parts, Sliced, Filtered, segments-in, is-end, is-slice, is-filter}
+use Rattle.steps.specs.Leaves.{AskWalk, DoneWalk}
+use Rattle.visits.specs.Visits.{Given, Query, Head, AskWalked, AskPlaced, DonePlaced}
+use Rattle.visits.specs.Fronts.{never, Single, single}
+use Rattle.visits.specs.Heads.{head-read}
+use Rattle.visits.specs.Places.{goes-places}
+use Rattle.filters.specs.Kept.{Tested, AskTest, AskKept, tested-of}
+use Rattle.filters.specs.Keeps.{DoneRange}
+use Rattle.tasks.specs.declared.straight.Straight.{Straight}
+use Rattle.tasks.specs.Asks.{Room}
+use Rattle.tasks.specs.Laws.{segments-at, slice-asked, slice-done}
+use Rattle.tasks.specs.Selects.{over-range}
+
+-- ---- what is asked and given
+
+-- a segment stands at pc
+pub record AskLast (P : List ℕ) (pc : ℕ) : Type 0 where
+  pub few : length P ≤ maxPlan
+  pub L : List ℕ
+  pub fewL : length L ≤ maxPlan
+  pub query : Query P L pc
+  pub going : getD P pc 0 ≡ 0x0A → ⊥
+
+-- it is a child segment of one slice, and the query ends behind it
+pub record LastSlice (P : List ℕ) (pc : ℕ) : Type 0 where
+  pub head : Head P pc 7
+  pub ends : getD P (pc + 29) 0 ≡ 0x0A
+
+abbrev pub DoneLast : List ℕ → ℕ → Bits → Type 0
+DoneLast P pc r = r ≡ true → LastSlice P pc
+
+-- a segment stands at pc, and the next of len places is to be set
+pub record AskStraight (P L S X : List ℕ) (node pc len at cap : ℕ) : Type 0 where
+  pub given : Given P L S X
+  pub node-in : node < nodeCount S
+  pub query : Query P L pc
+  pub going : getD P pc 0 ≡ 0x0A → ⊥
+  pub list : Room len at cap
+
+abbrev pub DoneSlice : List ℕ → List ℕ → List ℕ → List ℕ → ℕ → ℕ → ℕ → List ℕ → ℕ → List ℕ → ℕ → Type 0
+DoneSlice P L S X node pc cap l at l′ r = (f : Segments) (k : ℕ) → SegmentsAt P L pc k f → (R : Json) → st cap l′ r ≡ go f R (nodeAt S X node ∷ []) (st cap l at)
+
+-- what the segments at pc select is pushed, or nothing
+pub record DoneStraight (P L S X : List ℕ) (root node pc cap : ℕ) (l : List ℕ) (at : ℕ) (l′ : List ℕ) (r : Straight) : Type 0 where
+  pub done : r .some ≡ true → (f : Segments) (k : ℕ) → SegmentsAt P L pc k f → st cap l′ (r .at) ≡ go f (nodeAt S X root) (nodeAt S X node ∷ []) (st cap l at)
+  pub left : r .some ≡ false → l′ ≡ l
+
+-- ---- where it stands
+
+-- four bytes at least are there
+pub segment-bound : {P L : List ℕ} {pc : ℕ} → length P ≤ maxPlan → Query P L pc → (getD P pc 0 ≡ 0x0A → ⊥) → pc + 4 ≤ length P
+segment-bound {P} {L} {pc} few q n = omega (arith, parts P L few pc (q .k) (q .f) (q .at) n .bound)
+
+-- a slice is of 26 bytes, and something follows
+module _ {P L : List ℕ} {pc k : ℕ} {f : Segments} (few : length P ≤ maxPlan) (fewL : length L ≤ maxPlan) (h : Head P pc 7) (y : Single P L pc k f) where
+  pub sliced : Sliced P (pc + 3) k (y .x)
+  sliced = is-slice P L few fewL (pc + 3) k (y .x) (y .here) (h .kind-is)
+
+  pub slice-bound : pc + 29 < length P
+  slice-bound = omega (arith, sliced .long, segments-in P L _ (y .j′) (y .behind) (y .after))
+
+  slice-ended : getD P (pc + 29) 0 ≡ 0x0A → y .behind ≡ end
+  slice-ended e =
+      let z : pc + 3 + length (codeSelector (y .x) k) ≡ pc + 29 = omega (arith, sliced .long) in
+      is-end P _ (y .j′) (y .behind) (y .after .holds) (ap (λ (x : ℕ). getD P x 0) z ∙ e)
+
+pub last-bound : {P : List ℕ} {pc : ℕ} (a : AskLast P pc) → Head P pc 7 → pc + 29 < length P
+last-bound a h = slice-bound (a .few) (a .fewL) h (single (a .few) h (a .query .at))
+
+-- ---- the places of a slice
+
+module _ {P L S X : List ℕ} {node pc len at cap : ℕ} (a : AskStraight P L S X node pc len at cap) (b : LastSlice P pc) where
+  pub last-asked : AskWalk P S (pc + 3) node
+  last-asked =
+      let g = a .given in
+      slice-asked (g .tab) (a .node-in) (sliced (g .fewP) (g .fewL) (b .head) (single (g .fewP) (b .head) (a .query .at)))
+
+  module _ (first : ℕ) (e : first ≡ lowWord S node) (w : Walk) (d : DoneWalk P S (pc + 3) node w) where
+    -- the range of children that it is taken from
+    taken-from : Range S node first (childCount S node)
+    taken-from = range-of S X (a .given .tab) node (a .node-in) first (childCount S node) e refl
+
+    taken-in : 0 < childCount S node → first + childCount S node ≤ nodeCount S
+    taken-in = range-in S X (a .given .tab) node (a .node-in) first (childCount S node) taken-from
+
+    pub last-placed : AskPlaced S first w
+    last-placed = record { few = a .given .tab .size .few; c = childCount S node; inside = d .inside; range = taken-in }
+
+    module _ (v : Walk) (p : DonePlaced S first w v) where
+      places-in : Inside (nodeCount S) v
+      places-in = p .inside (childCount S node) (d .inside) taken-in
+
+      pub last-walked : AskWalked len v at cap
+      last-walked = record { room = a .list .room; wide = a .list .wide; small = a .list .small; inside = inside-more (nodeCount S) maxNodes v (a .given .tab .size .few) places-in }
+
+      pub last-done : (l l′ : List ℕ) (r : ℕ) → st cap l′ r ≡ emit (walked v) (st cap l at) → DoneSlice P L S X node pc cap l at l′ r
+      unfolding evalSelectors
+      last-done l l′ r m f k q R =
+          let g = a .given in
+          let s = st cap l at in
+          let y = single (g .fewP) (b .head) q in
+          m
+          ∙ goes-places (y .behind) R S X (g .tab) (slice-ended (g .fewP) (g .fewL) (b .head) y (b .ends)) v s places-in
+          ∙ p .picks (childCount S node) (d .inside) X (y .behind) R s
+          ∙ slice-done (g .tab) (a .node-in) taken-from (sliced (g .fewP) (g .fewL) (b .head) y) w d (y .behind) R s
+          ∙ segment-child (one (y .x)) (y .behind) f R (nodeAt S X node) s (y .made)
+
+-- ---- the children that a filter keeps
+
+module _ {P L : List ℕ} {pc k : ℕ} {f : Segments} (few : length P ≤ maxPlan) (fewL : length L ≤ maxPlan) (h : Head P pc 9) (y : Single P L pc k f) where
+  filtered : Filtered P L (pc + 3) k (y .x)
+  filtered =
+      let e = h .kind-is in
+      is-filter P L few fewL (pc + 3) k (y .x) (y .here) (λ z. omega arith) (λ z. omega arith) (λ z. omega arith) (λ z. omega arith)
+
+  -- the query behind it, at the place that is read
+  behind-at : (n : ℕ) → Word 2 P (pc + 3 + 1) n → SegmentsAt P L (pc + 3 + 3 + n) (y .j′) (y .behind)
+  behind-at n w = segments-at (pc + 3 + 3 + n) (omega (arith, filtered .long, filtered .count, w .is)) (y .after)
+
+module _ {P L S X : List ℕ} {node pc len at cap : ℕ} (a : AskStraight P L S X node pc len at cap) (h : Head P pc 9) where
+  -- the segment that stands there
+  asked-single : Single P L pc (a .query .k) (a .query .f)
+  asked-single = single (a .given .fewP) h (a .query .at)
+
+  pub filter-bound : pc + 3 + 3 ≤ length P
+  filter-bound = filtered (a .given .fewP) (a .given .fewL) h asked-single .bound
+
+  module _ (n : ℕ) (w : Word 2 P (pc + 3 + 1) n) where
+    pub filter-test : AskTest P L (pc + 3 + 3) (pc + 3 + 3 + n)
+    filter-test = let x = filtered (a .given .fewP) (a .given .fewL) h asked-single in record { t = x .t; k = a .query .k; stands = tested-of x n w }
+
+    pub filter-query : Query P L (pc + 3 + 3 + n)
+    filter-query = record { f = asked-single .behind; k = asked-single .j′; at = behind-at (a .given .fewP) (a .given .fewL) h asked-single n w }
+
+    module _ {root i c : ℕ} (root-in : root < nodeCount S) (e : i ≡ lowWord S node) (m : c ≡ childCount S node) where
+      -- the range of children
+      all-children : Range S node i c
+      all-children = range-of S X (a .given .tab) node (a .node-in) i c e m
+
+      pub filter-asked : AskKept P L S X root i (i + c) (pc + 3 + 3 + n) len at cap
+      filter-asked =
+          record {
+            given = a .given;
+            root-in = root-in;
+            range = λ u. range-in S X (a .given .tab) node (a .node-in) i c all-children (omega arith);
+            query = filter-query;
+            room = a .list .room;
+            wide = a .list .wide;
+            small = a .list .small;
+          }
+
+      pub filter-done : {l l′ : List ℕ} {r : ℕ} → DoneRange P L S X root i (i + c) (pc + 3 + 3) (pc + 3 + 3 + n) (pc + 3 + 3 + n) cap l at l′ r → DoneStraight P L S X root node pc cap l at l′ (record { at = r; some = true })
+      unfolding evalSelectors
+      filter-done {l} {l′} {r} d =
+          record {
+            done = λ u f k q.
+                let g = a .given in
+                let R = nodeAt S X root in
+                let s = st cap l at in
+                let y = single (g .fewP) h q in
+                let x = filtered (g .fewP) (g .fewL) h y in
+                d .ended (x .t) k (y .behind) (y .j′) (tested-of x n w) (behind-at (g .fewP) (g .fewL) h y n w)
+                ∙ over-range (y .behind) R (kept (x .t) R) S X i c s
+                ∙ span-kept (y .behind) (x .t) R S X i c s
+                ∙ select-filter S X (g .tab) node (a .node-in) i c all-children (y .behind) R s (y .x) (x .t) (x .made)
+                ∙ segment-child (one (y .x)) (y .behind) f R (nodeAt S X node) s (y .made);
+            left = λ u. absurd (never (sym u));
+          }
+
+-- the segment needs tasks
+pub straight-left : {P L S X : List ℕ} {root node pc cap : ℕ} {l : List ℕ} {at : ℕ} → DoneStraight P L S X root node pc cap l at l (record { at = at; some = false })
+straight-left = record { done = λ u. absurd (never u); left = λ u. refl }
