@@ -4,7 +4,8 @@ use mathlib.Core.Path.{_≡_, refl, sym, ap, _∙_, subst}
 use mathlib.Core.List.{List, [], _∷_}
 use mathlib.Core.Bool.{Bool as Bits, true, false, cond, _&&_}
 use lib.Dec.{eqb, leb}
-use lib.ListN.{length, getD}
+use lib.ListN.{length, getD, take, drop}
+use lib.Seq.{take-all}
 use native.Mathlib.Nat.{mul-le-mul-right}
 use native.Mathlib.Omega.{arith}
 use borrow.Author.Tests.{leb-true, leb-false}
@@ -15,14 +16,13 @@ use Rattle.definition.specs.Forms.Selector.{filter}
 use Rattle.definition.specs.Tables.{nodeCount, nodeAt, depthAt}
 use Rattle.definition.specs.Evaluation.{evalTest}
 use Rattle.text.specs.Words.{Word}
-use Rattle.walks.specs.States.{State, st}
+use Rattle.walks.specs.States.{State, st, push}
 use Rattle.walks.specs.Emits.{go}
-use Rattle.walks.specs.Steps.{kept, kept-in, kept-out}
-use Rattle.walks.specs.Items.{SegmentsAt, SelectorAt, Filtered, is-filter, selectorKind, kind-of-selector}
-use Rattle.visits.specs.Visits.{Query, DoneVisit, AskVisit, over}
-use Rattle.visits.specs.Overs.{over-step, over-end, over-full}
-use Rattle.visits.specs.Fronts.{never}
-use Rattle.visits.specs.declared.Visited.{Visited}
+use Rattle.walks.specs.Steps.{kept, kept-in, segment-end}
+use Rattle.walks.specs.Items.{SegmentsAt, SelectorAt, Filtered, is-end, is-filter, selectorKind, kind-of-selector}
+use Rattle.visits.specs.Visits.{Query, AskPush, AskReach, DoneReach, over}
+use Rattle.visits.specs.Overs.{over-step}
+use Rattle.visits.specs.declared.Reached.{Reached}
 use Rattle.visits.specs.declared.Stop.{Stop}
 use Rattle.tasks.specs.declared.Task.{Task}
 use Rattle.tasks.specs.declared.Pos.{Pos}
@@ -33,35 +33,73 @@ use Rattle.tasks.specs.Weights.{rank, weight, total, weight-some, total-top}
 use Rattle.tasks.specs.Asks.{AskSegment, DoneSegment, AskSuspend, DoneSuspend, AskTurn as AskAny, DoneTurn as DoneAny}
 use Rattle.tasks.specs.Stacks.{top, as-keeps, kinds, none-left, finish-full, later-then}
 use Rattle.tasks.specs.Laws.{alone-in}
+use Rattle.tasks.specs.Straights.{AskLast, AskStraight}
 use Rattle.run.specs.Asks.{Asked, AskSegments, DoneSegments, AskWalk, AskTurn, DoneTurn}
 use Rattle.filters.specs.Kept.{Tested, AskTest, AskKept, DoneKept, tested-of}
 use Rattle.run.specs.Loops.{InWalk}
 
--- ---- one node at the front of a query
+-- ---- the front of a query
 
--- where the front of a query leads, what follows selects
-pub visit-on : {P L S X : List ℕ} {node pc cap : ℕ} {l : List ℕ} {at : ℕ} {l′ : List ℕ} {v : Visited} → DoneVisit P L S X node pc cap l at l′ v → v .more ≡ true
-    → (root : ℕ) (l″ : List ℕ) (r : ℕ) → DoneSegments cap P L S X root (v .node) (v .pc) l′ at l″ r → DoneSegments cap P L S X root node pc l at l″ r
-visit-on {S = S} {X = X} {cap = cap} {l = l} {at = at} {v = v} d m root l″ r y f k a =
-    let o = d .paused m .onward f k a in
-    y (o .g) (o .j) (o .at) ∙ ap (λ (u : List ℕ). go (o .g) (nodeAt S X root) (nodeAt S X (v .node) ∷ []) (st cap u at)) (d .places m) ∙ o .same (nodeAt S X root) (st cap l at)
+pub front-asked : {P L S X : List ℕ} {root node len at cap pc : ℕ} → Asked P L S X root node len at cap → AskSegments P L pc → AskReach P L S X node pc
+front-asked a q = record { given = record { fewP = a .fewP; fewL = a .fewL; tab = a .tab }; node-in = a .node-in; query = record { f = q .f; k = q .k; at = q .at } }
 
-pub visit-asked : {P L S X : List ℕ} {root node len at cap pc : ℕ} → Asked P L S X root node len at cap → AskSegments P L pc → AskVisit P L S X node pc len at cap
-visit-asked a q =
+module _ {P L S X : List ℕ} {root node len at cap pc : ℕ} (a : Asked P L S X root node len at cap) (q : AskSegments P L pc) {v : Reached} (d : DoneReach P L S X node pc v) where
+  -- it leads nowhere
+  pub front-lost : v .some ≡ false → (l : List ℕ) → DoneSegments cap P L S X root node pc l at l at
+  front-lost e l f k b = d .front f k b .lost e (nodeAt S X root) (st cap l at)
+
+  -- where it leads, what follows selects
+  pub front-on : v .some ≡ true → (l l′ : List ℕ) (r : ℕ) → DoneSegments cap P L S X root (v .node) (v .pc) l at l′ r → DoneSegments cap P L S X root node pc l at l′ r
+  front-on e l l′ r y f k b = let w = d .front f k b in y (w .g) (w .j) (w .at) ∙ w .found e (nodeAt S X root) (st cap l at)
+
+  -- nothing follows
+  pub front-end : v .some ≡ true → getD P (v .pc) 0 ≡ 0x0A → (l l′ : List ℕ) (r : ℕ) → st cap l′ r ≡ push (v .node) (st cap l at) → DoneSegments cap P L S X root node pc l at l′ r
+  front-end e n l l′ r p = front-on e l l′ r (λ f k b. p ∙ segment-end S X (a .tab) f (nodeAt S X root) (v .node) (d .node-in) (st cap l at) (is-end P (v .pc) k f (b .holds) n))
+
+  pub front-push : AskPush len at (v .node) cap
+  front-push = record { room = a .room; wide = a .wide; small = a .small; number = omega (arith, d .node-in, a .tab .size .few) }
+
+  -- a segment follows
+  module _ (n : getD P (v .pc) 0 ≡ 0x0A → ⊥) where
+    pub front-walk : AskWalk P L (v .pc)
+    front-walk = let w = d .front (q .f) (q .k) (q .at) in record { query = record { f = w .g; k = w .j; at = w .at }; going = n }
+
+    pub front-last : AskLast P (v .pc)
+    front-last = let w = d .front (q .f) (q .k) (q .at) in record { few = a .fewP; L = L; fewL = a .fewL; query = record { f = w .g; k = w .j; at = w .at }; going = n }
+
+  pub front-here : Asked P L S X root (v .node) len at cap
+  front-here = record { fewP = a .fewP; fewL = a .fewL; tab = a .tab; root-in = a .root-in; node-in = d .node-in; room = a .room; wide = a .wide; small = a .small }
+
+-- ---- a segment without tasks
+
+pub straight-asked : {P L S X : List ℕ} {root node len at cap pc : ℕ} → Asked P L S X root node len at cap → AskWalk P L pc → AskStraight P L S X node pc len at cap
+straight-asked a q =
     record {
       given = record { fewP = a .fewP; fewL = a .fewL; tab = a .tab };
       node-in = a .node-in;
-      query = record { f = q .f; k = q .k; at = q .at };
-      room = a .room;
-      wide = a .wide;
-      small = a .small;
+      query = q .query;
+      going = q .going;
+      list = record { room = a .room; wide = a .wide; small = a .small };
     }
 
-pub walk-asked : {P L S X : List ℕ} {node pc cap : ℕ} {l : List ℕ} {at : ℕ} {l′ : List ℕ} {v : Visited} → DoneVisit P L S X node pc cap l at l′ v → v .more ≡ true → AskSegments P L pc → AskWalk P L (v .pc)
-walk-asked d m q = let o = d .paused m .onward (q .f) (q .k) (q .at) in record { query = record { f = o .g; k = o .j; at = o .at }; going = d .paused m .going }
+-- where it needs them, the list is as it was
+pub list-asked : {P L S X : List ℕ} {root node at cap : ℕ} {l l′ : List ℕ} → l′ ≡ l → Asked P L S X root node (length l) at cap → Asked P L S X root node (length l′) at cap
+list-asked e a = rw e a
 
-pub visited-asked : {P L S X : List ℕ} {root node len at cap : ℕ} → Asked P L S X root node len at cap → (node′ len′ : ℕ) → node′ < nodeCount S → len′ ≡ len → Asked P L S X root node′ len′ at cap
-visited-asked a node′ len′ h e = record { fewP = a .fewP; fewL = a .fewL; tab = a .tab; root-in = a .root-in; node-in = h; room = a .room; wide = omega (arith, a .wide); small = a .small }
+pub list-done : (P L S X : List ℕ) (root node pc at cap : ℕ) (l l′ l″ : List ℕ) (r : ℕ) → l′ ≡ l → DoneSegments cap P L S X root node pc l′ at l″ r → DoneSegments cap P L S X root node pc l at l″ r
+list-done P L S X root node pc at cap l l′ l″ r e y f k a = y f k a ∙ ap (λ (u : List ℕ). go f (nodeAt S X root) (nodeAt S X node ∷ []) (st cap u at)) e
+
+-- ---- slices that are lent whole
+
+pub whole : (l : List ℕ) → take (length l - 0) (drop 0 l) ≡ l
+whole l = take-all (length l - 0) l (omega arith)
+
+module _ {P L S X P′ L′ S′ X′ : List ℕ} (p : P′ ≡ P) (l : L′ ≡ L) (s : S′ ≡ S) (x : X′ ≡ X) where
+  pub whole-asked : {root node len at cap pc : ℕ} → Asked P L S X root node len at cap → AskWalk P L pc → Asked P′ L′ S′ X′ root node len at cap × AskWalk P′ L′ pc
+  whole-asked a q = rw (p, l, s, x) (a, q)
+
+  pub whole-done : (root node pc at cap : ℕ) (l₀ l₁ : List ℕ) (r : ℕ) → DoneSegments cap P′ L′ S′ X′ root node pc l₀ at l₁ r → DoneSegments cap P L S X root node pc l₀ at l₁ r
+  whole-done root node pc at cap l₀ l₁ r y = rw (sym p, sym l, sym s, sym x) y
 
 -- ---- the tasks that are left
 

@@ -12,6 +12,7 @@ use tasks::Task;
 use tasks::cells;
 use tasks::segments;
 use tasks::segments::KEPT;
+use tasks::straight;
 use tasks::turns;
 use text::bytes;
 use visits::Stop;
@@ -31,7 +32,8 @@ const LENGTH: u8 = 0x1A;
 // As many tasks as a walk can have at once, of five cells each.
 const CELLS: usize = 960;
 
-// From one node, what the segments at pc select.
+// From one node, what the segments at pc select. What needs no walk is done here. The walk is given parts that are the whole, so that a compiler can keep the
+// slices themselves in registers up to there.
 pub fn evaluate_segment(
     plan: &[u8],
     pool: &[u8],
@@ -48,14 +50,33 @@ pub fn evaluate_segment(
     requires { ⌜ AskSegments (now plan) (now pool) pc ⌝ }
     ensures { λ r. ⌜ DoneSegments cap (now (plan .entry)) (now (pool .entry)) (now (table .entry)) (now (text .entry)) root node pc (now (list .entry)) at (now (list .exit)) r ⌝ }
 {
-    let v = visits::visit(plan, pool, table, text, node, pc, list, at, cap);
-    if !v.more {
-        return v.at;
+    let r = visits::front(plan, pool, table, text, node, pc);
+    if !r.some {
+        return at;
     }
-    walk(plan, pool, table, text, root, v.node, v.pc, list, at, cap)
+    let m = r.node;
+    let q = r.pc;
+    if plan[q] == END {
+        return visits::push(list, at, m, cap);
+    }
+    if straight::is_last_slice(plan, q) {
+        return straight::push_slice(plan, pool, table, text, m, q, list, at, cap);
+    }
+    walk(
+        &plan[0..],
+        &pool[0..],
+        &table[0..],
+        &text[0..],
+        root,
+        m,
+        q,
+        list,
+        at,
+        cap,
+    )
 }
 
-// The same where a segment stands at pc, with cells of its own for tasks.
+// The same where a segment stands at pc: without tasks, or with cells of its own for them.
 fn walk(
     plan: &[u8],
     pool: &[u8],
@@ -72,6 +93,10 @@ fn walk(
     requires { ⌜ AskWalk (now plan) (now pool) pc ⌝ }
     ensures { λ r. ⌜ DoneSegments cap (now (plan .entry)) (now (pool .entry)) (now (table .entry)) (now (text .entry)) root node pc (now (list .entry)) at (now (list .exit)) r ⌝ }
 {
+    let d = straight::keep_children(plan, pool, table, text, root, node, pc, list, at, cap);
+    if d.some {
+        return d.at;
+    }
     let mut tasks = [0u16; CELLS];
     walk_in(
         plan,

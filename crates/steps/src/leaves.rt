@@ -113,7 +113,7 @@ pub fn named(
     members::find_member(table, text, first, count, pool, start, size)
 }
 
-// The same for the front of a whole query alone. There are two because a compiler puts a function with one caller into it, and only short ones of several.
+// The same, called only by `visits::front`. There are two because a compiler puts a function into its caller where it has one only; with two it would be called.
 pub fn first_named(
     plan: &[u8],
     pool: &[u8],

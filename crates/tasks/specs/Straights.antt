@@ -1,36 +1,34 @@
 -- Segments on one node that need no tasks: what the functions ask and give, and what each part of them comes to. Each answer holds for every form whose code stands
 -- there. P is the plan, L the pool, S the table, X the text. Assumes nothing.
 use Prim.Native.Nat.{ℕ, _+_, _*_, _≤_, _<_}
-use mathlib.Core.Path.{_≡_, refl, sym, ap, _∙_, subst}
+use mathlib.Core.Path.{_≡_, refl, sym, ap, _∙_}
 use mathlib.Core.List.{List, [], _∷_}
 use mathlib.Core.Bool.{Bool as Bits, true, false}
 use lib.ListN.{length, getD}
 use native.Mathlib.Omega.{arith}
-use Rattle.definition.specs.Bytes.{number, part}
 use Rattle.definition.specs.Limits.{maxPlan, maxNodes}
 use Rattle.definition.specs.Values.{Json}
-use Rattle.definition.specs.Forms.{Segments, Selector}
+use Rattle.definition.specs.Forms.{Segments}
 use Rattle.definition.specs.Forms.Segments.{end}
 use Rattle.definition.specs.Forms.Selectors.{one}
 use Rattle.definition.specs.Plans.{codeSelector}
 use Rattle.definition.specs.Tables.{nodeCount, nodeAt, lowWord, childCount}
-use Rattle.definition.specs.Evaluation.{evalSelectors, evalSelector}
-use Rattle.tables.specs.Accepted.{Accepted}
+use Rattle.definition.specs.Evaluation.{evalSelectors}
 use Rattle.slices.specs.Walks.{Inside, walked}
 use Rattle.slices.specs.Laws.{inside-more}
 use Rattle.slices.specs.declared.Walk.{Walk}
 use Rattle.text.specs.Words.{Word}
-use Rattle.walks.specs.States.{State, st, emit}
+use Rattle.walks.specs.States.{st, emit}
 use Rattle.walks.specs.Emits.{go}
 use Rattle.walks.specs.Steps.{kept, span-kept, segment-child}
 use Rattle.walks.specs.Ranges.{Range, range-of, range-in, select-filter}
-use Rattle.walks.specs.Items.{SegmentsAt, Parts, parts, Sliced, Filtered, segments-in, is-end, is-slice, is-filter}
+use Rattle.walks.specs.Items.{SegmentsAt, parts, Sliced, Filtered, segments-in, is-end, is-slice, is-filter}
 use Rattle.steps.specs.Leaves.{AskWalk, DoneWalk}
 use Rattle.visits.specs.Visits.{Given, Query, Head, AskWalked, AskPlaced, DonePlaced}
 use Rattle.visits.specs.Fronts.{never, Single, single}
 use Rattle.visits.specs.Heads.{head-read}
 use Rattle.visits.specs.Places.{goes-places}
-use Rattle.filters.specs.Kept.{Tested, AskTest, AskKept, tested-of}
+use Rattle.filters.specs.Kept.{AskTest, AskKept, tested-of}
 use Rattle.filters.specs.Keeps.{DoneRange}
 use Rattle.tasks.specs.declared.straight.Straight.{Straight}
 use Rattle.tasks.specs.Asks.{Room}
@@ -76,6 +74,10 @@ pub record DoneStraight (P L S X : List ℕ) (root node pc cap : ℕ) (l : List 
 -- four bytes at least are there
 pub segment-bound : {P L : List ℕ} {pc : ℕ} → length P ≤ maxPlan → Query P L pc → (getD P pc 0 ≡ 0x0A → ⊥) → pc + 4 ≤ length P
 segment-bound {P} {L} {pc} few q n = omega (arith, parts P L few pc (q .k) (q .f) (q .at) n .bound)
+
+-- a child segment of one selector of a kind, by the number that they are read as
+pub head-at : {P L : List ℕ} {pc n : ℕ} (kind : ℕ) → ((k : ℕ) → getD P k 0 < 256) → length P ≤ maxPlan → Query P L pc → (getD P pc 0 ≡ 0x0A → ⊥) → Word 4 P pc n → n ≡ 0x103 + 16777216 * kind → Head P pc kind
+head-at kind b few q n w e = head-read kind b (segment-bound few q n) (w .is) e
 
 -- a slice is of 26 bytes, and something follows
 module _ {P L : List ℕ} {pc k : ℕ} {f : Segments} (few : length P ≤ maxPlan) (fewL : length L ≤ maxPlan) (h : Head P pc 7) (y : Single P L pc k f) where

@@ -133,7 +133,7 @@ pub fn reach(plan: &[u8], pool: &[u8], table: &[u8], text: &[u8], node: usize, p
     }
 }
 
-// The same for the front of a whole query. There are two because a compiler puts a function with one caller into it, and this one has one.
+// The same where a selection begins, called only there. There are two because a compiler puts a function into its caller where it has one only.
 pub fn front(plan: &[u8], pool: &[u8], table: &[u8], text: &[u8], node: usize, pc: usize) -> Reached
     requires { ⌜ AskReach (now plan) (now pool) (now table) (now text) node pc ⌝ }
     ensures { λ r. ⌜ DoneReach (now (plan .entry)) (now (pool .entry)) (now (table .entry)) (now (text .entry)) node pc r ⌝ }

@@ -60,8 +60,9 @@ pub +eval-filter+eval-filter-expr+eval-query+eval-rest+turn-filter+walk+walk-in-
     (TurnFilter.add-eval-filter t) (TurnFilter.eval-filter-requires t) (TurnFilter.same-length-2 t)
     (TurnFilter.returns-2 t) (TurnFilter.add-t23 t) (TurnFilter.suspend-requires t)
     (TurnFilter.same-length-3 t) (TurnFilter.same-length-4 t) (TurnFilter.returns-3 t))
-    (λ t. walk-lts.spec (Walk.calls t) (walk-at t) walk.Post (Walk.slice-aggregate-walk-in t)
-    (Walk.walk-in-requires t) (Walk.same-length t) (Walk.returns t))
+    (λ t. walk-lts.spec (Walk.calls t) (walk-at t) walk.Post (Walk.keep-children-requires t)
+    (Walk.same-length t) (Walk.returns t) (Walk.slice-aggregate-walk-in t) (Walk.walk-in-requires t)
+    (Walk.same-length-2 t) (Walk.returns-2 t))
     (λ t. walk-in-lts.spec (WalkIn.calls t) (walk-in-at t) walk-in.Post WalkIn.Inv-loop WalkIn.μ-loop
     (WalkIn.apply-selectors-requires t) (WalkIn.loop-holds t) (WalkIn.same-length t) (WalkIn.same-length-2 t)
     (WalkIn.returns t) (WalkIn.sub-get t) (WalkIn.get-requires t) (WalkIn.turn-filter-requires t)

@@ -2,8 +2,7 @@
 use native.Mathlib.Omega.{arith}
 use borrow.Author.Tests.{eqb-true}
 use Rattle.visits.specs.Fronts.{never}
-use Rattle.visits.specs.Heads.{head-read}
-use Rattle.tasks.specs.Straights.{segment-bound, last-bound}
+use Rattle.tasks.specs.Straights.{segment-bound, head-at, last-bound}
 use Rattle.tasks.proofs.straight.is_last_slice.Statement.{statement}
 use Rattle.tasks.proofs.straight.is_last_slice.Tie as tie
 
@@ -20,13 +19,13 @@ shared-slice-read-result : tie.Need-shared-slice-read-result
 shared-slice-read-result c =
     let s = c .before .before .before in
     let a = s .before .pre in
-    last-bound a (head-read 7 (λ k. s .shared-slice-known .given k .fits) (segment-bound (a .few) (a .query) (a .going)) (c .before .before .word32 .ensures .is) (c .before .if1 .left))
+    last-bound a (head-at 7 (λ k. s .shared-slice-known .given k .fits) (a .few) (a .query) (a .going) (c .before .before .word32 .ensures) (c .before .if1 .left))
 
 returns-2 : tie.Need-returns-2
 returns-2 c =
     let s = c .before .before .before in
     let a = s .before .pre in
-    λ e. record { head = head-read 7 (λ k. s .shared-slice-known .given k .fits) (segment-bound (a .few) (a .query) (a .going)) (c .before .before .word32 .ensures .is) (c .before .if1 .left); ends = eqb-true _ _ e }
+    λ e. record { head = head-at 7 (λ k. s .shared-slice-known .given k .fits) (a .few) (a .query) (a .going) (c .before .before .word32 .ensures) (c .before .if1 .left); ends = eqb-true _ _ e }
 
 pub is-last-slice-spec : {M : Type 1} → statement M
 is-last-slice-spec = tie.close (tie.spec word32-requires returns add-result shared-slice-read-result returns-2)

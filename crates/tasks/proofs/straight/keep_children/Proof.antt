@@ -1,9 +1,8 @@
 -- `tasks::straight::keep_children` meets its contract: the children that the filter keeps are what the segment selects. Assumes nothing.
 use native.Mathlib.Omega.{arith}
 use borrow.Author.Needs.{needs}
-use Rattle.visits.specs.Heads.{head-read}
 use Rattle.filters.specs.Keeps.{test-code, tail-asked}
-use Rattle.tasks.specs.Straights.{segment-bound, filter-bound, filter-test, filter-query, filter-asked, filter-done, straight-left}
+use Rattle.tasks.specs.Straights.{segment-bound, head-at, filter-bound, filter-test, filter-query, filter-asked, filter-done, straight-left}
 use Rattle.tasks.proofs.straight.keep_children.Statement.{statement}
 use Rattle.tasks.proofs.straight.keep_children.Tie as tie
 
@@ -26,7 +25,7 @@ word16-requires : tie.Need-word16-requires
 word16-requires c κs =
     let s = c .before .before .before .before .before .before in
     let a = s .before .pre .0 in
-    let h = head-read 9 (λ k. s .shared-slice-known .given k .fits) (segment-bound (a .given .fewP) (a .query) (a .going)) (c .before .word32 .ensures .is) (c .if1 .left) in
+    let h = head-at 9 (λ k. s .shared-slice-known .given k .fits) (a .given .fewP) (a .query) (a .going) (c .before .word32 .ensures) (c .if1 .left) in
     omega (arith, filter-bound a h)
 
 add-z-2 : tie.Need-add-z-2
@@ -39,7 +38,7 @@ read-form-requires : tie.Need-read-form-requires
 read-form-requires c κs =
     let s = c .before .before .before .before .before .before .before in
     let a = s .before .pre .0 in
-    let h = head-read 9 (λ k. s .shared-slice-known .given k .fits) (segment-bound (a .given .fewP) (a .query) (a .going)) (c .before .before .word32 .ensures .is) (c .before .if1 .left) in
+    let h = head-at 9 (λ k. s .shared-slice-known .given k .fits) (a .given .fewP) (a .query) (a .going) (c .before .before .word32 .ensures) (c .before .if1 .left) in
     (test-code (a .given .fewP) (filter-test a h _ (c .word16 .ensures)), tail-asked (a .given .fewP) (filter-query a h _ (c .word16 .ensures)))
 
 returns-2 : tie.Need-returns-2
@@ -69,7 +68,7 @@ keep-requires c κs =
     let s = d .before .before .before .before .before .before .before in
     let z = s .before .pre in
     let a = z .0 in
-    let h = head-read 9 (λ k. s .shared-slice-known .given k .fits) (segment-bound (a .given .fewP) (a .query) (a .going)) (d .before .before .word32 .ensures .is) (d .before .if1 .left) in
+    let h = head-at 9 (λ k. s .shared-slice-known .given k .fits) (a .given .fewP) (a .query) (a .going) (d .before .before .word32 .ensures) (d .before .if1 .left) in
     let w = d .word16 .ensures in
     (filter-asked a h _ w (z .1) (c .before .low-word .ensures) (c .before .before .child-count .ensures), (filter-test a h _ w, (c .before .before .before .before .before .read-form .ensures, c .before .before .before .if2 .left)))
 
@@ -82,7 +81,7 @@ returns-3 c =
     let s = d .before .before .before .before .before .before .before in
     let z = s .before .pre in
     let a = z .0 in
-    let h = head-read 9 (λ k. s .shared-slice-known .given k .fits) (segment-bound (a .given .fewP) (a .query) (a .going)) (d .before .before .word32 .ensures .is) (d .before .if1 .left) in
+    let h = head-at 9 (λ k. s .shared-slice-known .given k .fits) (a .given .fewP) (a .query) (a .going) (d .before .before .word32 .ensures) (d .before .if1 .left) in
     filter-done a h _ (d .word16 .ensures) (z .1) (c .before .before .before .before .low-word .ensures) (c .before .before .before .before .before .child-count .ensures) (c .before .before .keep .ensures)
 
 pub keep-children-spec : {M : Type 1} → statement M
