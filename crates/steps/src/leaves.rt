@@ -133,6 +133,9 @@ pub fn first_named(
     }
     let first = records::low_word(table, node) as usize;
     let count = records::child_count(table, node) as usize;
+    if members::is_short(size) {
+        return members::find_short(table, text, first, count, pool, start, size);
+    }
     members::find_member(table, text, first, count, pool, start, size)
 }
 

@@ -8,7 +8,7 @@ use lib.ListN.{length, getD}
 use native.Mathlib.Omega.{arith}
 use lib.Dec.{eqb}
 use borrow.Author.Tests.{eqb-true}
-use Rattle.definition.specs.Limits.{maxPlan}
+use Rattle.definition.specs.Limits.{maxPlan, maxNodes}
 use Rattle.definition.specs.Values.{Json}
 use Rattle.definition.specs.Forms.{Segments, Selectors, Selector}
 use Rattle.definition.specs.Forms.Segments.{end, descendant}
@@ -167,3 +167,15 @@ module _ {P L S X : List ℕ} {i e pc cap : ℕ} {l : List ℕ} {at : ℕ} where
 
   pub start-flats : {b : Bits} {l′ : List ℕ} {r : Flat} → DonePlain P pc b → b ≡ true → DoneFlats P L S X i e (pc + 3) cap l at l′ r → DoneStart P L S X i e pc cap l at l′ r
   start-flats d t f = record { passes = f .passes; again = λ ss q k a R. let y = d .lone t L ss q k a in as-lone S X R ss q (y .x) (y .made) (y .ended) _ i e _ (st cap l at) (f .again (y .x) k (y .at) R) }
+
+-- ---- a name or an index whose kind was read
+
+pub only-name : {P L S X : List ℕ} {p node : ℕ} → AskOne P L S X p node 5 6 → getD P p 0 ≡ 5 → AskOne P L S X p node 5 5
+only-name a e = record { fewP = a .fewP; fewL = a .fewL; tab = a .tab; node-in = a .node-in; x = a .x; k = a .k; at = a .at; kind-low = a .kind-low; kind-high = omega arith }
+
+pub selected-in : {P L S X : List ℕ} {p node m : ℕ} → AskOne P L S X p node 5 6 → DoneOne P L S X p node (At m) → m < maxNodes
+selected-in {m = m} a o = omega (arith, o .inside m refl, a .tab .size .few)
+
+-- the same node by a number that was read
+pub selected-as : {P L S X : List ℕ} {p node : ℕ} (near j k : ℕ) → j ≡ k → DoneOne P L S X p node (At (k + near)) → DoneOne P L S X p node (At (j + near))
+selected-as near j k e o = rw e o

@@ -1,13 +1,22 @@
 // Nodes with no list or map among their children under a descendant segment of one name, index or wildcard that ends its query: there is nothing below them, so
 // that what is selected of them is pushed at once, and no task is needed. Under a filter that is one test of a member nothing is selected of them.
+use equal::members;
 use equal::members::Member;
 use filters::atoms;
 use steps::leaves;
 use steps::plans;
 use table::records;
 use text::bytes;
+ghost use mathlib.Core.Path.{_≡_};
+ghost use mathlib.Core.Bool.{true};
+ghost use Prim.Native.Nat.{_+_};
 ghost use lib.ListN.{length};
+ghost use Rattle.definition.specs.Tables.{lowWord};
+ghost use Rattle.equal.specs.declared.members.Member.the-variants.{At};
+ghost use Rattle.steps.specs.Leaves.{AskOne, DoneOne};
 ghost use Rattle.tasks.specs.Flats.{AskFlat, DoneFlat, AskPlain, DonePlain, AskSelected, DoneSelected, AskFlats, DoneFlats, AskMember, DoneMember, AskSkipped, DoneSkipped, AskStart, DoneStart};
+
+const NAME: u8 = 0x05;
 
 const SLICE: u8 = 0x07;
 
@@ -38,6 +47,52 @@ fn is_flat(table: &[u8], node: usize) -> bool
     i == e
 }
 
+// What is pushed of a node: the next place of the list, and the place among the members at which the next node is looked at first.
+struct Pushed {
+    at: usize,
+    near: usize,
+}
+
+// Whether a name stands at p, and the member of a node at place `near` has it: names of one map are different, so that it is the member that is selected.
+fn name_near(
+    plan: &[u8],
+    pool: &[u8],
+    table: &[u8],
+    text: &[u8],
+    p: usize,
+    node: usize,
+    near: usize,
+) -> bool
+    requires { ⌜ AskOne (now plan) (now pool) (now table) (now text) p node 5 6 ⌝ }
+    ensures { λ r. ⌜ (r ≡ true → DoneOne (now (plan .entry)) (now (pool .entry)) (now (table .entry)) (now (text .entry)) p node (At (lowWord (now (table .entry)) node + near))) ⌝ }
+{
+    if plan[p] != NAME {
+        return false;
+    }
+    let start = bytes::word16(plan, p + 1);
+    let size = bytes::word16(plan, p + 3);
+    members::is_near(table, text, node, near, pool, start, size)
+}
+
+// The node that the name or index at p selects of a node; of a name, the member at place `near` is looked at first.
+fn select_near(
+    plan: &[u8],
+    pool: &[u8],
+    table: &[u8],
+    text: &[u8],
+    p: usize,
+    node: usize,
+    near: usize,
+) -> Member
+    requires { ⌜ AskOne (now plan) (now pool) (now table) (now text) p node 5 6 ⌝ }
+    ensures { λ r. ⌜ DoneOne (now (plan .entry)) (now (pool .entry)) (now (table .entry)) (now (text .entry)) p node r ⌝ }
+{
+    if name_near(plan, pool, table, text, p, node, near) {
+        return Member::At(records::low_word(table, node) as usize + near);
+    }
+    leaves::select_one(plan, pool, table, text, p, node)
+}
+
 // The name, index or wildcard at p on a node: each selected node is pushed.
 fn push_selected(
     plan: &[u8],
@@ -46,27 +101,31 @@ fn push_selected(
     text: &[u8],
     node: usize,
     p: usize,
+    near: usize,
     list: &mut [u32],
     at: usize,
     cap: usize,
-) -> usize
+) -> Pushed
     requires { ⌜ AskSelected (now plan) (now pool) (now table) (now text) node p (length (now list)) at cap ⌝ }
-    ensures { λ r. ⌜ DoneSelected (now (plan .entry)) (now (pool .entry)) (now (table .entry)) (now (text .entry)) node p cap (now (list .entry)) at (now (list .exit)) r ⌝ }
+    ensures { λ r. ⌜ DoneSelected (now (plan .entry)) (now (pool .entry)) (now (table .entry)) (now (text .entry)) node p cap (now (list .entry)) at (now (list .exit)) (r .at) ⌝ }
 {
     if plan[p] == WILDCARD {
         let n = records::child_count(table, node) as usize;
         if n == 0 {
-            return at;
+            return Pushed { at, near };
         }
         let i = records::first_child(table, node) as usize;
         let e = i + n;
-        return visits::push_each(list, i, e, at, cap);
+        let a = visits::push_each(list, i, e, at, cap);
+        return Pushed { at: a, near };
     }
-    let found = leaves::select_one(plan, pool, table, text, p, node);
+    let found = select_near(plan, pool, table, text, p, node, near);
     let Member::At(m) = found else {
-        return at;
+        return Pushed { at, near };
     };
-    visits::push(list, at, m, cap)
+    let there = m - records::low_word(table, node) as usize;
+    let a = visits::push(list, at, m, cap);
+    Pushed { at: a, near: there }
 }
 
 // The nodes from i up to e with the selector at p, up to the first that has more below it. Once the cap is passed none is left.
@@ -87,6 +146,7 @@ fn flat_each(
 {
     let mut a = at;
     let mut j = i;
+    let mut near = 0;
     while j < e {
         if cap < a {
             return Flat { i: e, at: a };
@@ -94,7 +154,9 @@ fn flat_each(
         if !is_flat(table, j) {
             return Flat { i: j, at: a };
         }
-        a = push_selected(plan, pool, table, text, j, p, list, a, cap);
+        let pushed = push_selected(plan, pool, table, text, j, p, near, list, a, cap);
+        a = pushed.at;
+        near = pushed.near;
         j = visits::next_container(table, j + 1, e);
     }
     Flat { i: j, at: a }

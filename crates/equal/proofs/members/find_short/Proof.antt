@@ -1,6 +1,6 @@
 -- `equal::members::find_short` meets its contract, as find_member does: the ends of a name say whether it is the member's. Assumes nothing.
 use mathlib.Core.Path.{_≡_}
-use Rattle.equal.specs.Members.{lookup-start, lookup-step, lookup-found, lookup-end}
+use Rattle.equal.specs.Members.{key-same, lookup-start, lookup-step, lookup-found, lookup-end}
 use Rattle.walks.specs.Nodes.{kids}
 use Rattle.definition.specs.Values.{lookup}
 use Rattle.definition.specs.Bytes.{part}
@@ -46,7 +46,7 @@ part-has-ends-requires : tie.Need-part-has-ends-requires Inv-loop μ-loop
 part-has-ends-requires c κs = (omega (arith, c .before .key-start .ensures, c .key-length .ensures, c .before .before .before .before .before .before .before .before .pre .0 .keys (c .before .before .before .loop .i) (c .before .before .loop-test .taken)), c .before .before .before .before .before .before .before .before .pre .1 .1 .0)
 
 returns : tie.Need-returns Inv-loop μ-loop
-returns c = lookup-found _ _ _ _ _ _ (c .before .before .before .before .before .loop .inv) (c .before .before .before .before .loop-test .taken) _ _ _ (c .before .before .before .key-start .ensures) (c .before .before .key-length .ensures) (c .before .part-has-ends .ensures _ (c .before .before .before .before .before .before .part-ends .ensures)) (c .if1 .taken)
+returns c = lookup-found _ _ _ _ _ _ (c .before .before .before .before .before .loop .inv) (c .before .before .before .before .loop-test .taken) _ (key-same (c .before .before .before .before .before .before .before .before .before .before .args .table .now) (c .before .before .before .before .before .before .before .before .before .before .args .text .now) _ (c .before .before .before .before .before .before .before .before .before .before .args .first + c .before .before .before .before .before .loop .i) _ _ _ (c .before .before .before .key-start .ensures) (c .before .before .key-length .ensures) (c .before .part-has-ends .ensures _ (c .before .before .before .before .before .before .part-ends .ensures))) (c .if1 .taken)
 
 add-i : tie.Need-add-i Inv-loop μ-loop
 add-i c = omega arith
@@ -55,7 +55,7 @@ loop-less : tie.Need-loop-less Inv-loop μ-loop
 loop-less c = omega arith
 
 loop-again : tie.Need-loop-again Inv-loop μ-loop
-loop-again c = lookup-step _ _ _ _ _ _ (c .before .before .before .before .before .loop .inv) (c .before .before .before .before .loop-test .taken) _ _ _ (c .before .before .before .key-start .ensures) (c .before .before .key-length .ensures) (c .before .part-has-ends .ensures _ (c .before .before .before .before .before .before .part-ends .ensures)) (c .if1 .left)
+loop-again c = lookup-step _ _ _ _ _ _ (c .before .before .before .before .before .loop .inv) (c .before .before .before .before .loop-test .taken) _ (key-same (c .before .before .before .before .before .before .before .before .before .before .args .table .now) (c .before .before .before .before .before .before .before .before .before .before .args .text .now) _ (c .before .before .before .before .before .before .before .before .before .before .args .first + c .before .before .before .before .before .loop .i) _ _ _ (c .before .before .before .key-start .ensures) (c .before .before .key-length .ensures) (c .before .part-has-ends .ensures _ (c .before .before .before .before .before .before .part-ends .ensures))) (c .if1 .left)
 
 returns-2 : tie.Need-returns-2 Inv-loop μ-loop
 returns-2 c = lookup-end _ _ _ _ _ _ (c .before .loop .inv) (c .loop-test .left)

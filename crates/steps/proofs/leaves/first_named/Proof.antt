@@ -1,18 +1,24 @@
 -- `first_named` meets its contract: the member that is found under the name, or none. Assumes nothing.
 use native.Mathlib.Omega.{arith}
 use mathlib.Core.Path.{sym, _∙_}
-use borrow.Author.Needs.{needs}
 use Rattle.steps.specs.LeafLaws.{name-asked, name-else, name-members, name-found}
+use borrow.Author.Needs.{needs}
 use Rattle.steps.proofs.leaves.first_named.Statement.{statement}
 use Rattle.steps.proofs.leaves.first_named.Tie as tie
+use Rattle.steps.proofs.leaves.first_named.Reads as reads
+use Rattle.steps.proofs.leaves.first_named.Lts as lts
+use Rattle.equal.proofs.members.find_member.Reads as find-member-reads
+use Rattle.equal.proofs.members.find_short.Reads as find-short-reads
+use Rattle.equal.proofs.members.is_short.Reads as is-short-reads
+use Rattle.table.proofs.records.child_count.Reads as child-count-reads
+use Rattle.table.proofs.records.kind.Reads as kind-reads
+use Rattle.table.proofs.records.low_word.Reads as low-word-reads
 
 kind-requires : tie.Need-kind-requires
 kind-requires c κs = c .before .before .before .before .pre .0 .node-in
 
 returns : tie.Need-returns
-returns c =
-    let s = c .before .before .before .before .before .before in
-    name-else (s .pre .0) (λ z. c .if1 .taken (c .before .kind .ensures ∙ z))
+returns c = name-else (c .before .before .before .before .before .before .pre .0) (λ z. c .if1 .taken (c .before .kind .ensures ∙ z))
 
 low-word-requires : tie.Need-low-word-requires
 low-word-requires c κs = c .before .before .before .before .before .before .pre .0 .node-in
@@ -26,17 +32,28 @@ child-count-requires c κs = c .before .before .before .before .before .before .
 cast-count : tie.Need-cast-count
 cast-count c = search needs
 
-find-member-requires : tie.Need-find-member-requires
-find-member-requires c κs =
-    let s = c .before .before .before .before .before .before .before .before in
-    let d = name-asked (s .pre .0) .stands in
-    (name-members (s .pre .0) (sym (c .before .before .before .kind .ensures) ∙ c .before .before .if1 .left) _ _ (c .before .low-word .ensures) (c .child-count .ensures), omega (arith, s .pre .1 .0, s .pre .1 .1, d .start, d .size, d .inside))
+is-short-requires : tie.Need-is-short-requires
+is-short-requires c κs = search needs
+
+find-short-requires : tie.Need-find-short-requires
+find-short-requires c κs = 
+    let d = name-asked (c .before .before .before .before .before .before .before .before .before .before .pre .0) .stands in
+    (name-members (c .before .before .before .before .before .before .before .before .before .before .pre .0) (sym (c .before .before .before .before .before .kind .ensures) ∙ c .before .before .before .before .if1 .left) _ _ (c .before .before .before .low-word .ensures) (c .before .before .child-count .ensures), (omega (arith, c .before .before .before .before .before .before .before .before .before .before .pre .1 .0, c .before .before .before .before .before .before .before .before .before .before .pre .1 .1, d .start, d .size, d .inside), c .before .is-short .ensures (c .if2 .taken)))
 
 returns-2 : tie.Need-returns-2
-returns-2 c =
-    let s = c .before .before .before .before .before .before .before .before .before in
-    name-found (s .pre .0) (sym (c .before .before .before .before .kind .ensures) ∙ c .before .before .before .if1 .left) _ _ (c .before .before .low-word .ensures) (c .before .child-count .ensures)
-    _ _ (s .pre .1 .0) (s .pre .1 .1) _ (c .find-member .ensures)
+returns-2 c = 
+    name-found (c .before .before .before .before .before .before .before .before .before .before .before .pre .0) (sym (c .before .before .before .before .before .before .kind .ensures) ∙ c .before .before .before .before .before .if1 .left) _ _ (c .before .before .before .before .low-word .ensures) (c .before .before .before .child-count .ensures)
+    _ _ (c .before .before .before .before .before .before .before .before .before .before .before .pre .1 .0) (c .before .before .before .before .before .before .before .before .before .before .before .pre .1 .1) _ (c .find-short .ensures)
+
+find-member-requires : tie.Need-find-member-requires
+find-member-requires c κs = 
+    let d = name-asked (c .before .before .before .before .before .before .before .before .before .before .pre .0) .stands in
+    (name-members (c .before .before .before .before .before .before .before .before .before .before .pre .0) (sym (c .before .before .before .before .before .kind .ensures) ∙ c .before .before .before .before .if1 .left) _ _ (c .before .before .before .low-word .ensures) (c .before .before .child-count .ensures), omega (arith, c .before .before .before .before .before .before .before .before .before .before .pre .1 .0, c .before .before .before .before .before .before .before .before .before .before .pre .1 .1, d .start, d .size, d .inside))
+
+returns-3 : tie.Need-returns-3
+returns-3 c = 
+    name-found (c .before .before .before .before .before .before .before .before .before .before .before .pre .0) (sym (c .before .before .before .before .before .before .kind .ensures) ∙ c .before .before .before .before .before .if1 .left) _ _ (c .before .before .before .before .low-word .ensures) (c .before .before .before .child-count .ensures)
+    _ _ (c .before .before .before .before .before .before .before .before .before .before .before .pre .1 .0) (c .before .before .before .before .before .before .before .before .before .before .before .pre .1 .1) _ (c .find-member .ensures)
 
 pub first-named-spec : {M : Type 1} → statement M
 first-named-spec =
@@ -48,5 +65,8 @@ first-named-spec =
     cast-first
     child-count-requires
     cast-count
+    is-short-requires
+    find-short-requires
+    returns-2
     find-member-requires
-    returns-2)
+    returns-3)
