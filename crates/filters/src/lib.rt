@@ -1,5 +1,8 @@
 // What a filter's code says of a node, told without registers: a test of a query of names and indices, its comparison with a literal, the number of all children
 // of its node compared with a literal, and the operators between such tests. Everything else is left to the code's registers.
+//
+//   atoms      a test of one member, read from the plan once
+//   kept       the nodes of a range that a filter keeps whose test is read once
 use compare::Order;
 use equal::Operand;
 use equal::operands;
