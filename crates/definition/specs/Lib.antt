@@ -5,6 +5,7 @@ pub mod Brackets
 pub mod Lexical
 pub mod Literals
 pub mod Slices
+pub mod StandardSlices
 pub mod Values
 pub mod Tables
 pub mod TableOutcomes

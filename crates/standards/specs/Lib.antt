@@ -1,0 +1,4 @@
+pub mod Walks
+pub mod Loops
+pub mod Signs
+pub mod Slices
