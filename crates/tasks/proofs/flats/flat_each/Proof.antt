@@ -29,7 +29,7 @@ returns : tie.Need-returns Inv-loop μ-loop
 returns c = flats-full (c .before .before .loop .inv) (c .before .loop-test .taken) (c .if1 .taken) (c .before .before .before .before .before .before .before .before .pre .list .wide)
 
 is-flat-requires : tie.Need-is-flat-requires Inv-loop μ-loop
-is-flat-requires c κs = 
+is-flat-requires c κs =
     let z = c .before .before .before .before .before .before .before .before .pre in
     let l = c .before .before .loop .inv .done .passes .low in
     let t = c .before .loop-test .taken in
@@ -42,7 +42,7 @@ returns-2 : tie.Need-returns-2 Inv-loop μ-loop
 returns-2 c = c .before .before .before .before .loop .inv .done
 
 push-selected-requires : tie.Need-push-selected-requires Inv-loop μ-loop
-push-selected-requires c κs = 
+push-selected-requires c κs =
     let z = c .before .before .before .before .before .before .before .before .before .before .before .pre in
     let i = c .before .before .before .before .before .loop .inv in
     let l = i .done .passes .low in
@@ -53,7 +53,7 @@ add-next-container : tie.Need-add-next-container Inv-loop μ-loop
 add-next-container c = omega (arith, c .before .before .before .before .before .before .before .loop-test .taken)
 
 next-container-requires : tie.Need-next-container-requires Inv-loop μ-loop
-next-container-requires c κs = 
+next-container-requires c κs =
     let l = c .before .before .before .before .before .before .before .before .loop .inv .done .passes .low in
     let t = c .before .before .before .before .before .before .before .loop-test .taken in
     record { range = λ u. c .before .before .before .before .before .before .before .before .before .before .before .before .before .before .pre .range (omega arith) }
@@ -62,7 +62,7 @@ loop-less : tie.Need-loop-less Inv-loop μ-loop
 loop-less c = omega (arith, c .next-container .ensures .low, c .before .before .before .before .before .before .before .before .loop-test .taken)
 
 loop-again : tie.Need-loop-again Inv-loop μ-loop
-loop-again c = 
+loop-again c =
     let z = c .before .before .before .before .before .before .before .before .before .before .before .before .before .before .before .pre in
     let i = c .before .before .before .before .before .before .before .before .before .loop .inv in
     let l = i .done .passes .low in

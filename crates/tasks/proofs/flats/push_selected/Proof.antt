@@ -37,7 +37,7 @@ add-e : tie.Need-add-e
 add-e c = search needs
 
 push-each-requires : tie.Need-push-each-requires
-push-each-requires c κs = 
+push-each-requires c κs =
     let z = c .before .before .before .before .before .before .before .before .before .before .before .pre in
     let t = z .given .tab in
     let n = c .before .before .if2 .left in
@@ -48,7 +48,7 @@ same-length : tie.Need-same-length
 same-length c = search needs
 
 returns-2 : tie.Need-returns-2
-returns-2 c = 
+returns-2 c =
     let z = c .before .before .before .before .before .before .before .before .before .before .before .before .before .before .pre in
     selected-all z _ _ _ (range-of _ _ (z .given .tab) _ (z .node-in) _ _ (c .before .before .before .before .first-child .ensures) (c .before .before .before .before .before .before .child-count .ensures)) (c .before .before .before .before .before .before .before .if1 .taken) _ _ (c .before .before .push-each .ensures)
 
@@ -74,7 +74,7 @@ sub-there : tie.Need-sub-there
 sub-there c = omega (arith, c .before .before .before .before .select-near .ensures .low _ (c .before .before .found .given .1), c .low-word .ensures)
 
 push-requires : tie.Need-push-requires
-push-requires c κs = 
+push-requires c κs =
     let z = c .before .before .before .before .before .before .before .before .before .before .before .before .before .pre in
     record { room = z .list .room; wide = z .list .wide; small = z .list .small; number = omega (arith, c .before .before .before .before .before .select-near .ensures .inside _ (c .before .before .before .found .given .1), z .given .tab .size .few) }
 
