@@ -100,7 +100,10 @@ static void one_query(const char *id) {
     plan_length = first, pool_length = second;
     if (run()) fail(query);
     unsigned long selected = first;
-    if (walk() != selected) fail("the walk");
+    if (walk() != selected) {
+        fprintf(stderr, "%s: the walk selects another number of nodes\n", query);
+        exit(1);
+    }
     measure(id, selected, "compile", compile);
     measure(id, selected, "run", run);
     measure(id, selected, "select", select_nodes);

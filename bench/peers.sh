@@ -12,7 +12,7 @@
 # NATIVE_ARCHIVE names a tool that compiles a proved library for this machine, as for bench/run.sh; on x86-64 it need not be set.
 set -euo pipefail
 : "${PEERS:?names the folder of the programs of the peers}"
-[ $# -ge 1 ] || { sed -n '2,13p' "$0" >&2; exit 2; }
+[ $# -ge 1 ] || { sed -n '2,12p' "$0" >&2; exit 2; }
 mkdir -p "$1"
 work=$(cd "$1" && pwd)
 peers=$(cd "$PEERS" && pwd)
