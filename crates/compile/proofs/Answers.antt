@@ -2,10 +2,11 @@
 use mathlib.Core.Path.{_≡_, refl, sym, ap, subst, _∙_}
 use mathlib.Core.Bool.{Bool, true, false, cond, not, _&&_}
 use mathlib.Core.List.{List, [], _∷_, _++_}
-use Prim.Native.Nat.{ℕ, zero, suc, _+_, _≤_, _<_}
+use mathlib.Core.Logic.{_≢_}
+use Prim.Native.Nat.{ℕ, zero, suc, _+_, _/_, _%_, _≤_, _<_}
 use native.Mathlib.Nat.{zero-add}
 use native.Mathlib.Omega.{arith}
-use borrow.Author.Tests.{eqb-true, eqb-false, ltb-false, lt-ltb, le-ltb, lt-leb, le-leb}
+use borrow.Author.Tests.{ne-eqb, eqb-true, eqb-false, ltb-false, lt-ltb, le-ltb, lt-leb, le-leb}
 use lib.Dec.{eqb, leb, ltb, lit<}
 use lib.ListN.{length, take, drop, length-take, length-drop}
 use lib.Seq.{sets, length-sets, sets-eq}
@@ -29,13 +30,13 @@ use Rattle.writing.specs.Agrees.{Agreed, Formed, agrees}
 use Rattle.levels.specs.Follow.{After}
 use Rattle.levels.specs.Pieces.{queryFlag}
 use Rattle.scan.specs.Text.{Is}
-use Rattle.items.specs.Reads.{Start, Read}
+use Rattle.items.specs.Reads.{callsAt, beyondAt, marksAt, marksOf, Start, Read}
 use Rattle.items.specs.Laws.{after-end, join-none}
 use Rattle.items.specs.declared.State.{State}
 use Rattle.items.specs.declared.Step.{Step}
 use Rattle.items.specs.declared.Step.the-variants as step
 use Rattle.readings.specs.Readings.{ReadsOnly, CompilesOnly, none-only, tree-only, early-only, compiles-only}
-use Rattle.compile.specs.Steps.{outcome, Rooms, Parsed, ParsePost, whole, none, verdictOf}
+use Rattle.compile.specs.Steps.{outcome, Rooms, Parsed, ParsePost, whole, none, refusalOf, verdictOf}
 
 -- ---- lists
 
@@ -97,7 +98,7 @@ module _ (s : List ℕ) where
 
 -- the state in front of the segments
 abbrev pub first : State
-first = record { at = 1; len = 0; pool = 0; verdict = 0; calls = false; beyond = false }
+first = record { at = 1; len = 0; pool = 0; marks = 0 }
 
 module _ {s P L : List ℕ} (h : Rooms s P L) where
   pub root-start : Is s 0 0x24 true → Start 2 s P L first
@@ -135,7 +136,7 @@ module _ {s P L : List ℕ} (h : Rooms s P L) where
 
     -- nothing is left
     pub all-read : length s ≤ b .at → ParsePost s P P' L L' (step.Next b f)
-    unfolding writeQuery
+    unfolding writeQuery marksAt
     all-read l =
         let t : G.Query = record { segments = rd .tree } in
         let e : drop (b .at) s ≡ [] = no-more (drop (b .at) s) (omega (arith, length-drop (b .at) s)) in
@@ -165,44 +166,44 @@ module _ {s P' L' : List ℕ} {b : State} (p : Parsed s P' L' b) where
   pub reading : early s ≡ 0 → ReadsOnly s (judge (walk (p .tree)))
   reading h = tree-only h (p .tree) (p .spells) (p .only)
 
-  verdict-is : b .verdict ≡ writeQuery (p .tree) 0 .marks .verdict
+  verdict-is : marksOf b .verdict ≡ writeQuery (p .tree) 0 .marks .verdict
   verdict-is = ap (λ (m : Marks). m .verdict) (p .marks)
 
-  calls-is : b .calls ≡ writeQuery (p .tree) 0 .marks .calls
+  calls-is : marksOf b .calls ≡ writeQuery (p .tree) 0 .marks .calls
   calls-is = ap (λ (m : Marks). m .calls) (p .marks)
 
-  beyond-is : b .beyond ≡ writeQuery (p .tree) 0 .marks .beyond
+  beyond-is : marksOf b .beyond ≡ writeQuery (p .tree) 0 .marks .beyond
   beyond-is = ap (λ (m : Marks). m .beyond) (p .marks)
 
   -- a refusal of the walk
   pub judged : (verdictOf b ≡ 0 → ⊥) → judge (walk (p .tree)) ≡ refused (verdictOf b)
   judged n =
-      by-test (eqb (b .verdict) 0)
-      (λ z. calls (eqb-true (b .verdict) 0 z) z)
-      (λ f. let g = eqb-false (b .verdict) 0 f in agreed .refuses (positive (b .verdict) g verdict-is) ∙ ap refused (sym verdict-is ∙ sym (rw f)))
+      by-test (eqb (marksOf b .verdict) 0)
+      (λ z. calls (eqb-true (marksOf b .verdict) 0 z) z)
+      (λ f. let g = eqb-false (marksOf b .verdict) 0 f in agreed .refuses (positive (marksOf b .verdict) g verdict-is) ∙ ap refused (sym verdict-is ∙ sym (rw f)))
     where
       positive : (x : ℕ) {y : ℕ} → (x ≡ 0 → ⊥) → x ≡ y → 0 < y
       positive zero k e = absurd (k refl)
       positive (suc x) k e = omega (arith, e)
 
-      calls : b .verdict ≡ 0 → eqb (b .verdict) 0 ≡ true → judge (walk (p .tree)) ≡ refused (verdictOf b)
+      calls : marksOf b .verdict ≡ 0 → eqb (marksOf b .verdict) 0 ≡ true → judge (walk (p .tree)) ≡ refused (verdictOf b)
       calls v z =
-          by-test (b .calls)
+          by-test (marksOf b .calls)
           (λ t. agreed .calls (sym verdict-is ∙ v) (sym calls-is ∙ t) ∙ ap refused (sym (rw (z, t))))
-          (λ f. by-test (b .beyond)
+          (λ f. by-test (marksOf b .beyond)
           (λ t. agreed .beyond (sym verdict-is ∙ v) (sym calls-is ∙ f) (sym beyond-is ∙ t) ∙ ap refused (sym (rw (z, f, t))))
           (λ u. absurd (n (rw (z, f, u)))))
 
   -- no refusal: a form
   pub formed : verdictOf b ≡ 0 → Formed (walk (p .tree)) (writeQuery (p .tree) 0)
   formed e =
-      by-test (eqb (b .verdict) 0)
-      (λ z. by-test (b .calls)
+      by-test (eqb (marksOf b .verdict) 0)
+      (λ z. by-test (marksOf b .calls)
       (λ t. absurd (seven (sym (rw (z, t)) ∙ e)))
-      (λ f. by-test (b .beyond)
+      (λ f. by-test (marksOf b .beyond)
       (λ t. absurd (eight (sym (rw (z, f, t)) ∙ e)))
-      (λ u. agreed .forms (sym verdict-is ∙ eqb-true (b .verdict) 0 z) (sym calls-is ∙ f) (sym beyond-is ∙ u))))
-      (λ f. absurd (eqb-false (b .verdict) 0 f (sym (rw f) ∙ e)))
+      (λ u. agreed .forms (sym verdict-is ∙ eqb-true (marksOf b .verdict) 0 z) (sym calls-is ∙ f) (sym beyond-is ∙ u))))
+      (λ f. absurd (eqb-false (marksOf b .verdict) 0 f (sym (rw f) ∙ e)))
     where
       seven : _≡_ {A = ℕ} 7 0 → ⊥
       seven x = omega arith
@@ -273,6 +274,26 @@ module _ (A B P L : List ℕ) {n m : ℕ} (h : n ≤ length A) (k : m ≤ length
   unfolding write
   fits-both x y v w = rw (le-leb n (length P) x, le-leb m (length L) y, short A n h, short B m k, v .is, w .is)
 
+-- ---- a query handed on whole
+
+pub rooms-whole : {s s' P L : List ℕ} → s' ≡ s → Rooms s P L → Rooms s' P L
+rooms-whole {P = P} {L = L} e h = subst (λ (z : List ℕ). Rooms z P L) (sym e) h
+
+pub parse-whole : {s s' P P' L L' : List ℕ} {r : Step} → s' ≡ s → ParsePost s' P P' L L' r → ParsePost s P P' L L' r
+parse-whole {P = P} {P' = P'} {L = L} {L' = L'} {r = r} e h = subst (λ (z : List ℕ). ParsePost z P P' L L' r) e h
+
+-- ---- what a state's marks come to
+
+module _ (n : ℕ) where
+  pub refused-first : n % 256 ≢ 0 → n % 256 ≡ refusalOf (marksAt n)
+  unfolding marksAt
+  refused-first h = sym (rw (ne-eqb (n % 256) 0 h))
+
+  -- what comes after the walk, by the number for it
+  pub refused-late : {x : ℕ} → n % 256 ≡ 0 → x ≡ cond (callsAt (n / 256)) 7 (cond (beyondAt (n / 256)) 8 0) → x ≡ refusalOf (marksAt n)
+  unfolding marksAt
+  refused-late e f = rw e f
+
 -- ---- rooms
 
 pub rooms-long : {s P L : List ℕ} → early s ≡ 0 → length P ≡ 61440 → length L ≡ 4096 → Rooms s P L
@@ -283,3 +304,9 @@ rooms-short {s} h n p l = record { plan = omega arith; pool = omega arith; small
 
 pub rooms-brief : {s P L : List ℕ} → early s ≡ 0 → length s ≤ 64 → length P ≡ 960 → length L ≡ 64 → Rooms s P L
 rooms-brief {s} h n p l = record { plan = omega arith; pool = omega arith; small = omega arith; smallPool = omega arith; utf8 = passed-utf8 s h }
+
+pub rooms-small : {s P L : List ℕ} → early s ≡ 0 → length s ≤ 32 → length P ≡ 480 → length L ≡ 32 → Rooms s P L
+rooms-small {s} h n p l = record { plan = omega arith; pool = omega arith; small = omega arith; smallPool = omega arith; utf8 = passed-utf8 s h }
+
+pub rooms-tiny : {s P L : List ℕ} → early s ≡ 0 → length s ≤ 16 → length P ≡ 240 → length L ≡ 16 → Rooms s P L
+rooms-tiny {s} h n p l = record { plan = omega arith; pool = omega arith; small = omega arith; smallPool = omega arith; utf8 = passed-utf8 s h }

@@ -9,6 +9,7 @@ use Rattle.definition.specs.Utf8.{isUtf8}
 use Rattle.definition.specs.Grammar as G
 use Rattle.definition.specs.Grammar.{spell}
 use Rattle.definition.specs.Outcomes.{CompileOutcome, write}
+use Rattle.writing.specs.Effects.{Marks}
 use Rattle.writing.specs.Writes.{writeQuery}
 use Rattle.items.specs.Reads.{marksOf}
 use Rattle.items.specs.declared.State.{State}
@@ -43,9 +44,12 @@ pub data ParsePost (s P P' L L' : List ℕ) : Step → Type 0 where
   whole : {b : State} {f : ℕ} → Parsed s P' L' b → ParsePost s P P' L L' (step.Next b f)
   none : {i : ℕ} → ((t : G.Query) → spell t ≡ s → ⊥) → ParsePost s P P' L L' (step.Stop i)
 
--- the refusal that a state's marks come to, 0 for none
+-- the refusal that marks come to, 0 for none
+abbrev pub refusalOf : Marks → ℕ
+refusalOf m = cond (eqb (m .verdict) 0) (cond (m .calls) 7 (cond (m .beyond) 8 0)) (m .verdict)
+
 abbrev pub verdictOf : State → ℕ
-verdictOf b = cond (eqb (b .verdict) 0) (cond (b .calls) 7 (cond (b .beyond) 8 0)) (b .verdict)
+verdictOf b = refusalOf (marksOf b)
 
 -- the first n bytes of the plan's room and the first m of the pool's, written where both fit
 abbrev pub Delivers : List ℕ → ℕ → List ℕ → ℕ → List ℕ → List ℕ → CompileOutcome → Type 0

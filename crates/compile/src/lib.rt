@@ -8,9 +8,13 @@ ghost use Rattle.compile.specs.Steps.{outcome};
 use rooms::BRIEF;
 use rooms::NO_BYTE;
 use rooms::SHORT;
+use rooms::SMALL;
+use rooms::TINY;
 use rooms::compile_brief;
 use rooms::compile_long;
 use rooms::compile_short;
+use rooms::compile_small;
+use rooms::compile_tiny;
 use rooms::early_refusal;
 
 // Refusal 0 and the lengths of plan and pool; or the refusal, with both lengths needed where it is 12 and with 0 and 0 otherwise.
@@ -32,6 +36,12 @@ pub fn compile(query: &[u8], plan: &mut [u8], pool: &mut [u8]) -> Compiled
             plan: 0,
             pool: 0,
         };
+    }
+    if query.len() <= TINY {
+        return compile_tiny(query, plan, pool);
+    }
+    if query.len() <= SMALL {
+        return compile_small(query, plan, pool);
     }
     if query.len() <= BRIEF {
         return compile_brief(query, plan, pool);

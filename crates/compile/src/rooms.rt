@@ -1,5 +1,6 @@
 // A query read in a room of its own, and its plan and pool copied where they are wanted.
 use crate::Compiled;
+use items::CALLS;
 use items::State;
 use items::Step;
 use parser::query as parse_query;
@@ -45,6 +46,20 @@ pub const BRIEF_PLAN_ROOM: usize = 960;
 
 pub const BRIEF_POOL_ROOM: usize = 64;
 
+// These take a query of at most 32 bytes.
+pub const SMALL: usize = 32;
+
+pub const SMALL_PLAN_ROOM: usize = 480;
+
+pub const SMALL_POOL_ROOM: usize = 32;
+
+// These take a query of at most 16 bytes.
+pub const TINY: usize = 16;
+
+pub const TINY_PLAN_ROOM: usize = 240;
+
+pub const TINY_POOL_ROOM: usize = 16;
+
 // The refusals before the grammar, in their order; 0 where there is none.
 pub fn early_refusal(query: &[u8]) -> u8
     ensures { λ r. ⌜ r ≡ early (now (query .entry)) ⌝ }
@@ -73,11 +88,9 @@ pub fn parse(s: &[u8], plan: &mut [u8], pool: &mut [u8]) -> Step
         at: 1,
         len: 0,
         pool: 0,
-        verdict: 0,
-        calls: false,
-        beyond: false,
+        marks: 0,
     };
-    let r = parse_query(s, plan, pool, st, FROM_ROOT);
+    let r = parse_query(&s[0..], plan, pool, st, FROM_ROOT);
     let Step::Next(n, _) = r else {
         return r;
     };
@@ -92,14 +105,16 @@ pub fn parse(s: &[u8], plan: &mut [u8], pool: &mut [u8]) -> Step
 pub fn verdict(st: State) -> u8
     ensures { λ r. ⌜ r ≡ verdictOf st ⌝ }
 {
-    let first = st.verdict;
+    let marks = st.marks;
+    let first = (marks % CALLS) as u8;
     if first != 0 {
         return first;
     }
-    if st.calls {
-        return 7;
+    let late = marks / CALLS;
+    if late == 0 {
+        return 0;
     }
-    if st.beyond { 8 } else { 0 }
+    if late == 2 { 8 } else { 7 }
 }
 
 // The first n bytes of one room and the first m of the other, copied where both fit; otherwise 12 and both lengths.
@@ -137,7 +152,8 @@ fn deliver(
     }
 }
 
-// A query that no early refusal meets, read in the two rooms given.
+// A query that no early refusal meets, read in the two rooms given. What is handed on is `&query[0..]`, the same slice, since LLVM then keeps the one at hand in
+// registers.
 fn compile_in(
     query: &[u8],
     room: &mut [u8],
@@ -148,7 +164,7 @@ fn compile_in(
     requires { ⌜ Rooms (now query) (now room) (now texts) × (early (now query) ≡ 0) ⌝ }
     ensures { λ r. ⌜ CompilesOnly (now (query .entry)) (now (plan .entry)) (now (pool .entry)) (outcome r (now (plan .exit)) (now (pool .exit))) ⌝ }
 {
-    match parse(query, room, texts) {
+    match parse(&query[0..], room, texts) {
         Step::Stop(_) => Compiled {
             refusal: 4,
             plan: 0,
@@ -166,6 +182,24 @@ fn compile_in(
             deliver(room, st.len, texts, st.pool, plan, pool)
         }
     }
+}
+
+pub fn compile_tiny(query: &[u8], plan: &mut [u8], pool: &mut [u8]) -> Compiled
+    requires { ⌜ (length (now query) ≤ 16) × (early (now query) ≡ 0) ⌝ }
+    ensures { λ r. ⌜ CompilesOnly (now (query .entry)) (now (plan .entry)) (now (pool .entry)) (outcome r (now (plan .exit)) (now (pool .exit))) ⌝ }
+{
+    let mut room = [0u8; TINY_PLAN_ROOM];
+    let mut texts = [0u8; TINY_POOL_ROOM];
+    compile_in(query, &mut room, &mut texts, plan, pool)
+}
+
+pub fn compile_small(query: &[u8], plan: &mut [u8], pool: &mut [u8]) -> Compiled
+    requires { ⌜ (length (now query) ≤ 32) × (early (now query) ≡ 0) ⌝ }
+    ensures { λ r. ⌜ CompilesOnly (now (query .entry)) (now (plan .entry)) (now (pool .entry)) (outcome r (now (plan .exit)) (now (pool .exit))) ⌝ }
+{
+    let mut room = [0u8; SMALL_PLAN_ROOM];
+    let mut texts = [0u8; SMALL_POOL_ROOM];
+    compile_in(query, &mut room, &mut texts, plan, pool)
 }
 
 pub fn compile_brief(query: &[u8], plan: &mut [u8], pool: &mut [u8]) -> Compiled

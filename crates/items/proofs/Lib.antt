@@ -1,6 +1,7 @@
 pub mod Verdicts
 pub mod Begins
 pub mod Stores
+pub mod Marks
 pub mod Bits
 pub mod Dotted
 pub mod Words

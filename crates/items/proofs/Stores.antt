@@ -26,7 +26,7 @@ run-run {p} {q} {r} {n} {m} {c} {d} v e w = record { is = w .is ∙ rw (e, v .is
 
 -- a byte and two numbers of two bytes
 pub pooled-put : (P : List ℕ) (a : State) (kind n : ℕ) {Q R : List ℕ} → Wrote (set P (a .len) kind) (a .len + 1) (two (a .pool)) Q → Wrote Q (a .len + 3) (two n) R →
-    Pooled P R a (record { at = a .at; len = a .len + 5; pool = a .pool + n; verdict = a .verdict; calls = a .calls; beyond = a .beyond }) kind n
+    Pooled P R a (record { at = a .at; len = a .len + 5; pool = a .pool + n; marks = a .marks }) kind n
 pooled-put P a kind n g h =
     record {
       at = refl;
@@ -38,7 +38,7 @@ pooled-put P a kind n g h =
 
 -- eight bytes at the end of the plan
 pub eight-put : (P : List ℕ) (a : State) (n : ℕ) {Q : List ℕ} → Wrote P (a .len) (littleEndian 8 n) Q →
-    Put P Q a (record { at = a .at; len = a .len + 8; pool = a .pool; verdict = a .verdict; calls = a .calls; beyond = a .beyond }) (littleEndian 8 n)
+    Put P Q a (record { at = a .at; len = a .len + 8; pool = a .pool; marks = a .marks }) (littleEndian 8 n)
 eight-put P a n w = record { at = refl; len = ap (λ (k : ℕ). a .len + k) (sym (length-littleEndian 8 n)); pool = refl; marks = refl; plan = w .is }
 
 -- three verdicts in a row

@@ -9,8 +9,8 @@ use native.Mathlib.Nat.{add-assoc, add-zero}
 use native.Mathlib.Omega.{arith}
 use borrow.Author.Tests.{eqb-true}
 use lib.Dec.{eqb}
-use lib.ListN.{length, drop, set, length-append}
-use lib.Seq.{sets, length-sets, set-set, set-comm}
+use lib.ListN.{length, take, drop, set, length-append}
+use lib.Seq.{sets, length-sets, set-set, set-comm, take-all}
 use Rattle.definition.specs.Bytes.{every, littleEndian}
 use Rattle.definition.specs.Plans.{two, pooled}
 use Rattle.definition.specs.Utf8.{isUtf8}
@@ -26,7 +26,7 @@ use Rattle.scan.specs.declared.End.the-variants as end
 use Rattle.scan.specs.declared.Sign.{Sign}
 use Rattle.scan.specs.declared.Sign.the-variants as sign
 use Rattle.writing.specs.Effects.{Marks, noMarks, first, joinMarks, Effect, join, Writer, skip, bytes, pooling, mark, seq, frame, counted}
-use Rattle.items.specs.Reads.{rank, After, marksOf, Start, Done, Read, Post, LooseRead, LoosePost, next, stop, noFlag, Put, PutMarked, Pooled, low}
+use Rattle.items.specs.Reads.{rank, After, marksAt, marksOf, Start, Done, Read, Post, LooseRead, LoosePost, next, stop, noFlag, Put, PutMarked, Pooled, low}
 use Rattle.items.specs.declared.State.{State}
 use Rattle.items.specs.declared.Step.{Step}
 use Rattle.items.specs.declared.Step.the-variants as step
@@ -375,14 +375,25 @@ start-go st d from to u h g =
       utf8 = u;
     }
 
+-- ---- a query handed on whole, as the part from its first byte on
+
+pub whole : (l : List ℕ) → take (length l - 0) (drop 0 l) ≡ l
+whole l = take-all (length l - 0) l (omega arith)
+
+pub start-whole : {x : ℕ} {s s' P L : List ℕ} {a : State} → s' ≡ s → Start x s P L a → Start x s' P L a
+start-whole {x} {P = P} {L = L} {a = a} e h = subst (λ (z : List ℕ). Start x z P L a) (sym e) h
+
+pub post-whole : {T : Type 0} {sp : T → List ℕ → List ℕ} {w : T → Writer} {fl : T → ℕ} {k : ℕ} {s s' P P' L L' : List ℕ} {a : State} {r : Step} → s' ≡ s → Post sp w fl k s' P P' L L' a r → Post sp w fl k s P P' L L' a r
+post-whole {sp = sp} {w = w} {fl = fl} {k = k} {P = P} {P' = P'} {L = L} {L' = L'} {a = a} {r = r} e h = subst (λ (z : List ℕ). Post sp w fl k z P P' L L' a r) e h
+
 -- ---- places
 
 -- what `moved` ensures: the state at another place
 abbrev pub Moved : State → State → ℕ → Type 0
-Moved a b at = (b .at ≡ at) × (((b .len ≡ a .len) × (b .pool ≡ a .pool)) × (marksOf b ≡ marksOf a))
+Moved a b at = (b .at ≡ at) × (((b .len ≡ a .len) × (b .pool ≡ a .pool)) × (b .marks ≡ a .marks))
 
 pub moved-done : {P P' L L' : List ℕ} {a b c : State} {e : Effect} {at : ℕ} → Done P P' L L' a b e → Moved b c at → Done P P' L L' a c e
-moved-done d m = done-to (m .1 .0) (m .1 .1) d
+moved-done d m = done-to (m .1 .0) (ap marksAt (m .1 .1)) d
 
 -- ---- names and texts
 

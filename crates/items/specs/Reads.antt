@@ -2,8 +2,8 @@
 use mathlib.Core.Path.{_≡_}
 use mathlib.Core.Bool.{Bool, true, false, cond, _||_}
 use mathlib.Core.List.{List, [], _∷_, _++_}
-use Prim.Native.Nat.{ℕ, _+_, _*_, _-_, _≤_, _<_}
-use lib.Dec.{eqb}
+use Prim.Native.Nat.{ℕ, _+_, _*_, _-_, _/_, _%_, _≤_, _<_}
+use lib.Dec.{eqb, leb}
 use lib.ListN.{length, drop}
 use lib.Seq.{sets}
 use Rattle.definition.specs.Utf8.{isUtf8}
@@ -21,8 +21,19 @@ pub use Rattle.levels.specs.Leaves.{Dotted, spellDotted, writeDotted, dottedFla
 
 -- ---- the state
 
+-- whether match or search is called, and whether a literal is beyond the exact range, by the number for both: 0 neither, 1 the first, 2 the second, 3 both
+abbrev pub callsAt : ℕ → Bool
+callsAt k = eqb k 1 || leb 3 k
+
+abbrev pub beyondAt : ℕ → Bool
+beyondAt k = leb 2 k
+
+-- the marks that a number stands for: the first verdict, and 256 times the number for what comes after the walk
+unfoldable pub marksAt : ℕ → Marks
+marksAt n = record { verdict = n % 256; calls = callsAt (n / 256); beyond = beyondAt (n / 256) }
+
 abbrev pub marksOf : State → Marks
-marksOf a = record { verdict = a .verdict; calls = a .calls; beyond = a .beyond }
+marksOf a = marksAt (a .marks)
 
 -- Room for what is unread: 15 bytes of plan for each byte, and x more; one byte of pool for each byte.
 pub record Start (x : ℕ) (s P L : List ℕ) (a : State) : Type 0 where

@@ -1,6 +1,9 @@
 // Number literals, as they are written.
+use crate::BEYOND;
+use crate::CALLS;
 use crate::State;
 use crate::item;
+use crate::marked;
 use crate::ranges::eight;
 use literals::Literal;
 use text::bytes::bits64;
@@ -19,14 +22,15 @@ fn beyond(st: State) -> State
     ensures place { λ r. ⌜ (r .at ≡ st .at) × (r .len ≡ st .len) × (r .pool ≡ st .pool) ⌝ }
     ensures marks { λ r. ⌜ marksOf r ≡ joinMarks (marksOf st) (record { verdict = 0; calls = false; beyond = true }) ⌝ }
 {
-    State {
-        at: st.at,
-        len: st.len,
-        pool: st.pool,
-        verdict: st.verdict,
-        calls: st.calls,
-        beyond: true,
+    let marks = st.marks;
+    let late = marks / CALLS;
+    if late == 0 {
+        return marked(st, marks + BEYOND);
     }
+    if late == 1 {
+        return marked(st, marks + BEYOND);
+    }
+    st
 }
 
 // The item of what a number literal stands for. No pool is touched.

@@ -28,14 +28,20 @@ use text::bytes::put16;
 use text::parts::copy_part;
 use texts::write_text;
 
+// Where the reader stands: its place in the query, the lengths of plan and pool so far, and the marks of what was read. The marks are one number, so that
+// a state is four words and is copied as such: below 256 the first verdict of 4, 5 and 6, and 256 times 0 for nothing more, 1 for a call of match or search,
+// 2 for a literal beyond the exact range, 3 for both.
 pub struct State {
     pub at: usize,
     pub len: usize,
     pub pool: usize,
-    pub verdict: u8,
-    pub calls: bool,
-    pub beyond: bool,
+    pub marks: usize,
 }
+
+// What stands for a call of match or search among the marks, and for a literal beyond the exact range.
+pub const CALLS: usize = 256;
+
+pub const BEYOND: usize = 512;
 
 // The state behind a tree and the number that is told of it; or the place where reading stopped.
 pub enum Step {
@@ -49,15 +55,26 @@ pub enum Step {
 pub fn moved(st: State, at: usize) -> State
     ensures place { λ r. ⌜ r .at ≡ at ⌝ }
     ensures lengths { λ r. ⌜ (r .len ≡ st .len) × (r .pool ≡ st .pool) ⌝ }
-    ensures marks { λ r. ⌜ marksOf r ≡ marksOf st ⌝ }
+    ensures marks { λ r. ⌜ r .marks ≡ st .marks ⌝ }
 {
     State {
         at,
         len: st.len,
         pool: st.pool,
-        verdict: st.verdict,
-        calls: st.calls,
-        beyond: st.beyond,
+        marks: st.marks,
+    }
+}
+
+// The state with other marks.
+pub fn marked(st: State, marks: usize) -> State
+    ensures place { λ r. ⌜ (r .at ≡ st .at) × (r .len ≡ st .len) × (r .pool ≡ st .pool) ⌝ }
+    ensures marks { λ r. ⌜ r .marks ≡ marks ⌝ }
+{
+    State {
+        at: st.at,
+        len: st.len,
+        pool: st.pool,
+        marks,
     }
 }
 
@@ -66,15 +83,9 @@ pub fn judged(st: State, verdict: u8) -> State
     ensures place { λ r. ⌜ (r .at ≡ st .at) × (r .len ≡ st .len) × (r .pool ≡ st .pool) ⌝ }
     ensures marks { λ r. ⌜ marksOf r ≡ joinMarks (marksOf st) (record { verdict = verdict; calls = false; beyond = false }) ⌝ }
 {
-    if st.verdict == 0 {
-        return State {
-            at: st.at,
-            len: st.len,
-            pool: st.pool,
-            verdict,
-            calls: st.calls,
-            beyond: st.beyond,
-        };
+    let marks = st.marks;
+    if marks % CALLS == 0 {
+        return marked(st, marks + verdict as usize);
     }
     st
 }
@@ -92,9 +103,7 @@ pub fn item(plan: &mut [u8], st: State, x: u8) -> State
         at: st.at,
         len: len + 1,
         pool: st.pool,
-        verdict: st.verdict,
-        calls: st.calls,
-        beyond: st.beyond,
+        marks: st.marks,
     }
 }
 
@@ -174,14 +183,15 @@ pub fn called(st: State) -> State
     ensures place { λ r. ⌜ (r .at ≡ st .at) × (r .len ≡ st .len) × (r .pool ≡ st .pool) ⌝ }
     ensures marks { λ r. ⌜ marksOf r ≡ joinMarks (marksOf st) (record { verdict = 0; calls = true; beyond = false }) ⌝ }
 {
-    State {
-        at: st.at,
-        len: st.len,
-        pool: st.pool,
-        verdict: st.verdict,
-        calls: true,
-        beyond: st.beyond,
+    let marks = st.marks;
+    let late = marks / CALLS;
+    if late == 0 {
+        return marked(st, marks + CALLS);
     }
+    if late == 2 {
+        return marked(st, marks + CALLS);
+    }
+    st
 }
 
 // ---- verdicts and numbers
@@ -415,9 +425,7 @@ fn pooled(plan: &mut [u8], st: State, kind: u8, n: usize) -> State
         at: st.at,
         len: len + 5,
         pool: start + n,
-        verdict: st.verdict,
-        calls: st.calls,
-        beyond: st.beyond,
+        marks: st.marks,
     }
 }
 

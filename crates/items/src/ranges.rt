@@ -104,9 +104,7 @@ pub fn eight(plan: &mut [u8], st: State, n: u64) -> State
         at: st.at,
         len: len + 8,
         pool: st.pool,
-        verdict: st.verdict,
-        calls: st.calls,
-        beyond: st.beyond,
+        marks: st.marks,
     }
 }
 

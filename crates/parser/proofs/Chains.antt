@@ -2,7 +2,7 @@
 use mathlib.Core.Path.{_≡_, refl, sym, ap, subst, _∙_}
 use mathlib.Core.Logic.{_≢_}
 use mathlib.Core.Bool.{true, false, true≢false}
-use mathlib.Core.List.{List}
+use mathlib.Core.List.{List, _∷_}
 use Prim.Native.Nat.{ℕ, _+_, _≤_}
 use native.Mathlib.Nat.{add-assoc}
 use native.Mathlib.Omega.{arith}
@@ -13,17 +13,17 @@ use Rattle.definition.specs.Grammar as G
 use Rattle.definition.specs.Grammar.{spellLogicalOr, spellMoreAnd, spellMoreOr, spellArgument, spellLiteral, spellOperator}
 use Rattle.definition.specs.Grammar.Argument.{literalArgument}
 use Rattle.reading.specs.Reads.{ReadsNone, StartsNot}
-use Rattle.scan.specs.Text.{Is, Skipped}
+use Rattle.scan.specs.Text.{hd, Is, Both, Skipped}
 use Rattle.writing.specs.Effects.{join, seq}
 use Rattle.writing.specs.Sorts.{Sort, sortOr, sortMoreAnd, sortMoreOr, sortArgument}
 use Rattle.writing.specs.Writes.{writeOr, writeMoreAnd, writeMoreOr, writeArgument}
 use Rattle.writing.specs.Sizes.{sizedMoreAnd}
-use Rattle.levels.specs.Follow.{After}
+use Rattle.levels.specs.Follow.{rank, After}
 use Rattle.levels.specs.Numbers.{sortNumber, sortOf}
 use Rattle.levels.specs.Pieces.{Operand, spellOperand, writeOperand, operandFlag, spellBehindOf, writeBehindOf, behindOfSort, ChainedOf, spellChainedOf, writeChainedOf, chainedOfSort}
 use Rattle.levels.specs.Pieces.Operand.{literalOperand, queryOperand, functionOperand}
 use Rattle.items.specs.Reads.{Start, Done, Read, Post, Operates, next, stop}
-use Rattle.items.specs.Laws.{done-seq}
+use Rattle.items.specs.Laws.{done-seq, read-of}
 use Rattle.items.specs.declared.State.{State}
 use Rattle.items.specs.declared.Step.{Step}
 use Rattle.items.specs.declared.Step.the-variants as step
@@ -33,8 +33,11 @@ use Rattle.rules.specs.Sorted.{sort-of}
 use Rattle.rules.specs.Joins.{join-assoc, join-pool}
 use Rattle.rules.specs.Begins.{isOperandByte}
 use Rattle.rules.specs.Basic.{query-some, function-some}
+use Rattle.rules.specs.Behind.{operator-rank}
 use Rattle.rules.specs.Argument.{argument-logical, chained-reads, chained-none-or, chained-none-and, chained-none, spellChain, meChain, argument-chain, chain-reads, chain-none-rest, chain-none, no-literal-flag, no-literal-operator, argument-literal}
 use Rattle.parser.proofs.Steps.{start-read, done-is, post-so, stay}
+use Rattle.parser.proofs.Basics.{behind-nothing}
+use Rattle.parser.proofs.Logic.{and-loop, and-end, or-loop, or-end}
 use Rattle.parser.proofs.Operands.{sort-small, start-behind, reads-at, done-at, operand-then}
 
 -- ---- what is left of a logical expression behind its first operand
@@ -84,6 +87,19 @@ module _ {f : ℕ} {s P P₁ L L₁ : List ℕ} {a b : State} {n : ℕ} (h : Rea
               utf8 = k .utf8;
             })
         go (stop k) = stop (chained-none-or f (a .pool) (h .reads) (reads-at g (h .done .pool) refl) k)
+
+-- behind a ")" no operator stands
+no-operator : {s l : List ℕ} → s ≡ 0x29 ∷ l → ReadsNone spellOperator (StartsNot (eqb 0x3D)) s
+no-operator e = record { none = λ o r k q. let x = sym (operator-rank o r) ∙ ap (λ (z : List ℕ). rank (hd z)) (sym q ∙ e) in absurd (omega (arith, x)) }
+
+-- behind an operand that is no literal, nothing is left before the end of a call
+pub chained-end : {f e g : ℕ} {s P L : List ℕ} {a : State} → Start 0 s P L a → f ≢ 0 → Skipped s (a .at) e → Is s e 0x29 true → (g ≡ sortNumber (sortOf f)) × (g ≤ 4)
+    → Post (spellChainedOf f) (writeChainedOf f) (chainedOfSort f) 4 s P P L L a (step.Next a g)
+chained-end {f} {e} {g} {s} {P} {L} {a} st z k i x =
+    let h = behind-nothing f k (no-operator (i .1)) st z (x .0) in
+    let no : (c d : ℕ) → c ≢ 0x29 → Both s e c d false = λ c d n l q. n (ap hd (sym q ∙ i .1)) in
+    let m = and-end (and-loop g false (x .1) st) k (no 0x26 0x26 (λ y. absurd (omega (arith, y)))) in
+    chained-then h (read-of m refl) (or-end (or-loop g false (x .1) st) k (no 0x7C 0x7C (λ y. absurd (omega (arith, y)))))
 
 -- ---- an argument
 

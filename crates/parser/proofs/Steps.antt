@@ -13,7 +13,7 @@ use Rattle.writing.specs.Effects.{Marks, Effect, Writer, noMarks, joinMarks, jo
 use Rattle.writing.specs.Sizes.{Sized}
 use Rattle.levels.specs.Follow.{unblank, After}
 use Rattle.scan.specs.Text.{Skipped}
-use Rattle.items.specs.Reads.{marksOf, Start, Done, Read, Post, LooseRead, Put, next, stop}
+use Rattle.items.specs.Reads.{marksAt, marksOf, Start, Done, Read, Post, LooseRead, Put, next, stop}
 use Rattle.items.specs.Laws.{Moved, done-then, done-from, start-go, after-weaken, join-none, join-noMarks, join-assoc, put-done, mark-done, done-frame}
 use Rattle.items.specs.declared.State.{State}
 use Rattle.items.specs.declared.Step.{Step}
@@ -90,7 +90,7 @@ done-is {P} {P'} {L} {L'} {a} {b} q d = subst (λ (x : Effect). Done P P' L L' a
 
 -- a step that begins at another place
 pub done-moved : {at : ℕ} {P P' L L' : List ℕ} {a o b : State} {e : Effect} → Moved o a at → Done P P' L L' a b e → Done P P' L L' o b e
-done-moved m d = done-from (m .1 .0) (m .1 .1) d
+done-moved m d = done-from (m .1 .0) (ap marksAt (m .1 .1)) d
 
 -- ---- one tree that is made of another
 

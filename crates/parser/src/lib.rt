@@ -367,10 +367,10 @@ fn operand(s: &[u8], plan: &mut [u8], pool: &mut [u8], st: State) -> Step
 {
     let at = st.at;
     if is(s, at, 64) {
-        return query(s, plan, pool, moved(st, at + 1), 2);
+        return query(&s[0..], plan, pool, moved(st, at + 1), 2);
     }
     if is(s, at, 36) {
-        return query(s, plan, pool, moved(st, at + 1), 1);
+        return query(&s[0..], plan, pool, moved(st, at + 1), 1);
     }
     let End::At(e) = read_word(s, at) else {
         return write_literal(s, plan, pool, st);
@@ -463,12 +463,12 @@ fn argument(s: &[u8], plan: &mut [u8], pool: &mut [u8], st: State) -> Step
 {
     let at = st.at;
     if is(s, at, 40) {
-        return parse_or(s, plan, pool, st, false);
+        return parse_or(&s[0..], plan, pool, st, false);
     }
     if is(s, at, 33) {
-        return parse_or(s, plan, pool, st, false);
+        return parse_or(&s[0..], plan, pool, st, false);
     }
-    let r = operand(s, plan, pool, st);
+    let r = operand(&s[0..], plan, pool, st);
     let Step::Next(n, flag) = r else {
         return r;
     };
@@ -479,7 +479,7 @@ fn argument(s: &[u8], plan: &mut [u8], pool: &mut [u8], st: State) -> Step
             return Step::Next(n, 0);
         }
     }
-    chained(s, plan, pool, n, flag)
+    chained(&s[0..], plan, pool, n, flag)
 }
 
 // what is left of a logical-expr behind its first operand, straight in an argument
@@ -487,6 +487,14 @@ fn chained(s: &[u8], plan: &mut [u8], pool: &mut [u8], st: State, flag: usize) -
     requires { ⌜ Start 0 (now s) (now plan) (now pool) st × Known flag ⌝ }
     ensures { λ r. ⌜ Post (spellChainedOf flag) (writeChainedOf flag) (chainedOfSort flag) 4 (now (s .entry)) (now (plan .entry)) (now (plan .exit)) (now (pool .entry)) (now (pool .exit)) st r ⌝ }
 {
+    // Most arguments that are no literals are queries alone, with the end of the call behind them.
+    if flag != 0 {
+        let at = st.at;
+        let a = skip_blanks(s, at);
+        if is(s, a, 41) {
+            return Step::Next(st, plain_sort(flag));
+        }
+    }
     let r = behind(s, plan, pool, st, flag);
     let Step::Next(n, sort) = r else {
         return r;

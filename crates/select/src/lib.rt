@@ -16,6 +16,12 @@ use compile::rooms::POOL_ROOM;
 use compile::rooms::SHORT;
 use compile::rooms::SHORT_PLAN_ROOM;
 use compile::rooms::SHORT_POOL_ROOM;
+use compile::rooms::SMALL;
+use compile::rooms::SMALL_PLAN_ROOM;
+use compile::rooms::SMALL_POOL_ROOM;
+use compile::rooms::TINY;
+use compile::rooms::TINY_PLAN_ROOM;
+use compile::rooms::TINY_POOL_ROOM;
 use compile::rooms::early_refusal;
 use compile::rooms::parse;
 use compile::rooms::verdict;
@@ -58,6 +64,36 @@ fn select_in(
             Selection::Ran(run_form(plan, pool, table, text, list, start))
         }
     }
+}
+
+fn select_tiny(
+    query: &[u8],
+    table: &[u8],
+    text: &[u8],
+    list: &mut [u32],
+    start: usize,
+) -> Selection
+    requires { ⌜ (length (now query) ≤ 16) × (early (now query) ≡ 0) ⌝ }
+    ensures { λ r. ⌜ SelectsOnly (now (query .entry)) (now (table .entry)) (now (text .entry)) (now (list .entry)) start (selected r (now (list .exit))) ⌝ }
+{
+    let mut room = [0u8; TINY_PLAN_ROOM];
+    let mut texts = [0u8; TINY_POOL_ROOM];
+    select_in(query, &mut room, &mut texts, table, text, list, start)
+}
+
+fn select_small(
+    query: &[u8],
+    table: &[u8],
+    text: &[u8],
+    list: &mut [u32],
+    start: usize,
+) -> Selection
+    requires { ⌜ (length (now query) ≤ 32) × (early (now query) ≡ 0) ⌝ }
+    ensures { λ r. ⌜ SelectsOnly (now (query .entry)) (now (table .entry)) (now (text .entry)) (now (list .entry)) start (selected r (now (list .exit))) ⌝ }
+{
+    let mut room = [0u8; SMALL_PLAN_ROOM];
+    let mut texts = [0u8; SMALL_POOL_ROOM];
+    select_in(query, &mut room, &mut texts, table, text, list, start)
 }
 
 fn select_brief(
@@ -118,6 +154,12 @@ pub fn select(query: &[u8], table: &[u8], text: &[u8], list: &mut [u32], start: 
     let refusal = early_refusal(query);
     if refusal != 0 {
         return Selection::Refused(refusal);
+    }
+    if query.len() <= TINY {
+        return select_tiny(query, table, text, list, start);
+    }
+    if query.len() <= SMALL {
+        return select_small(query, table, text, list, start);
     }
     if query.len() <= BRIEF {
         return select_brief(query, table, text, list, start);

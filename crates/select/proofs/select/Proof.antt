@@ -10,8 +10,8 @@ early-refusal-requires c κs = search needs
 returns : tie.Need-returns
 returns c = let o = select-early (c .before .early-refusal .ensures) (c .if1 .taken) in (o .is, o .only)
 
-select-brief-requires : tie.Need-select-brief-requires
-select-brief-requires c κs = search needs
+select-tiny-requires : tie.Need-select-tiny-requires
+select-tiny-requires c κs = search needs
 
 same-length : tie.Need-same-length
 same-length c = search needs
@@ -19,8 +19,8 @@ same-length c = search needs
 returns-2 : tie.Need-returns-2
 returns-2 c = search needs
 
-select-short-requires : tie.Need-select-short-requires
-select-short-requires c κs = search needs
+select-small-requires : tie.Need-select-small-requires
+select-small-requires c κs = search needs
 
 same-length-2 : tie.Need-same-length-2
 same-length-2 c = search needs
@@ -28,11 +28,8 @@ same-length-2 c = search needs
 returns-3 : tie.Need-returns-3
 returns-3 c = search needs
 
-shared-slice-read-again : tie.Need-shared-slice-read-again
-shared-slice-read-again c = search needs
-
-select-long-requires : tie.Need-select-long-requires
-select-long-requires c κs = search needs
+select-brief-requires : tie.Need-select-brief-requires
+select-brief-requires c κs = search needs
 
 same-length-3 : tie.Need-same-length-3
 same-length-3 c = search needs
@@ -40,19 +37,46 @@ same-length-3 c = search needs
 returns-4 : tie.Need-returns-4
 returns-4 c = search needs
 
+select-short-requires : tie.Need-select-short-requires
+select-short-requires c κs = search needs
+
+same-length-4 : tie.Need-same-length-4
+same-length-4 c = search needs
+
+returns-5 : tie.Need-returns-5
+returns-5 c = search needs
+
+shared-slice-read-again : tie.Need-shared-slice-read-again
+shared-slice-read-again c = search needs
+
+select-long-requires : tie.Need-select-long-requires
+select-long-requires c κs = search needs
+
+same-length-5 : tie.Need-same-length-5
+same-length-5 c = search needs
+
+returns-6 : tie.Need-returns-6
+returns-6 c = search needs
+
 pub select-spec : {M : Type 1} → statement M
 select-spec =
     tie.close
     (tie.spec
     early-refusal-requires
     returns
-    select-brief-requires
+    select-tiny-requires
     same-length
     returns-2
-    select-short-requires
+    select-small-requires
     same-length-2
     returns-3
+    select-brief-requires
+    same-length-3
+    returns-4
+    select-short-requires
+    same-length-4
+    returns-5
     shared-slice-read-again
     select-long-requires
-    same-length-3
-    returns-4)
+    same-length-5
+    returns-6)

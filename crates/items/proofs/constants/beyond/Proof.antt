@@ -1,15 +1,43 @@
 -- `items::constants::beyond` meets its contract: one mark is set.
 -- Assumes nothing.
-use mathlib.Core.Path.{refl, sym}
-use mathlib.Core.Bool.{or-true, or-false}
-use Rattle.writing.specs.Effects.{joinMarks}
-use Rattle.items.specs.Laws.{first-none}
+use mathlib.Core.Path.{refl, sym, ap, _∙_}
+use mathlib.Core.Bool.{true, false, or-false}
+use Prim.Native.Nat.{_/_}
+use Rattle.items.specs.Reads.{marksAt, callsAt}
+use Rattle.items.proofs.Marks.{late-raised, late-kept, says-beyond}
+use borrow.Author.Needs.{needs}
 use Rattle.items.proofs.constants.beyond.Statement.{statement}
 use Rattle.items.proofs.constants.beyond.Tie as tie
 
+add-marked : tie.Need-add-marked
+add-marked c = search needs
+
+marked-requires : tie.Need-marked-requires
+marked-requires c κs = search needs
+
 returns : tie.Need-returns
-unfolding joinMarks
-returns c = ((refl, refl, refl), sym (rw (first-none (c .args .st .verdict), or-false (c .args .st .calls), or-true (c .args .st .beyond))))
+returns c = (c .marked .ensures .0, ap marksAt (c .marked .ensures .1) ∙ late-raised (c .before .before .args .st .marks) 0 false true (c .before .if1 .taken) 2 refl refl)
+
+add-marked-2 : tie.Need-add-marked-2
+add-marked-2 c = search needs
+
+marked-requires-2 : tie.Need-marked-requires-2
+marked-requires-2 c κs = search needs
+
+returns-2 : tie.Need-returns-2
+returns-2 c = (c .marked2 .ensures .0, ap marksAt (c .marked2 .ensures .1) ∙ late-raised (c .before .before .before .args .st .marks) 1 false true (c .before .if2 .taken) 2 refl refl)
+
+returns-3 : tie.Need-returns-3
+returns-3 c = let n = c .before .before .args .st .marks in ((refl, refl, refl), late-kept n (n / 256) false true refl (sym (or-false (callsAt (n / 256)))) (says-beyond (n / 256) (c .before .if1 .left) (c .if2 .left)))
 
 pub beyond-spec : {M : Type 1} → statement M
-beyond-spec = tie.close (tie.spec returns)
+beyond-spec =
+    tie.close
+    (tie.spec
+    add-marked
+    marked-requires
+    returns
+    add-marked-2
+    marked-requires-2
+    returns-2
+    returns-3)

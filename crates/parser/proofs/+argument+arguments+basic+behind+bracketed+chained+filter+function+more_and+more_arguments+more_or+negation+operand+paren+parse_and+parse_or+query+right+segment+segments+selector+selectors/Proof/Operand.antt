@@ -1,7 +1,9 @@
 -- The answers of `operand` in the cycle of calls {argument, arguments, basic, behind, bracketed, chained, filter, function, more_and, more_arguments, more_or, negation, operand, paren, parse_and, parse_or, query, right, segment, segments, selector, selectors}.
 use borrow.Author.Needs.{needs}
 use Rattle.parser.proofs.Operands.{start-byte, start-call, word-room, operand-at-current, operand-at-root, operand-at-call, operand-at-keyword, operand-at-constant}
-use Rattle.items.specs.Laws.{word-of, no-word-of}
+use Rattle.items.specs.Laws.{word-of, no-word-of, whole, start-whole, post-whole}
+use mathlib.Core.Path.{ap}
+use lib.ListN.{length}
 use native.Mathlib.Omega.{arith}
 use Rattle.parser.proofs.+argument+arguments+basic+behind+bracketed+chained+filter+function+more_and+more_arguments+more_or+negation+operand+paren+parse_and+parse_or+query+right+segment+segments+selector+selectors.Lts-operand as lts
 use Prim.Native.Nat.{ℕ}
@@ -24,19 +26,31 @@ module _ (t : ℕ) where
   pub is-requires : lts.Need-is-requires (calls t) (operand-at t) operand.Post
   is-requires c κs = search needs
 
-  -- src/lib.rt:370:47
+  -- src/lib.rt:370:22
+  pub sub-query : lts.Need-sub-query (calls t) (operand-at t) operand.Post
+  sub-query c = search needs
+
+  -- src/lib.rt:370:22
+  pub part-query-start : lts.Need-part-query-start (calls t) (operand-at t) operand.Post
+  part-query-start c = search needs
+
+  -- src/lib.rt:370:22
+  pub part-query-end : lts.Need-part-query-end (calls t) (operand-at t) operand.Post
+  part-query-end c = search needs
+
+  -- src/lib.rt:370:53
   pub add-moved : lts.Need-add-moved (calls t) (operand-at t) operand.Post
   add-moved c = search needs
 
-  -- src/lib.rt:370:37
+  -- src/lib.rt:370:43
   pub moved-requires : lts.Need-moved-requires (calls t) (operand-at t) operand.Post
   moved-requires c κs = search needs
 
   -- src/lib.rt:370:9
   pub query-requires : lts.Need-query-requires (calls t) (operand-at t) operand.Post
   query-requires c κs =
-      let i = rw (c .before .before .before .if1 .taken) at (c .before .before .before .before .is .ensures) in
-      (omega (arith, c .before .before .before .before .before .before .before .before .pre .0, i .0, c .moved .ensures .0), start-byte (c .before .before .before .before .before .before .before .before .pre .1) (omega arith) i (c .moved .ensures) (omega arith))
+      let i = rw (c .before .before .before .before .if1 .taken) at (c .before .before .before .before .before .is .ensures) in
+      (omega (arith, ap length (whole (c .before .before .before .before .before .before .before .before .before .args .s .now)), c .before .before .before .before .before .before .before .before .before .pre .0, i .0, c .moved .ensures .0), start-whole (whole _) (start-byte (c .before .before .before .before .before .before .before .before .before .pre .1) (omega arith) i (c .moved .ensures) (omega arith)))
 
   -- src/lib.rt:370:9
   pub same-length : lts.Need-same-length (calls t) (operand-at t) operand.Post
@@ -48,25 +62,37 @@ module _ (t : ℕ) where
 
   -- src/lib.rt:370:9
   pub returns : lts.Need-returns (calls t) (operand-at t) operand.Post
-  returns c = operand-at-current (rw (c .before .before .before .before .before .before .before .before .if1 .taken) at (c .before .before .before .before .before .before .before .before .before .is .ensures)) (c .before .before .before .before .before .moved .ensures) (c .before .before .before .before .query .ensures)
+  returns c = operand-at-current (rw (c .before .before .before .before .before .before .before .before .before .if1 .taken) at (c .before .before .before .before .before .before .before .before .before .before .is .ensures)) (c .before .before .before .before .before .moved .ensures) (post-whole (whole _) (c .before .before .before .before .query .ensures))
 
   -- src/lib.rt:372:8
   pub is-requires-2 : lts.Need-is-requires-2 (calls t) (operand-at t) operand.Post
   is-requires-2 c κs = search needs
 
-  -- src/lib.rt:373:47
+  -- src/lib.rt:373:22
+  pub sub-query-2 : lts.Need-sub-query-2 (calls t) (operand-at t) operand.Post
+  sub-query-2 c = search needs
+
+  -- src/lib.rt:373:22
+  pub part-query-start-2 : lts.Need-part-query-start-2 (calls t) (operand-at t) operand.Post
+  part-query-start-2 c = search needs
+
+  -- src/lib.rt:373:22
+  pub part-query-end-2 : lts.Need-part-query-end-2 (calls t) (operand-at t) operand.Post
+  part-query-end-2 c = search needs
+
+  -- src/lib.rt:373:53
   pub add-moved-2 : lts.Need-add-moved-2 (calls t) (operand-at t) operand.Post
   add-moved-2 c = search needs
 
-  -- src/lib.rt:373:37
+  -- src/lib.rt:373:43
   pub moved-requires-2 : lts.Need-moved-requires-2 (calls t) (operand-at t) operand.Post
   moved-requires-2 c κs = search needs
 
   -- src/lib.rt:373:9
   pub query-requires-2 : lts.Need-query-requires-2 (calls t) (operand-at t) operand.Post
   query-requires-2 c κs =
-      let i = rw (c .before .before .before .if2 .taken) at (c .before .before .before .before .is2 .ensures) in
-      (omega (arith, c .before .before .before .before .before .before .before .before .before .before .pre .0, i .0, c .moved2 .ensures .0), start-byte (c .before .before .before .before .before .before .before .before .before .before .pre .1) (omega arith) i (c .moved2 .ensures) (omega arith))
+      let i = rw (c .before .before .before .before .if2 .taken) at (c .before .before .before .before .before .is2 .ensures) in
+      (omega (arith, ap length (whole (c .before .before .before .before .before .before .before .before .before .before .before .args .s .now)), c .before .before .before .before .before .before .before .before .before .before .before .pre .0, i .0, c .moved2 .ensures .0), start-whole (whole _) (start-byte (c .before .before .before .before .before .before .before .before .before .before .before .pre .1) (omega arith) i (c .moved2 .ensures) (omega arith)))
 
   -- src/lib.rt:373:9
   pub same-length-3 : lts.Need-same-length-3 (calls t) (operand-at t) operand.Post
@@ -78,7 +104,7 @@ module _ (t : ℕ) where
 
   -- src/lib.rt:373:9
   pub returns-2 : lts.Need-returns-2 (calls t) (operand-at t) operand.Post
-  returns-2 c = operand-at-root (rw (c .before .before .before .before .before .before .before .before .if2 .taken) at (c .before .before .before .before .before .before .before .before .before .is2 .ensures)) (c .before .before .before .before .before .moved2 .ensures) (c .before .before .before .before .query2 .ensures)
+  returns-2 c = operand-at-root (rw (c .before .before .before .before .before .before .before .before .before .if2 .taken) at (c .before .before .before .before .before .before .before .before .before .before .is2 .ensures)) (c .before .before .before .before .before .moved2 .ensures) (post-whole (whole _) (c .before .before .before .before .query2 .ensures))
 
   -- src/lib.rt:375:22
   pub read-word-requires : lts.Need-read-word-requires (calls t) (operand-at t) operand.Post
@@ -88,11 +114,11 @@ module _ (t : ℕ) where
   pub enum-known-e : lts.Need-enum-known-e (calls t) (operand-at t) operand.Post
   enum-known-e c = search needs
 
-  -- src/lib.rt:376:45
+  -- src/lib.rt:376:33
   pub enum-told : lts.Need-enum-told (calls t) (operand-at t) operand.Post
   enum-told c = search needs
 
-  -- src/lib.rt:376:16
+  -- src/lib.rt:376:9
   pub write-literal-requires : lts.Need-write-literal-requires (calls t) (operand-at t) operand.Post
   write-literal-requires c κs = search needs
 
