@@ -66,13 +66,7 @@ fn select_in(
     }
 }
 
-fn select_tiny(
-    query: &[u8],
-    table: &[u8],
-    text: &[u8],
-    list: &mut [u32],
-    start: usize,
-) -> Selection
+fn select_tiny(query: &[u8], table: &[u8], text: &[u8], list: &mut [u32], start: usize) -> Selection
     requires { ⌜ (length (now query) ≤ 16) × (early (now query) ≡ 0) ⌝ }
     ensures { λ r. ⌜ SelectsOnly (now (query .entry)) (now (table .entry)) (now (text .entry)) (now (list .entry)) start (selected r (now (list .exit))) ⌝ }
 {

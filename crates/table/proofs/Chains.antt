@@ -8,26 +8,24 @@ use lib.ListN.{length, getD, set, length-set}
 use lib.Seq.{getD-set-same, getD-set-other}
 use native.Mathlib.Omega.{arith}
 use borrow.Author.Tests.{eqb-true, eqb-false, ltb-true, ltb-false}
-use Rattle.definition.specs.Limits.{maxMembers}
-use Rattle.table.specs.Buckets.{buckets}
 use Rattle.table.specs.Chains.{Latest, HeadsBelow, Chained}
 
 -- heads that are below a node are below the next one
 pub heads-next : (i : ℕ) (H : List ℕ) → HeadsBelow i H → HeadsBelow (i + 1) H
-heads-next i H k = record { room = k .room; below = λ b l. let m = k .below b l in omega arith }
+heads-next i H k = record { some = k .some; below = λ b l. let m = k .below b l in omega arith }
 
 -- chains have heads below the end
 pub chained-heads : (h : ℕ → ℕ) (from end : ℕ) (H L : List ℕ) → Chained h from end H L → HeadsBelow end H
-chained-heads h from end H L k = record { room = k .room; below = λ b l. k .last b l .earlier }
+chained-heads h from end H L k = record { some = k .some; below = λ b l. k .last b l .earlier }
 
 module _ (h : ℕ → ℕ) (from i : ℕ) where
   -- no node counts yet: every head and every link is below the place
-  pub chains-begin : (H L : List ℕ) → i ≤ from → HeadsBelow i H → length L ≡ maxMembers → Chained h from i H L
-  chains-begin H L e k r =
+  pub chains-begin : (H L : List ℕ) → i ≤ from → HeadsBelow i H → Chained h from i H L
+  chains-begin H L e k =
       record {
-        room = k .room;
+        some = k .some;
         last = λ b l. record { earlier = k .below b l; same = λ m. let z = k .below b l in absurd (omega arith); covers = λ j m n _. absurd (omega arith) };
-        linked = record { room = r; before = λ j m n. absurd (omega arith) };
+        linked = record { room = omega arith; before = λ j m n. absurd (omega arith) };
       }
 
   -- a node in another bucket leaves the last one of a bucket as it is
@@ -42,15 +40,14 @@ module _ (h : ℕ → ℕ) (from i : ℕ) where
   latest-self : Latest h (h i) from (i + 1) i
   latest-self = record { earlier = omega arith; same = λ _. refl; covers = λ j l m e. omega arith }
 
-  module _ (H L : List ℕ) (k : Chained h from i H L) (a : from ≤ i) (m : i < from + maxMembers) (d : h i < buckets) where
+  module _ (H L : List ℕ) (k : Chained h from i H L) (a : from ≤ i) (m : i - from < length L) (d : h i < length H) where
     -- the heads, once the node is the head of its bucket
-    last-joined : (b : ℕ) → b < buckets → Latest h b from (i + 1) (getD (set H (h i) i) b 0)
+    last-joined : (b : ℕ) → b < length H → Latest h b from (i + 1) (getD (set H (h i) i) b 0)
     last-joined b l = go (eqb b (h i)) refl
       where
         go : (x : Bool) → eqb b (h i) ≡ x → Latest h b from (i + 1) (getD (set H (h i) i) b 0)
         go true e =
             let s = eqb-true b (h i) e in
-            let r = k .room in
             let g : getD (set H (h i) i) b 0 ≡ i = ap (λ (x : ℕ). getD (set H (h i) i) x 0) s ∙ getD-set-same H (h i) i 0 (omega arith) in
             rw g (subst (λ (x : ℕ). Latest h x from (i + 1) i) (sym s) latest-self)
         go false e =
@@ -68,7 +65,6 @@ module _ (h : ℕ → ℕ) (from i : ℕ) where
         go false e =
             let t = ltb-false j i e in
             let s : i ≡ j = omega arith in
-            let r = k .linked .room in
             subst (λ (x : ℕ). Latest h (h x) from x (getD (set L (i - from) (getD H (h i) 0)) (x - from) 0)) s
             (rw (getD-set-same L (i - from) (getD H (h i) 0) 0 (omega arith)) (k .last (h i) d))
 
@@ -76,7 +72,7 @@ module _ (h : ℕ → ℕ) (from i : ℕ) where
     pub chain-joined : Chained h from (i + 1) (set H (h i) i) (set L (i - from) (getD H (h i) 0))
     chain-joined =
         record {
-          room = length-set H (h i) i ∙ k .room;
-          last = last-joined;
-          linked = record { room = length-set L (i - from) (getD H (h i) 0) ∙ k .linked .room; before = before-joined };
+          some = let e = length-set H (h i) i in omega (arith, k .some);
+          last = λ b l. last-joined b (let e = length-set H (h i) i in omega arith);
+          linked = record { room = let e = length-set L (i - from) (getD H (h i) 0) in omega arith; before = before-joined };
         }

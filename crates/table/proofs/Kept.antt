@@ -4,16 +4,16 @@ use mathlib.Core.Path.{_≡_, refl, sym, ap, _∙_, subst}
 use mathlib.Core.List.{List}
 use mathlib.Core.Bool.{Bool, true, false}
 use lib.Dec.{ltb}
-use lib.ListN.{replicate, length-replicate, getD-replicate}
+use lib.ListN.{length, replicate, length-replicate, getD-replicate}
 use native.Mathlib.Omega.{arith}
 use borrow.Author.Tests.{ltb-true, ltb-false}
 use Rattle.definition.specs.Limits.{maxMembers}
-use Rattle.definition.specs.Tables.{firstChild}
+use Rattle.definition.specs.Tables.{nodeCount, firstChild}
 use Rattle.tables.specs.Counts.{counts-monotone}
 use Rattle.tables.specs.Parents.{one-parent}
 use Rattle.table.specs.declared.scan.Cursor.{Cursor}
-use Rattle.table.specs.Buckets.{buckets, bucketAt}
-use Rattle.table.specs.Chains.{HeadsBelow, Chained}
+use Rattle.table.specs.Buckets.{bucketAt}
+use Rattle.table.specs.Chains.{HeadsBelow, Chained, Roomy}
 use Rattle.table.specs.Words.{Large, Kept, CursorAt, ParentAt, Before}
 use Rattle.table.proofs.Chains.{heads-next, chained-heads, chains-begin}
 use Rattle.table.proofs.Cursor.{found-range, after-node}
@@ -46,12 +46,12 @@ module _ (T X : List ℕ) (i : ℕ) (q r : Cursor) (H L : List ℕ) (b : Before 
   pub kept-moved : Kept T X i (r .parent) (r .from) H L
   kept-moved = record { heads = b .kept .heads; room = b .kept .room; chained = λ m. go m (ltb i (q .end)) refl }
     where
-      go : Large T (r .parent) → (x : Bool) → ltb i (q .end) ≡ x → Chained (bucketAt T X) (r .from) i H L
+      go : Large T (r .parent) → (x : Bool) → ltb i (q .end) ≡ x → Chained (bucketAt (length H) T X) (r .from) i H L
       go m true e =
           let s = same-parent (ltb-true i (q .end) e) in
           let f : q .from ≡ r .from = b .cursor .from-is ∙ ap (firstChild T) s ∙ sym (p .place .from-is) in
-          subst (λ (x : ℕ). Chained (bucketAt T X) x i H L) f (b .kept .chained (subst (Large T) (sym s) m))
-      go m false e = chains-begin (bucketAt T X) (r .from) i H L (first-of-range (ltb-false i (q .end) e)) (b .kept .heads) (b .kept .room)
+          subst (λ (x : ℕ). Chained (bucketAt (length H) T X) x i H L) f (b .kept .chained (subst (Large T) (sym s) m))
+      go m false e = chains-begin (bucketAt (length H) T X) (r .from) i H L (first-of-range (ltb-false i (q .end) e)) (b .kept .heads)
 
 module _ (T X : List ℕ) (i p f : ℕ) (H L : List ℕ) where
   -- behind a node that joins no chain
@@ -59,25 +59,33 @@ module _ (T X : List ℕ) (i p f : ℕ) (H L : List ℕ) where
   kept-plain k n = record { heads = heads-next i H (k .heads); room = k .room; chained = λ m. absurd (n m) }
 
   -- behind a node that joined the chain of its bucket
-  pub kept-chained : Chained (bucketAt T X) f (i + 1) H L → Kept T X (i + 1) p f H L
-  kept-chained k = record { heads = chained-heads (bucketAt T X) f (i + 1) H L k; room = k .linked .room; chained = λ _. k }
+  pub kept-chained : Chained (bucketAt (length H) T X) f (i + 1) H L → Roomy T L → Kept T X (i + 1) p f H L
+  kept-chained k r = record { heads = chained-heads (bucketAt (length H) T X) f (i + 1) H L k; room = r; chained = λ _. k }
+
+-- as many links have the same places
+pub roomy-same : {T L L' : List ℕ} → length L' ≡ length L → Roomy T L → Roomy T L'
+roomy-same e r = record { place = λ f i a b. let z = r .place f i a b in omega arith }
 
 -- behind a node, with the cursor at its parent
 pub before-next : (T X : List ℕ) (i : ℕ) (q : Cursor) (H L : List ℕ) → ParentAt T i q → Kept T X (i + 1) (q .parent) (q .from) H L → Before T X (i + 1) q H L
 before-next T X i q H L p k = record { cursor = after-node T i q p; reach = let e = p .end-past in omega arith; kept = k }
 
 -- before node 1 no chain is begun, and every head is 0
-before-zeros : (n m : ℕ) → n ≡ buckets → m ≡ maxMembers → (T X : List ℕ) (q : Cursor) → CursorAt T 1 q → Before T X 1 q (replicate n 0) (replicate m 0)
-before-zeros n m a b T X q h =
+pub before-zeros : (n m : ℕ) → 0 < n → (T X : List ℕ) → Roomy T (replicate m 0) → (q : Cursor) → CursorAt T 1 q → Before T X 1 q (replicate n 0) (replicate m 0)
+before-zeros n m a T X l q h =
     let f = h .from-is in
     let e = h .end-is in
-    let l = length-replicate {A = ℕ} m 0 ∙ b in
-    let k : HeadsBelow 1 (replicate n 0) = record { room = length-replicate {A = ℕ} n 0 ∙ a; below = λ j d. let y = getD-replicate {A = ℕ} n j 0 0 (omega arith) in omega arith } in
+    let z = length-replicate {A = ℕ} n 0 in
+    let k : HeadsBelow 1 (replicate n 0) = record { some = omega arith; below = λ j d. let y = getD-replicate {A = ℕ} n j 0 0 (omega arith) in omega arith } in
     record {
       cursor = h;
       reach = omega arith;
-      kept = record { heads = k; room = l; chained = λ _. chains-begin (bucketAt T X) (q .from) 1 (replicate n 0) (replicate m 0) (omega arith) k l };
+      kept = record { heads = k; room = l; chained = λ _. chains-begin (bucketAt (length (replicate n 0)) T X) (q .from) 1 (replicate n 0) (replicate m 0) (omega arith) k };
     }
 
-pub before-first : (T X : List ℕ) (q : Cursor) → CursorAt T 1 q → Before T X 1 q (replicate buckets 0) (replicate maxMembers 0)
-before-first = before-zeros buckets maxMembers refl refl
+-- as many links as a map can have members, and as many as a table has nodes
+pub roomy-members : (T : List ℕ) (m : ℕ) → m ≡ maxMembers → Roomy T (replicate m 0)
+roomy-members T m e = let z = length-replicate {A = ℕ} m 0 in record { place = λ f i a b. omega arith }
+
+pub roomy-nodes : (T : List ℕ) (m : ℕ) → nodeCount T ≤ m → Roomy T (replicate m 0)
+roomy-nodes T m h = let z = length-replicate {A = ℕ} m 0 in record { place = λ f i a b. omega arith }

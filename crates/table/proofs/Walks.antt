@@ -10,7 +10,7 @@ use Rattle.definition.specs.Bytes.{sameBytes}
 use Rattle.definition.specs.Tables.{keyBytes, keyDiffers}
 use Rattle.tables.specs.Bools.{and-left, and-right, and-not-left, and-not-right}
 use Rattle.table.specs.Buckets.{bucketOf, bucketAt}
-use Rattle.table.specs.Chains.{Latest}
+use Rattle.table.specs.Chains.{Latest, Linked}
 
 -- texts that are found to be the same are equal
 same-true : (s t : List ℕ) → sameBytes s t ≡ true → s ≡ t
@@ -21,11 +21,11 @@ same-true (x ∷ s) [] e = cc
 same-true (x ∷ s) (y ∷ t) e = ap₂ _∷_ (eqb-true x y (and-left (eqb x y) (sameBytes s t) e)) (same-true s t (and-right (eqb x y) (sameBytes s t) e))
 
 -- keys of different buckets differ
-apart : (s t : List ℕ) → (bucketOf s ≡ bucketOf t → ⊥) → sameBytes s t ≡ false
-apart s t ne = go (sameBytes s t) refl
+apart : (n : ℕ) (s t : List ℕ) → (bucketOf n s ≡ bucketOf n t → ⊥) → sameBytes s t ≡ false
+apart n s t ne = go (sameBytes s t) refl
   where
     go : (x : Bool) → sameBytes s t ≡ x → x ≡ false
-    go true e = absurd (ne (ap bucketOf (same-true s t e)))
+    go true e = absurd (ne (ap (bucketOf n) (same-true s t e)))
     go false e = refl
 
 module _ (T X : List ℕ) (i : ℕ) where
@@ -59,18 +59,26 @@ module _ (T X : List ℕ) (i : ℕ) where
   differs-not from k a b s = differs-one (i - from) from k a (omega arith) s
 
   -- above the last node in a bucket no key is in it
-  pub walk-begins : (from v : ℕ) → Latest (bucketAt T X) (bucketAt T X i) from i v → UnlikeAbove from v
-  walk-begins from v h k a b l = apart (keyBytes T X k) (keyBytes T X i) (λ e. let m = h .covers k a b e in omega arith)
+  pub walk-begins : (n from v : ℕ) → Latest (bucketAt n T X) (bucketAt n T X i) from i v → UnlikeAbove from v
+  walk-begins n from v h k a b l = apart n (keyBytes T X k) (keyBytes T X i) (λ e. let m = h .covers k a b e in omega arith)
 
   -- one step down: the key of node j is unlike, and the others down to the node before it in the bucket are in other buckets
-  pub walk-on : (from j v : ℕ) → j < i → bucketAt T X j ≡ bucketAt T X i → Latest (bucketAt T X) (bucketAt T X j) from j v → sameBytes (keyBytes T X j) (keyBytes T X i) ≡ false → UnlikeAbove from j → UnlikeAbove from v
-  walk-on from j v l e h d u k a b m = go (ltb j k) refl (ltb k j) refl
+  pub walk-on : (n from j v : ℕ) → j < i → bucketAt n T X j ≡ bucketAt n T X i → Latest (bucketAt n T X) (bucketAt n T X j) from j v → sameBytes (keyBytes T X j) (keyBytes T X i) ≡ false → UnlikeAbove from j → UnlikeAbove from v
+  walk-on n from j v l e h d u k a b m = go (ltb j k) refl (ltb k j) refl
     where
       go : (x : Bool) → ltb j k ≡ x → (y : Bool) → ltb k j ≡ y → sameBytes (keyBytes T X k) (keyBytes T X i) ≡ false
       go true f y g = u k a b (ltb-true j k f)
-      go false f true g = apart (keyBytes T X k) (keyBytes T X i) (λ z. let n = h .covers k a (ltb-true k j g) (z ∙ sym e) in omega arith)
+      go false f true g = apart n (keyBytes T X k) (keyBytes T X i) (λ z. let o = h .covers k a (ltb-true k j g) (z ∙ sym e) in omega arith)
       go false f false g =
           let p = ltb-false j k f in
           let q = ltb-false k j g in
           let z : j ≡ k = omega arith in
           subst (λ (x : ℕ). sameBytes (keyBytes T X x) (keyBytes T X i) ≡ false) z d
+
+-- A walk along a chain that has come down to j: the keys above it are unlike that of the node, and it is in the node's bucket or below the first one.
+pub record Walking (T X : List ℕ) (node from : ℕ) (L : List ℕ) (j : ℕ) : Type 0 where
+  pub below : j < node
+  pub count : ℕ
+  pub linked : Linked (bucketAt count T X) from node L
+  pub same : from ≤ j → bucketAt count T X j ≡ bucketAt count T X node
+  pub unlike : UnlikeAbove T X node from j

@@ -6,10 +6,6 @@ use lib.ListN.{length}
 use Rattle.definition.specs.Bytes.{part, number}
 use Rattle.definition.specs.Tables.{keyBytes}
 
--- how many buckets there are
-abbrev pub buckets : ℕ
-buckets = 1024
-
 -- how many hashes there are
 abbrev pub hashes : ℕ
 hashes = 4294967296
@@ -27,10 +23,10 @@ folded w s (suc n) at h = folded w s n (at + w) (mixed h (number (part s at w)))
 unfoldable pub hashOf : List ℕ → ℕ
 hashOf s = folded 1 s (length s - length s / 4 * 4) (length s / 4 * 4) (folded 4 s (length s / 4) 0 0)
 
--- the two halves of the hash together choose the bucket
-unfoldable pub bucketOf : List ℕ → ℕ
-bucketOf s = (hashOf s + hashOf s / 65536) % buckets
+-- the two halves of the hash together choose one of n buckets
+unfoldable pub bucketOf : ℕ → List ℕ → ℕ
+bucketOf n s = (hashOf s + hashOf s / 65536) % n
 
 -- the bucket of a node's key
-abbrev pub bucketAt : List ℕ → List ℕ → ℕ → ℕ
-bucketAt T X i = bucketOf (keyBytes T X i)
+abbrev pub bucketAt : ℕ → List ℕ → List ℕ → ℕ → ℕ
+bucketAt n T X i = bucketOf n (keyBytes T X i)

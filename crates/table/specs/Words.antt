@@ -9,7 +9,7 @@ use Rattle.definition.specs.Limits.{maxNodes, maxMembers}
 use Rattle.definition.specs.Tables.{nodeCount, kindAt, kindMap, highWord, firstChild, keyStart, keyLength, nodeRight}
 use Rattle.text.specs.Chars.{isAscii}
 use Rattle.table.specs.Buckets.{bucketAt}
-use Rattle.table.specs.Chains.{HeadsBelow, Chained}
+use Rattle.table.specs.Chains.{HeadsBelow, Chained, Roomy}
 use Rattle.table.specs.declared.scan.Cursor.{Cursor}
 use Rattle.table.specs.declared.scan.NodeChecked.{NodeChecked}
 use Rattle.table.specs.declared.scan.NodeChecked.the-variants.{Next, Wrong}
@@ -47,8 +47,8 @@ pub record Large (T : List ℕ) (p : ℕ) : Type 0 where
 -- heads and links before node i, whose parent is p with the first child f: in a large map they hold the chains of the members before i
 pub record Kept (T X : List ℕ) (i p f : ℕ) (H L : List ℕ) : Type 0 where
   pub heads : HeadsBelow i H
-  pub room : length L ≡ maxMembers
-  pub chained : Large T p → Chained (bucketAt T X) f i H L
+  pub room : Roomy T L
+  pub chained : Large T p → Chained (bucketAt (length H) T X) f i H L
 
 -- a node, an earlier node, and where the range of the earlier one's children begins, at or before the node
 pub record Child (T : List ℕ) (node parent from : ℕ) : Type 0 where

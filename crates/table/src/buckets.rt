@@ -2,7 +2,7 @@
 ghost use mathlib.Core.Path.{_≡_};
 ghost use Prim.Native.Nat.{_<_, _≤_, _-_, _*_, _/_};
 ghost use lib.ListN.{length};
-ghost use Rattle.table.specs.Buckets.{hashes, buckets, mixed, folded, bucketOf};
+ghost use Rattle.table.specs.Buckets.{hashes, mixed, folded, bucketOf};
 use text::bytes;
 
 const FACTOR: usize = 1640531527;
@@ -12,7 +12,10 @@ const HALF: usize = 65536;
 // A hash has 32 bits.
 const HASHES: usize = 4294967296;
 
+// As many buckets as a map can have members, and as many as a small table can have nodes.
 pub const BUCKETS: usize = 1024;
+
+pub const FEW_BUCKETS: usize = 128;
 
 // The hash of what was read before and a word of at most four bytes.
 fn mix(hash: usize, word: usize) -> usize
@@ -49,11 +52,16 @@ fn bytes_hash(s: &[u8], start: usize, before: usize) -> usize
     hash
 }
 
-// The bucket of a key.
-pub fn bucket(s: &[u8]) -> usize
-    ensures { λ r. ⌜ (r ≡ bucketOf (now (s .entry))) × (r < buckets) ⌝ }
+// The bucket of a key, one of n. For the usual number of them no division is needed.
+pub fn bucket(s: &[u8], n: usize) -> usize
+    requires { ⌜ 0 < n ⌝ }
+    ensures { λ r. ⌜ (r ≡ bucketOf n (now (s .entry))) × (r < n) ⌝ }
 {
     let words = words_hash(s);
     let hash = bytes_hash(s, s.len() / 4 * 4, words);
-    (hash + hash / HALF) % BUCKETS
+    let both = hash + hash / HALF;
+    if n == BUCKETS {
+        return both % BUCKETS;
+    }
+    both % n
 }

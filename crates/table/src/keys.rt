@@ -11,7 +11,7 @@ ghost use Rattle.definition.specs.Bytes.{sameBytes};
 ghost use Rattle.definition.specs.Tables.{keyBytes, keyDiffers};
 ghost use Rattle.table.specs.Words.{KeysInside, Joins};
 ghost use Rattle.table.specs.Buckets.{bucketAt};
-ghost use Rattle.table.specs.Chains.{Latest, Linked, Chained};
+ghost use Rattle.table.specs.Chains.{Chain, Chained};
 use crate::buckets;
 use crate::records;
 use text::parts;
@@ -61,8 +61,7 @@ fn chain_differs(
 ) -> bool
     requires { ⌜ Joins (now table) (now text) from node ⌝ }
     requires { ⌜ now key ≡ keyBytes (now table) (now text) node ⌝ }
-    requires { ⌜ Latest (bucketAt (now table) (now text)) (bucketAt (now table) (now text) node) from node head ⌝ }
-    requires { ⌜ Linked (bucketAt (now table) (now text)) from node (now links) ⌝ }
+    requires { ⌜ Chain (now table) (now text) from node head (now links) ⌝ }
     ensures { λ r. ⌜ r ≡ keyDiffers (now (table .entry)) (now (text .entry)) node from (node - from) ⌝ }
 {
     let mut j = head;
@@ -85,14 +84,16 @@ pub fn joins_chain(
     links: &mut [u16],
 ) -> bool
     requires { ⌜ Joins (now table) (now text) from node ⌝ }
-    requires { ⌜ Chained (bucketAt (now table) (now text)) from node (now heads) (now links) ⌝ }
+    requires { ⌜ Chained (bucketAt (length (now heads)) (now table) (now text)) from node (now heads) (now links) ⌝ }
+    requires { ⌜ node - from < length (now links) ⌝ }
     ensures { λ r. ⌜ r ≡ keyDiffers (now (table .entry)) (now (text .entry)) node from (node - from) ⌝ }
-    ensures { λ r. ⌜ (r ≡ true → Chained (bucketAt (now (table .entry)) (now (text .entry))) from (node + 1) (now (heads .exit)) (now (links .exit))) ⌝ }
+    ensures { λ r. ⌜ (r ≡ true → Chained (bucketAt (length (now (heads .exit))) (now (table .entry)) (now (text .entry))) from (node + 1) (now (heads .exit)) (now (links .exit))) ⌝ }
+    ensures { λ r. ⌜ length (now (links .exit)) ≡ length (now (links .entry)) ⌝ }
 {
     let start = records::key_start(table, node) as usize;
     let end = start + records::key_length(table, node) as usize;
     let key = &text[start..end];
-    let bucket = buckets::bucket(key);
+    let bucket = buckets::bucket(key, heads.len());
     let last = heads[bucket];
     if !chain_differs(table, text, node, from, key, last as usize, links) {
         return false;

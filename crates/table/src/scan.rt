@@ -17,6 +17,8 @@ const RECORD: usize = 24;
 
 const MAX_MEMBERS: usize = 1024;
 
+const FEW_NODES: usize = 128;
+
 // A node with the range of its children.
 pub struct Cursor {
     pub parent: usize,
@@ -127,6 +129,19 @@ fn with_chains(table: &[u8], text: &[u8], start: usize, root: Cursor, ascii: boo
     rest(table, text, start, root, &mut heads, &mut links, ascii)
 }
 
+// The same for a table of few nodes, whose chains need less room: all of it is cleared first.
+fn with_few(table: &[u8], text: &[u8], start: usize, root: Cursor, ascii: bool) -> TableChecked
+    requires { ⌜ (start ≡ firstChild (now table) 1) × CursorAt (now table) 1 root ⌝ }
+    requires { ⌜ (0 < nodeCount (now table)) × (nodeCount (now table) ≤ maxNodes) × RightBelow (now table) (now text) 1 ⌝ }
+    requires { ⌜ nodeCount (now table) ≤ 128 ⌝ }
+    requires { ⌜ AsciiIf «ascii» (now text) ⌝ }
+    ensures { λ r. ⌜ reported r ≡ reportTable (byLeast (leastWrong (now (table .entry)) (now (text .entry)) 0 (nodeCount (now (table .entry))))) ⌝ }
+{
+    let mut heads = [0u16; buckets::FEW_BUCKETS];
+    let mut links = [0u16; FEW_NODES];
+    rest(table, text, start, root, &mut heads, &mut links, ascii)
+}
+
 // The whole pass.
 pub fn scan(table: &[u8], text: &[u8]) -> TableChecked
     requires { ⌜ (0 < nodeCount (now table)) × (nodeCount (now table) ≤ maxNodes) ⌝ }
@@ -136,15 +151,14 @@ pub fn scan(table: &[u8], text: &[u8]) -> TableChecked
         return TableChecked::WrongNode(0);
     }
     let end = 1 + records::child_count(table, 0) as usize;
-    with_chains(
-        table,
-        text,
+    let root = Cursor {
+        parent: 0,
+        from: 1,
         end,
-        Cursor {
-            parent: 0,
-            from: 1,
-            end,
-        },
-        encoding::short_ascii(text, table.len()),
-    )
+    };
+    let ascii = encoding::short_ascii(text, table.len());
+    if table.len() / RECORD <= FEW_NODES {
+        return with_few(table, text, end, root, ascii);
+    }
+    with_chains(table, text, end, root, ascii)
 }

@@ -2,17 +2,16 @@
 -- The measure is the present node: links lead downwards. Assumes nothing.
 use native.Mathlib.Omega.{arith}
 use mathlib.Core.Path.{_≡_, sym, _∙_, ap}
-use Prim.Native.Nat.{_+_, _-_, _≤_, _<_}
+use Prim.Native.Nat.{_+_, _-_, _≤_}
 use Rattle.definition.specs.Bytes.{sameBytes}
 use Rattle.definition.specs.Tables.{keyBytes}
-use Rattle.table.specs.Buckets.{bucketAt}
 use Rattle.table.proofs.Inside.{one-key}
-use Rattle.table.proofs.Walks.{UnlikeAbove, walk-begins, walk-on, differs-all, differs-not}
+use Rattle.table.proofs.Walks.{Walking, walk-begins, walk-on, differs-all, differs-not}
 use Rattle.table.proofs.keys.chain_differs.Statement.{statement}
 use Rattle.table.proofs.keys.chain_differs.Tie as tie
 
 abbrev Inv-loop : tie.InvT-loop
-Inv-loop table text node from key head links j₀ j = (j < node) × (from ≤ j → bucketAt table text j ≡ bucketAt table text node) × UnlikeAbove table text node from j
+Inv-loop table text node from key head links j₀ j = Walking table text node from links j
 
 abbrev μ-loop : tie.MeasureT-loop
 μ-loop table text node from key head links j₀ j = j
@@ -21,15 +20,15 @@ loop-holds : tie.Need-loop-holds Inv-loop μ-loop
 loop-holds c =
     let s = c .before .before .before .before in
     let a = s .args in
-    let h = s .pre .1 .1 .0 in
-    (h .earlier, h .same, walk-begins (a .table .now) (a .text .now) (a .node) (a .from) (a .head) h)
+    let h = s .pre .1 .1 in
+    record { below = h .latest .earlier; count = h .count; linked = h .linked; same = h .latest .same; unlike = walk-begins (a .table .now) (a .text .now) (a .node) (h .count) (a .from) (a .head) (h .latest) }
 
 same-key-requires : tie.Need-same-key-requires Inv-loop μ-loop
 same-key-requires c κs =
     let s = c .before .before .before .before .before .before in
     let a = s .args in
     let l = c .before .loop in
-    let m = l .inv .0 in
+    let m = l .inv .below in
     let t = c .loop-test .taken in
     one-key (a .table .now) (a .text .now) (a .from) (a .node + 1) (s .pre .0 .inside) (l .j) (omega arith) (omega arith)
 
@@ -40,21 +39,20 @@ returns c =
     let l = c .before .before .before .loop in
     let e = ap (sameBytes (keyBytes (a .table .now) (a .text .now) (l .j))) (sym (s .pre .1 .0)) ∙ sym (c .before .same-key .ensures) ∙ c .if1 .taken in
     let t = c .before .before .loop-test .taken in
-    sym (differs-not (a .table .now) (a .text .now) (a .node) (a .from) (l .j) (omega arith) (l .inv .0) e)
+    sym (differs-not (a .table .now) (a .text .now) (a .node) (a .from) (l .j) (omega arith) (l .inv .below) e)
 
 mul-j : tie.Need-mul-j Inv-loop μ-loop
 mul-j c =
     let s = c .before .before .before .before .before .before .before .before in
-    let l = c .before .before .before .loop .inv .0 in
+    let l = c .before .before .before .loop .inv .below in
     let f = s .pre .0 .few in
     omega arith
 
 shared-slice-read-j : tie.Need-shared-slice-read-j Inv-loop μ-loop
 shared-slice-read-j c =
     let s = c .before .before .before .before .before .before .before .before .before in
-    let l = c .before .before .before .before .loop .inv .0 in
-    let f = s .pre .0 .few in
-    let r = s .pre .1 .1 .1 .room in
+    let l = c .before .before .before .before .loop .inv .below in
+    let r = c .before .before .before .before .loop .inv .linked .room in
     omega arith
 
 cast-j : tie.Need-cast-j Inv-loop μ-loop
@@ -67,7 +65,7 @@ loop-less c =
     let s = c .before .before .before .before .before .before .before .before .before in
     let l = c .before .before .before .before .loop in
     let t = c .before .before .before .loop-test .taken in
-    s .pre .1 .1 .1 .before (l .j) (omega arith) (l .inv .0) .earlier
+    l .inv .linked .before (l .j) (omega arith) (l .inv .below) .earlier
 
 loop-again : tie.Need-loop-again Inv-loop μ-loop
 loop-again c =
@@ -76,19 +74,19 @@ loop-again c =
     let l = c .before .before .before .before .loop in
     let w = c .before .before .before .loop-test .taken in
     let t : a .from ≤ l .j = omega arith in
-    let m = l .inv .0 in
-    let b = l .inv .1 t in
-    let n = s .pre .1 .1 .1 .before (l .j) t m in
+    let m = l .inv .below in
+    let b = l .inv .same t in
+    let n = l .inv .linked .before (l .j) t m in
     let o = n .earlier in
     let d = ap (sameBytes (keyBytes (a .table .now) (a .text .now) (l .j))) (sym (s .pre .1 .0)) ∙ sym (c .before .before .same-key .ensures) ∙ c .before .if1 .left in
-    (omega arith, (λ u. n .same u ∙ b), walk-on (a .table .now) (a .text .now) (a .node) (a .from) (l .j) _ m b n d (l .inv .2))
+    record { below = omega arith; count = l .inv .count; linked = l .inv .linked; same = λ u. n .same u ∙ b; unlike = walk-on (a .table .now) (a .text .now) (a .node) (l .inv .count) (a .from) (l .j) _ m b n d (l .inv .unlike) }
 
 returns-2 : tie.Need-returns-2 Inv-loop μ-loop
 returns-2 c =
     let s = c .before .before .before .before .before .before in
     let a = s .args in
     let l = c .before .loop in
-    sym (differs-all (a .table .now) (a .text .now) (a .node) (a .from) (l .j) (s .pre .0 .from-le) (c .loop-test .left) (l .inv .2))
+    sym (differs-all (a .table .now) (a .text .now) (a .node) (a .from) (l .j) (s .pre .0 .from-le) (c .loop-test .left) (l .inv .unlike))
 
 pub chain-differs-spec : {M : Type 1} → statement M
 chain-differs-spec =

@@ -1,12 +1,12 @@
 -- The chain of the key's bucket is walked, and a node whose key is unlike those on it becomes the head of the bucket. Assumes nothing.
 use native.Mathlib.Omega.{arith}
-use mathlib.Core.Path.{sym, ap, _∙_, subst}
+use mathlib.Core.Path.{refl, sym, ap, _∙_, subst}
 use mathlib.Core.Bool.{false≢true}
 use Prim.Native.Nat.{ℕ, _+_, _-_, _<_}
-use lib.ListN.{getD, set}
+use lib.ListN.{length, getD, set, length-set}
 use borrow.Author.Tests.{not-true, not-false}
 use Rattle.tables.specs.Keys.{key-span}
-use Rattle.table.specs.Buckets.{buckets, bucketOf, bucketAt}
+use Rattle.table.specs.Buckets.{bucketOf, bucketAt}
 use Rattle.table.specs.Chains.{Latest, Chained}
 use Rattle.table.proofs.Chains.{chain-joined}
 use borrow.Author.Needs.{needs}
@@ -58,14 +58,15 @@ chain-differs-requires c κs =
     let d = c .before .before .before .before in
     let k = key-span (a .table .now) (a .text .now) (a .node) (d .before .key-start .result) (d .before .key-start .result + d .key-length .result) (omega arith) (omega arith) in
     let b = c .before .before .bucket in
-    let e = b .ensures .0 ∙ ap bucketOf k in
-    (s .pre .0, (k, (subst (λ (x : ℕ). Latest (bucketAt (a .table .now) (a .text .now)) x (a .from) (a .node) (getD (a .heads .now) (b .result) 0)) e (s .pre .1 .last (b .result) (b .ensures .1)), s .pre .1 .linked)))
+    let n = length (a .heads .now) in
+    let e = b .ensures .0 ∙ ap (bucketOf n) k in
+    (s .pre .0, (k, record { count = n; latest = subst (λ (x : ℕ). Latest (bucketAt n (a .table .now) (a .text .now)) x (a .from) (a .node) (getD (a .heads .now) (b .result) 0)) e (s .pre .1 .0 .last (b .result) (b .ensures .1)); linked = s .pre .1 .0 .linked }))
 
 same-length : tie.Need-same-length
 same-length c = search needs
 
 returns : tie.Need-returns
-returns c = (sym (not-true _ (c .if1 .taken)) ∙ c .before .chain-differs .ensures, λ z. absurd (false≢true z))
+returns c = (sym (not-true _ (c .if1 .taken)) ∙ c .before .chain-differs .ensures, ((λ z. absurd (false≢true z)), refl))
 
 sub-links : tie.Need-sub-links
 sub-links c = search needs
@@ -98,10 +99,12 @@ returns-2 c =
     let d = c .before .before .before .before .before .before in
     let k = key-span (a .table .now) (a .text .now) (a .node) (d .before .key-start .result) (d .before .key-start .result + d .key-length .result) (omega arith) (omega arith) in
     let b = c .before .before .before .before .bucket in
-    let e = b .ensures .0 ∙ ap bucketOf k in
-    let h = bucketAt (a .table .now) (a .text .now) in
-    let j = chain-joined h (a .from) (a .node) (a .heads .now) (a .links .now) (s .pre .1) (s .pre .0 .from-le) (s .pre .0 .few) (subst (λ (x : ℕ). x < buckets) e (b .ensures .1)) in
-    (sym (not-false _ (c .if1 .left)) ∙ c .before .chain-differs .ensures, λ _. subst (λ (x : ℕ). Chained h (a .from) (a .node + 1) (set (a .heads .now) x (a .node)) (set (a .links .now) (a .node - a .from) (getD (a .heads .now) x 0))) (sym e) j)
+    let n = length (a .heads .now) in
+    let e = b .ensures .0 ∙ ap (bucketOf n) k in
+    let h = bucketAt n (a .table .now) (a .text .now) in
+    let j = chain-joined h (a .from) (a .node) (a .heads .now) (a .links .now) (s .pre .1 .0) (s .pre .0 .from-le) (s .pre .1 .1) (subst (λ (x : ℕ). x < n) e (b .ensures .1)) in
+    let i = subst (λ (x : ℕ). Chained h (a .from) (a .node + 1) (set (a .heads .now) x (a .node)) (set (a .links .now) (a .node - a .from) (getD (a .heads .now) x 0))) (sym e) j in
+    (sym (not-false _ (c .if1 .left)) ∙ c .before .chain-differs .ensures, (λ _. subst (λ (x : ℕ). Chained (bucketAt x (a .table .now) (a .text .now)) (a .from) (a .node + 1) (set (a .heads .now) (b .result) (a .node)) (set (a .links .now) (a .node - a .from) (getD (a .heads .now) (b .result) 0))) (sym (length-set (a .heads .now) (b .result) (a .node))) i, length-set (a .links .now) (a .node - a .from) (getD (a .heads .now) (b .result) 0)))
 
 pub joins-chain-spec : {M : Type 1} → statement M
 joins-chain-spec =

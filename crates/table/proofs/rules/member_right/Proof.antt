@@ -7,7 +7,7 @@ use borrow.Author.Tests.{not-true, not-false}
 use Rattle.definition.specs.Tables.{goodPart, keyDiffers, keyStart, keyLength}
 use Rattle.tables.specs.Rights.{good-inside, member-bad, member-good}
 use Rattle.table.proofs.Inside.{more-keys}
-use Rattle.table.proofs.Kept.{kept-plain, kept-chained}
+use Rattle.table.proofs.Kept.{kept-plain, kept-chained, roomy-same}
 use borrow.Author.Needs.{needs}
 use Rattle.table.proofs.rules.member_right.Statement.{statement}
 use Rattle.table.proofs.rules.member_right.Tie as tie
@@ -56,7 +56,7 @@ joins-chain-requires c κs =
     let t = c .before .before .if2 .left in
     let n = s .pre .0 .node-in in
     let m = s .pre .0 .small in
-    (record { inside = k; from-le = s .pre .0 .from-le; few = s .pre .1 .0 .1 .few; small = omega arith }, s .pre .1 .1 .0 .chained (record { is-map = s .pre .1 .0 .0; many = omega arith }))
+    (record { inside = k; from-le = s .pre .0 .from-le; few = s .pre .1 .0 .1 .few; small = omega arith }, (s .pre .1 .1 .0 .chained (record { is-map = s .pre .1 .0 .0; many = omega arith }), s .pre .1 .1 .0 .room .place (a .from) (a .node) n (s .pre .1 .0 .1 .few)))
 
 same-length : tie.Need-same-length
 same-length c = search needs
@@ -70,7 +70,7 @@ returns-3 c =
     let a = s .args in
     let j = c .before .before .before .before .joins-chain in
     let g = sym (c .before .before .before .before .before .before .before .before .before .before .good-part .ensures ∙ ap₂ (goodPart (a .text .now)) (c .before .before .before .before .before .before .before .before .before .before .before .before .key-start .ensures) (c .before .before .before .before .before .before .before .before .before .before .before .key-length .ensures)) ∙ not-false _ (c .before .before .before .before .before .before .before .before .before .if1 .left) in
-    (j .ensures .0 ∙ ap (λ (x : ℕ). keyDiffers (a .table .now) (a .text .now) (a .node) x (a .node - x)) (s .pre .0 .from-is) ∙ sym (member-good (a .table .now) (a .text .now) (a .node) (a .parent) g), λ z. kept-chained (a .table .now) (a .text .now) (a .node) (a .parent) (a .from) _ _ (j .ensures .1 z))
+    (j .ensures .0 ∙ ap (λ (x : ℕ). keyDiffers (a .table .now) (a .text .now) (a .node) x (a .node - x)) (s .pre .0 .from-is) ∙ sym (member-good (a .table .now) (a .text .now) (a .node) (a .parent) g), λ z. kept-chained (a .table .now) (a .text .now) (a .node) (a .parent) (a .from) _ _ (j .ensures .1 .0 z) (roomy-same (j .ensures .1 .1) (s .pre .1 .1 .0 .room)))
 
 pub member-right-spec : {M : Type 1} → statement M
 member-right-spec =

@@ -36,16 +36,27 @@ add-end c = search needs
 short-ascii-requires : tie.Need-short-ascii-requires
 short-ascii-requires c κs = search needs
 
-with-chains-requires : tie.Need-with-chains-requires
-with-chains-requires c κs =
-    let s = c .before .before .before .before .before .before in
+with-few-requires : tie.Need-with-few-requires
+with-few-requires c κs =
+    let s = c .before .before .before .before .before .before .before in
     let a = s .args in
-    let n = c .before .child-count in
-    let r = sym (c .before .before .before .root-right .ensures) ∙ not-false _ (c .before .before .if1 .left) in
-    ((root-first (a .table .now) (n .result) (n .ensures), root-cursor (a .table .now) (n .result) (n .ensures)), ((s .pre .0, s .pre .1, root-below (a .table .now) (a .text .now) r), c .short-ascii .ensures))
+    let n = c .before .before .child-count in
+    let r = sym (c .before .before .before .before .root-right .ensures) ∙ not-false _ (c .before .before .before .if1 .left) in
+    ((root-first (a .table .now) (n .result) (n .ensures), root-cursor (a .table .now) (n .result) (n .ensures)), ((s .pre .0, s .pre .1, root-below (a .table .now) (a .text .now) r), (c .if2 .taken, c .before .short-ascii .ensures)))
 
 returns-2 : tie.Need-returns-2
 returns-2 c = search needs
+
+with-chains-requires : tie.Need-with-chains-requires
+with-chains-requires c κs =
+    let s = c .before .before .before .before .before .before .before in
+    let a = s .args in
+    let n = c .before .before .child-count in
+    let r = sym (c .before .before .before .before .root-right .ensures) ∙ not-false _ (c .before .before .before .if1 .left) in
+    ((root-first (a .table .now) (n .result) (n .ensures), root-cursor (a .table .now) (n .result) (n .ensures)), ((s .pre .0, s .pre .1, root-below (a .table .now) (a .text .now) r), c .before .short-ascii .ensures))
+
+returns-3 : tie.Need-returns-3
+returns-3 c = search needs
 
 pub scan-spec : {M : Type 1} → statement M
 scan-spec =
@@ -57,5 +68,7 @@ scan-spec =
     cast-end
     add-end
     short-ascii-requires
+    with-few-requires
+    returns-2
     with-chains-requires
-    returns-2)
+    returns-3)

@@ -1,5 +1,7 @@
 -- Before node 1 every head is 0. Assumes nothing.
-use Rattle.table.proofs.Kept.{before-first}
+use mathlib.Core.Path.{refl}
+use lib.Dec.{lit<}
+use Rattle.table.proofs.Kept.{before-zeros, roomy-members}
 use borrow.Author.Needs.{needs}
 use Rattle.table.proofs.scan.with_chains.Statement.{statement}
 use Rattle.table.proofs.scan.with_chains.Tie as tie
@@ -14,7 +16,7 @@ rest-requires : tie.Need-rest-requires
 rest-requires c κs =
     let s = c .before .before .before .before in
     let a = s .args in
-    ((s .pre .0 .0, before-first (a .table .now) (a .text .now) (a .root) (s .pre .0 .1)), s .pre .1)
+    ((s .pre .0 .0, before-zeros 1024 1024 (lit< tt) (a .table .now) (a .text .now) (roomy-members (a .table .now) 1024 refl) (a .root) (s .pre .0 .1)), s .pre .1)
 
 returns : tie.Need-returns
 returns c = search needs

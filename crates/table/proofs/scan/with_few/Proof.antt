@@ -1,0 +1,24 @@
+-- Before node 1 every head is 0. Assumes nothing.
+use lib.Dec.{lit<}
+use Rattle.table.proofs.Kept.{before-zeros, roomy-nodes}
+use borrow.Author.Needs.{needs}
+use Rattle.table.proofs.scan.with_few.Statement.{statement}
+use Rattle.table.proofs.scan.with_few.Tie as tie
+
+slice-aggregate-rest : tie.Need-slice-aggregate-rest
+slice-aggregate-rest c = search needs
+
+slice-aggregate-rest-2 : tie.Need-slice-aggregate-rest-2
+slice-aggregate-rest-2 c = search needs
+
+rest-requires : tie.Need-rest-requires
+rest-requires c κs =
+    let s = c .before .before .before .before in
+    let a = s .args in
+    ((s .pre .0 .0, before-zeros 128 128 (lit< tt) (a .table .now) (a .text .now) (roomy-nodes (a .table .now) 128 (s .pre .1 .1 .0)) (a .root) (s .pre .0 .1)), (s .pre .1 .0, s .pre .1 .1 .1))
+
+returns : tie.Need-returns
+returns c = search needs
+
+pub with-few-spec : {M : Type 1} → statement M
+with-few-spec = tie.close (tie.spec slice-aggregate-rest slice-aggregate-rest-2 rest-requires returns)
