@@ -1,2 +1,2 @@
 pub mod Operations
-pub mod Table
+pub mod Powers

@@ -118,7 +118,7 @@ unlike-plus false = refl
 
 module _ (s : Bool) (n k : ℕ) (x p : Float) (v : HasValue x s n 1) (w : HasValue p false (10 ^ k) 1) where
   -- the product, and the quotient, of a whole number and a power of ten
-  product : mul binary64 x p ≡ round binary64 s (n * 10 ^ k) 1
+  pub product : mul binary64 x p ≡ round binary64 s (n * 10 ^ k) 1
   product = mul-round binary64 x p s false n 1 (10 ^ k) 1 (omega arith) (omega arith) v w ∙ ap (λ (z : Bool). round binary64 z (n * 10 ^ k) 1) (unlike-plus s)
 
   quotient : div binary64 x p ≡ round binary64 s n (10 ^ k)

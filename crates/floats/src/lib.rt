@@ -6,39 +6,18 @@ ghost use Rattle.definition.specs.Limits.{maxInt, maxPower};
 ghost use Rattle.integers.specs.Signed.{signed};
 ghost use Rattle.floats.specs.Scaled.{Scaled};
 
-// The powers of ten that a float holds exactly.
-const POWERS: [f64; 23] = [
-    1e0,
-    1e1,
-    1e2,
-    1e3,
-    1e4,
-    1e5,
-    1e6,
-    1e7,
-    1e8,
-    1e9,
-    1e10,
-    1e11,
-    1e12,
-    1e13,
-    1e14,
-    1e15,
-    1e16,
-    1e17,
-    1e18,
-    1e19,
-    1e20,
-    1e21,
-    1e22,
-];
-
-// Ten to the power of k.
+// Ten to the power of k, by k products. A float holds every one of them exactly, so none of them rounds.
 fn power(k: usize) -> f64
     requires { ⌜ k ≤ maxPower ⌝ }
     ensures { λ r. ⌜ HasValue r false (10 ^ k) 1 ⌝ }
 {
-    POWERS[k]
+    let mut x = 1.0;
+    let mut i = 0;
+    while i < k {
+        x = x * 10.0;
+        i += 1;
+    }
+    x
 }
 
 // n, or -n where `negative`; -0.0 is another float than 0.0.
