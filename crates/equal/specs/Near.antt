@@ -1,17 +1,15 @@
 -- A member at a place where its name is looked for first: members of one map have different names, so that it is the one that a search finds. Assumes nothing.
 use Prim.Native.Nat.{ℕ, _+_, _≤_, _<_}
 use mathlib.Core.Path.{_≡_, refl, sym, ap, _∙_, subst}
-use mathlib.Core.List.{List, [], _∷_}
+use mathlib.Core.List.{List}
 use mathlib.Core.Bool.{Bool, true, false, false≢true}
-use lib.Dec.{eqb}
 use lib.ListN.{length}
 use native.Mathlib.Omega.{arith}
-use borrow.Author.Tests.{eqb-true}
 use Rattle.definition.specs.Bytes.{sameBytes}
 use Rattle.definition.specs.Tables.{nodeCount, kindAt, kindMap, lowWord, highWord, childCount, keyStart, keyLength, keyBytes}
 use Rattle.tables.specs.Accepted.{Accepted}
-use Rattle.tables.specs.Bools.{and-left, and-right}
 use Rattle.tables.specs.Rights.{count-map}
+use Rattle.text.proofs.Same.{same-true}
 use Rattle.walks.specs.Ranges.{Range, range-of}
 use Rattle.equal.specs.Members.{Members, Looked, lookup-passed, lookup-found}
 use Rattle.equal.specs.Same.{members-of}
@@ -26,15 +24,7 @@ pub record Near (S X : List ℕ) (node near : ℕ) (k : List ℕ) : Type 0 where
 abbrev pub DoneNear : List ℕ → List ℕ → ℕ → ℕ → List ℕ → Bool → Type 0
 DoneNear S X node near k r = r ≡ true → Near S X node near k
 
--- the same bytes are one text
-same-text : (s t : List ℕ) → sameBytes s t ≡ true → s ≡ t
-unfolding sameBytes
-same-text [] [] e = refl
-same-text [] (y ∷ t) e = absurd (false≢true e)
-same-text (x ∷ s) [] e = absurd (false≢true e)
-same-text (x ∷ s) (y ∷ t) e =
-    ap (λ (z : ℕ). z ∷ s) (eqb-true x y (and-left (eqb x y) (sameBytes s t) e)) ∙ ap (λ (u : List ℕ). y ∷ u) (same-text s t (and-right (eqb x y) (sameBytes s t) e))
-
+-- an answer of no promises nothing
 pub not-near : (S X : List ℕ) (node near : ℕ) (k : List ℕ) → DoneNear S X node near k false
 not-near S X node near k e = absurd (false≢true e)
 
@@ -62,7 +52,7 @@ module _ {S X : List ℕ} (tab : Accepted S X) {node : ℕ} (h : node < nodeCoun
   pub near-is : (k : List ℕ) (j : ℕ) → j ≡ lowWord S node + near → (r : Bool) → r ≡ sameBytes (keyBytes S X j) k → DoneNear S X node near k r
   near-is k j i r d t =
       let y : r ≡ sameBytes (keyBytes S X (lowWord S node + near)) k = d ∙ ap (λ (x : ℕ). sameBytes (keyBytes S X x) k) i in
-      let q = same-text (keyBytes S X (lowWord S node + near)) k (sym y ∙ t) in
+      let q = same-true (keyBytes S X (lowWord S node + near)) k (sym y ∙ t) in
       let g = near-less in
       let p = lookup-passed S X k (lowWord S node) (childCount S node) near (omega arith) (λ x b. subst (λ (z : List ℕ). sameBytes (keyBytes S X (lowWord S node + x)) z ≡ false) q (near-apart x b)) in
       record { map = m; less = g; looked = lookup-found S X k (lowWord S node) (childCount S node) near p g r y t }

@@ -65,7 +65,7 @@ pub fn is_short(n: usize) -> bool
     n <= 8
 }
 
-// The same for a name of four to eight bytes, whose ends are read once.
+// As find_member, for a name of four to eight bytes, whose ends are read once.
 pub fn find_short(
     table: &[u8],
     text: &[u8],
@@ -96,7 +96,7 @@ pub fn find_short(
     Member::Nothing
 }
 
-// Whether a node is a map with more than `near` members whose member at place `near` has that name. Members of one map have different names, so that this is the one
+// Whether a node is a map with more than `near` members, and the n bytes of s from a on are the name of its member at place `near`. Members of one map have different names, so that this is the one
 // that a search finds.
 pub fn is_near(
     table: &[u8],

@@ -1,5 +1,5 @@
-// The nodes of a range for which a test holds, where nothing or one name follows, and where the test is of one member, of two with `&&` or `||` between them, or of
-// the number of all children compared with an integer. Such a test is read from the plan once, and needs neither tasks nor registers.
+// The nodes of a range for which a test holds: a test of one member, or of two with `&&` or `||` between them, where nothing or one name follows, and the number of
+// all children compared with an integer, where nothing follows. Such a test is read from the plan once, and needs neither tasks nor registers.
 use crate::atoms;
 use crate::atoms::Atom;
 use crate::atoms::Held;
@@ -130,7 +130,8 @@ fn push_tail(
     Pushed { at: a, near: there }
 }
 
-// Whether the test from p up to z holds of a node. The first member is looked for at place `near` first.
+// Whether the test from p up to z holds of a node. The member of its first test is looked for at place `near` first, that of a second one from the first
+// member on.
 fn passes(
     plan: &[u8],
     pool: &[u8],

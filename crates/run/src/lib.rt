@@ -1,6 +1,6 @@
 // Runs a plan on a table of values: the numbers of the nodes that it selects, into a list of the caller's from a start position on.
 //
-//   walk       the walk depth first over plan items and child ranges
+//   walk       the walk depth first over plan items and child ranges; public for `measured`, which times it by itself
 //   answers    what is asked of a query in a filter's code
 ghost use Rattle.definition.specs.Outcomes.{Runs};
 ghost use Rattle.run.specs.Outcomes.{ran, Planned, RunsForm, AskPlacing, DonePlacing};

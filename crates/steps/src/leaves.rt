@@ -86,7 +86,7 @@ pub fn literal(plan: &[u8], pool: &[u8], q: usize) -> Operand
 
 // ---- selectors that give one node or none
 
-// The member of a node whose name is the `size` bytes of the pool from `start` on, as the name at p says. Only the way along a query's front calls it, so that a
+// The member of a node whose name is the `size` bytes of the pool from `start` on, as the name at p says. Only `visits::reach` calls it, so that a
 // compiler puts it there; by_name says the same for the others.
 pub fn named(
     plan: &[u8],

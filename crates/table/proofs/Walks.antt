@@ -1,24 +1,17 @@
 -- A walk along the chain of a bucket meets every earlier key that could be the same. Assumes nothing.
 use Prim.Native.Nat.{ℕ, zero, suc, _+_, _-_, _≤_, _<_}
-use mathlib.Core.Path.{_≡_, refl, sym, ap, ap₂, _∙_, subst}
-use mathlib.Core.List.{List, [], _∷_}
+use mathlib.Core.Path.{_≡_, refl, sym, ap, _∙_, subst}
+use mathlib.Core.List.{List}
 use mathlib.Core.Bool.{Bool, true, false, not, _&&_}
-use lib.Dec.{eqb, ltb}
+use lib.Dec.{ltb}
 use native.Mathlib.Omega.{arith}
-use borrow.Author.Tests.{eqb-true, ltb-true, ltb-false}
+use borrow.Author.Tests.{ltb-true, ltb-false}
 use Rattle.definition.specs.Bytes.{sameBytes}
 use Rattle.definition.specs.Tables.{keyBytes, keyDiffers}
-use Rattle.tables.specs.Bools.{and-left, and-right, and-not-left, and-not-right}
+use Rattle.tables.specs.Bools.{and-not-left, and-not-right}
+use Rattle.text.proofs.Same.{same-true}
 use Rattle.table.specs.Buckets.{bucketOf, bucketAt}
 use Rattle.table.specs.Chains.{Latest, Linked}
-
--- texts that are found to be the same are equal
-same-true : (s t : List ℕ) → sameBytes s t ≡ true → s ≡ t
-unfolding sameBytes
-same-true [] [] e = refl
-same-true [] (y ∷ t) e = cc
-same-true (x ∷ s) [] e = cc
-same-true (x ∷ s) (y ∷ t) e = ap₂ _∷_ (eqb-true x y (and-left (eqb x y) (sameBytes s t) e)) (same-true s t (and-right (eqb x y) (sameBytes s t) e))
 
 -- keys of different buckets differ
 apart : (n : ℕ) (s t : List ℕ) → (bucketOf n s ≡ bucketOf n t → ⊥) → sameBytes s t ≡ false
