@@ -23,9 +23,9 @@
 
 typedef const uint8_t *Bytes;
 enum { GUARD = 1 << 20, SLACK = 64, STACK = 1 << 20, MOST_NODES = 65535, MOST_TEXT = 16777216, PLACES = 4096 };
-enum { COMPILE, PLAN, TABLE, RUN, SELECT, TEXT, KEY, OPERATIONS };
-static const char *names[] = {"compile", "plan check", "table check", "run", "select", "text of a node", "key of a node"};
-static unsigned long long counts[OPERATIONS][17], round_number, wrongs;
+enum { COMPILE, PLAN, TALLY, TABLE, RUN, SELECT, TEXT, KEY, OPERATIONS };
+static const char *names[] = {"compile", "plan check", "tally", "table check", "run", "select", "text of a node", "key of a node"};
+static unsigned long long counts[OPERATIONS][22], round_number, wrongs;
 static uint64_t seed = 1;
 
 // ---- numbers by chance
@@ -41,7 +41,7 @@ static int one_in(size_t n) { return below(n) == 0; }
 // ---- memory between inaccessible pages
 
 typedef struct { uint8_t *write, *read; size_t size; } Region;
-static Region query_in, plan_in, pool_in, table_in, text_in, plan_out, pool_out, list_out, first_out, second_out;
+static Region query_in, plan_in, pool_in, table_in, text_in, plan_out, pool_out, list_out, counts_out, first_out, second_out;
 
 static uint8_t *fenced(int file, size_t size, int rights) {
     uint8_t *at = mmap(0, size + 2 * GUARD, PROT_NONE, MAP_PRIVATE | MAP_ANONYMOUS | MAP_NORESERVE, -1, 0);
@@ -140,7 +140,7 @@ static int sizes_wrong(size_t table, size_t text) { return !table || table % 24 
 
 // ---- each operation, called twice
 
-static int printing;
+static int printing, tallying;
 static void hex(Bytes bytes, size_t n) {
     printf(" ");
     for (size_t i = 0; i < n; i++) printf("%02x", bytes[i]);
@@ -188,6 +188,43 @@ static Answer compile(Bytes q, size_t n, size_t plan_room, size_t pool_room) {
     return was;
 }
 
+// Tally, of a plan of which plan check says what is given. The items are walked over here once more. Counts begin at 0, at chance, or at the limit.
+static const uint64_t MOST_COUNT = 9007199254740991;
+static size_t body_length(uint8_t kind) {
+    switch (kind) {
+    case 0x03: case 0x04: case 0x09: case 0x16: case 0x17: return 2;
+    case 0x05: case 0x12: return 4;
+    case 0x06: case 0x10: case 0x11: return 8;
+    case 0x07: return 25;
+    case 0x13: case 0x14: return 1;
+    default: return 0;
+    }
+}
+static void tally(Bytes p, size_t n, Bytes o, size_t m, uint32_t checked) {
+    uint64_t before[256], after[256], plans = one_in(9) ? MOST_COUNT - below(2) : below(5);
+    int limit = one_in(5);
+    for (int k = 0; k < 256; k++) before[k] = after[k] = limit ? MOST_COUNT - below(4) : one_in(3) ? below(1000) : 0;
+    if (limit && one_in(2)) before[below(256)] = after[below(256)] = next();
+    if (limit) memcpy(after, before, sizeof after);
+    uint32_t want = checked;
+    if (!checked) {
+        int passes = plans >= MOST_COUNT;
+        for (size_t at = 0; at < n; at += 1 + body_length(p[at])) after[p[at]]++;
+        for (int k = 0; k < 256; k++) passes |= after[k] > MOST_COUNT || after[k] < before[k];
+        if (passes) want = 21;
+    }
+    for (int pass = 0; pass < 2; pass++) {
+        begin(TALLY, pass, plans, limit, 0);
+        Bytes plan = lend(&plan_in, "plan", p, n, pass), pool = lend(&pool_in, "pool", o, m, pass);
+        uint64_t *kinds = (uint64_t *)room(&counts_out, 2048, pass), *taken = number(&first_out, pass);
+        memcpy(kinds, before, 2048), *taken = plans;
+        uint32_t r = stewpebble_tally(plan, n, pool, m, kinds, taken);
+        counts[TALLY][r < 22 ? r : 16]++;
+        CHECK(r == want && *taken == plans + !r && !memcmp(kinds, r ? before : after, 2048));
+        CHECK(kept(&counts_out, 2048, 0, 2048, pass) && kept(&first_out, 8, 0, 8, pass));
+    }
+}
+
 static uint32_t check_plan(Bytes p, size_t n, Bytes o, size_t m) {
     uint32_t was = 0;
     for (int pass = 0; pass < 2; pass++) {
@@ -200,6 +237,7 @@ static uint32_t check_plan(Bytes p, size_t n, Bytes o, size_t m) {
     }
     CHECK(was == 0 || was == 11);
     if (n > 65535 || m > 65535) CHECK(was == 11);
+    if (tallying) tally(p, n, o, m, was);
     return was;
 }
 
@@ -833,6 +871,7 @@ static void *work(void *unused) {
     if (words > 3) seed = strtoull(arguments[3], 0, 10);
     state = seed * 0x9E3779B97F4A7C15u + 88172645463325252u;
     for (int i = 0; i < 8; i++) next();
+    tallying = !strcmp(what, "random") || !strcmp(what, "edges");
     if (!strcmp(what, "list-rounds")) {
         printing = 1;
         for (round_number = 0; round_number < much; round_number++) one_round();
@@ -856,7 +895,7 @@ static void *work(void *unused) {
 int main(int count, char **given) {
     words = count, arguments = given;
     region(&query_in, 70000), region(&plan_in, 70000), region(&pool_in, 70000), region(&table_in, 24 * (MOST_NODES + 1)), region(&text_in, MOST_TEXT + 1);
-    region(&plan_out, 70000), region(&pool_out, 70000), region(&list_out, 4 * MOST_NODES), region(&first_out, 8), region(&second_out, 8);
+    region(&plan_out, 70000), region(&pool_out, 70000), region(&list_out, 4 * MOST_NODES), region(&counts_out, 2048), region(&first_out, 8), region(&second_out, 8);
     struct sigaction act;
     memset(&act, 0, sizeof act);
     act.sa_handler = fault, act.sa_flags = SA_ONSTACK;
@@ -870,10 +909,10 @@ int main(int count, char **given) {
     if (count > 1 && !strncmp(given[1], "list-", 5)) return wrongs != 0;
     for (int i = 0; i < OPERATIONS; i++) {
         unsigned long long all = 0;
-        for (int k = 0; k < 17; k++) all += counts[i][k];
+        for (int k = 0; k < 22; k++) all += counts[i][k];
         if (!all) continue;
         printf("%-15s %10llu calls; 0: %llu", names[i], all, counts[i][0]);
-        for (int k = 1; k < 17; k++) if (counts[i][k]) printf(", %d: %llu", k, counts[i][k]);
+        for (int k = 1; k < 22; k++) if (counts[i][k]) printf(", %d: %llu", k, counts[i][k]);
         printf("\n");
     }
     printf("%llu wrong\n", wrongs);

@@ -19,6 +19,10 @@ uint32_t stewpebble_compile(const uint8_t *query, size_t query_length, uint8_t *
 // Plan check: 11.
 uint32_t stewpebble_check_plan(const uint8_t *plan, size_t plan_length, const uint8_t *pool, size_t pool_length);
 
+// What plans consist of: 11, 21. The items of the plan are added to the counts, one for each byte that a kind may be, and 1 to the number of plans.
+// With a refusal nothing is counted; 21 is that a count, or the number of plans, would pass 2^53-1. The counts are 256 numbers, which begin as 0.
+uint32_t stewpebble_tally(const uint8_t *plan, size_t plan_length, const uint8_t *pool, size_t pool_length, uint64_t counts[256], uint64_t *plans);
+
 // Table check: 9, 10. The least wrong node is set with 10, and 0 otherwise.
 uint32_t stewpebble_check_table(const uint8_t *table, size_t table_length, const uint8_t *text, size_t text_length, uint64_t *node);
 

@@ -6,6 +6,7 @@ use crate::Refusal;
 extern "C" {
     fn stewpebble_compile(query: *const u8, query_length: usize, plan: *mut u8, plan_room: usize, pool: *mut u8, pool_room: usize, plan_length: *mut u64, pool_length: *mut u64) -> u32;
     fn stewpebble_check_plan(plan: *const u8, plan_length: usize, pool: *const u8, pool_length: usize) -> u32;
+    fn stewpebble_tally(plan: *const u8, plan_length: usize, pool: *const u8, pool_length: usize, counts: *mut u64, plans: *mut u64) -> u32;
     fn stewpebble_check_table(table: *const u8, table_length: usize, text: *const u8, text_length: usize, node: *mut u64) -> u32;
     fn stewpebble_run(plan: *const u8, plan_length: usize, pool: *const u8, pool_length: usize, table: *const u8, table_length: usize, text: *const u8, text_length: usize, list: *mut u32, list_length: usize, start: usize, count: *mut u64, node: *mut u64) -> u32;
     fn stewpebble_select(query: *const u8, query_length: usize, table: *const u8, table_length: usize, text: *const u8, text_length: usize, list: *mut u32, list_length: usize, start: usize, count: *mut u64, node: *mut u64) -> u32;
@@ -29,6 +30,10 @@ pub fn compile(query: &[u8], plan: &mut [u8], pool: &mut [u8]) -> Result<(usize,
 
 pub fn check_plan(plan: &[u8], pool: &[u8]) -> Result<(), Refusal> {
     answer(unsafe { stewpebble_check_plan(plan.as_ptr(), plan.len(), pool.as_ptr(), pool.len()) }, 0, 0, ())
+}
+
+pub fn tally(plan: &[u8], pool: &[u8], counts: &mut [u64; 256], plans: &mut u64) -> Result<(), Refusal> {
+    answer(unsafe { stewpebble_tally(plan.as_ptr(), plan.len(), pool.as_ptr(), pool.len(), counts.as_mut_ptr(), plans) }, 0, 0, ())
 }
 
 pub fn check_table(table: &[u8], text: &[u8]) -> Result<(), Refusal> {

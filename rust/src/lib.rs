@@ -19,10 +19,12 @@ mod foreign;
 mod json;
 mod refusal;
 mod table;
+mod tally;
 
 pub use json::{JsonError, Value};
 pub use refusal::Refusal;
 pub use table::{Table, TableError};
+pub use tally::Tally;
 
 /// A compiled query: a plan and a pool of texts. No table is in it, so one plan serves every table, also after values
 /// have changed kind.

@@ -43,6 +43,8 @@ pub enum Refusal {
     StartBeyond,
     /// 15: there is no such node, or it has no text or key.
     NoSuchText,
+    /// 21: a count of items, or of plans, would pass 2^53-1.
+    CountFull,
 }
 
 impl Refusal {
@@ -65,6 +67,7 @@ impl Refusal {
             13 => Refusal::ListFull,
             14 => Refusal::StartBeyond,
             15 => Refusal::NoSuchText,
+            21 => Refusal::CountFull,
             other => unreachable!("the library has no refusal {other}"),
         })
     }
@@ -87,6 +90,7 @@ impl Refusal {
             Refusal::ListFull => 13,
             Refusal::StartBeyond => 14,
             Refusal::NoSuchText => 15,
+            Refusal::CountFull => 21,
         }
     }
 }
@@ -109,6 +113,7 @@ impl fmt::Display for Refusal {
             Refusal::ListFull => write!(f, "more nodes are selected than the list has places for"),
             Refusal::StartBeyond => write!(f, "the start position is beyond the end of the list"),
             Refusal::NoSuchText => write!(f, "there is no such node, or it has no such text"),
+            Refusal::CountFull => write!(f, "a count would pass 9,007,199,254,740,991"),
         }
     }
 }

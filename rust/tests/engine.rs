@@ -1,5 +1,5 @@
 //! The crate from outside: document 01's sample rows, refusals, stored plans, lent places, tables from values and back.
-use stewpebble::{check_table, compile, compile_bytes, select, select_into, Plan, Refusal, Table, TableError, Value};
+use stewpebble::{check_table, compile, compile_bytes, select, select_into, Plan, Refusal, Table, TableError, Tally, Value};
 
 fn sample() -> Table {
     Table::from_value(&Value::from_json(r#"{"a":[10,20.0,30],"b":"é"}"#).unwrap()).unwrap()
@@ -128,4 +128,18 @@ fn texts_that_are_not_json() {
         assert!(Value::from_json(json).is_err(), "{json}");
     }
     assert_eq!(Value::from_json("[1,]").unwrap_err().to_string(), "a value is expected at byte 3");
+}
+
+#[test]
+fn plans_are_counted() {
+    let mut tally = Tally::new();
+    tally.take(&compile("$.a[1]").unwrap()).unwrap();
+    tally.take(&compile("$[1:2]").unwrap()).unwrap();
+    let before = tally.clone();
+    assert_eq!(tally.take_bytes(&[1, 8, 10], &[]).unwrap_err(), Refusal::Plan);
+    assert_eq!(tally, before);
+    let kinds: Vec<(u8, u64)> = (0..=255).map(|k| (k, tally.count(k))).filter(|&(_, n)| n > 0).collect();
+    assert_eq!(kinds, [(1, 2), (3, 3), (5, 1), (6, 1), (7, 1), (10, 2)]);
+    assert_eq!((tally.items(), tally.plans()), (10, 2));
+    assert_eq!(Refusal::CountFull.number(), 21);
 }

@@ -7,12 +7,13 @@
 --   compile::compile     CompilesOnly s P R c         plan::check_plan      ChecksPlan plan pool n
 --   select::select       SelectsOnly s T X L at o     table::check_table    o ≡ tableOutcome T X
 --   run::run             Runs plan pool T X L at o    table::text_of_node, key_of_node    o ≡ textOutcome T X i, o ≡ keyOutcome T X i
--- What these say is in the crate `definition`, from the bytes alone: the RFC's grammar and document 01's rules, with no code of ours.
-use Prim.Native.Nat.{ℕ, _≤_}
+--   tally::tally         Tallies plan pool C m o, where C are the counts before and m is the number of plans
+-- What these say is in the crates `definition` and, for the last, `tallies`, from the bytes alone: the RFC's grammar and document 01's rules, with no code of ours.
+use Prim.Native.Nat.{ℕ, _≤_, _<_}
 use mathlib.Core.Logic.{_↔_}
-use mathlib.Core.Path.{_≡_, sym, _∙_}
+use mathlib.Core.Path.{_≡_, sym, ap, _∙_}
 use mathlib.Core.List.{List}
-use lib.ListN.{length}
+use lib.ListN.{length, getD, replicate}
 use Rattle.definition.specs.Limits.{maxPlan}
 use Rattle.definition.specs.Forms.{Query}
 use Rattle.definition.specs.Plans.{planOf, poolOf}
@@ -25,6 +26,9 @@ use Rattle.definition.specs.Outcomes.Reading.{form}
 use Rattle.definition.specs.Rows.{starredRows}
 use Rattle.spelled.specs.One.{checks-one, runs-one}
 use Rattle.readings.specs.Readings.{ReadsOnly, CompilesOnly, SelectsOnly}
+use Rattle.tallies.specs.Items.{occurrences}
+use Rattle.tallies.specs.Tallies.{TallyOutcome, Tallies, tallyBy}
+use Rattle.tallies.specs.Series.{AllBytes, itemsOf, takenAll, sumOf, each-count, all-counts}
 use Rattle.demands.specs.Lists.{Listed}
 use Rattle.demands.specs.Cases.{CompileCase, RunCase, compile-cases, select-cases, run-cases}
 use Rattle.demands.specs.Written.{planIn, poolIn, Written, written, written-only, enough}
@@ -55,6 +59,9 @@ one-text T X i a b = a ∙ sym b
 
 pub one-key : (T X : List ℕ) (i : ℕ) {o o′ : PartOutcome} → o ≡ keyOutcome T X i → o′ ≡ keyOutcome T X i → o ≡ o′
 one-key T X i a b = a ∙ sym b
+
+pub one-tally : {plan pool C : List ℕ} {m : ℕ} {o o′ : TallyOutcome} → Tallies plan pool C m o → Tallies plan pool C m o′ → o ≡ o′
+one-tally {plan} {C = C} {m = m} a b = a .is ∙ ap (λ (z : ℕ). tallyBy z plan C m) (checks-one (a .checks) (b .checks)) ∙ sym (b .is)
 
 -- each refusal is given on its condition only: CompileCase and RunCase list the cases, with what every lent byte and place holds
 pub compile-answers : {s P R : List ℕ} {c : CompileOutcome} → Compiles s P R c → (x : Reading) × Reads s x × CompileCase P R x c
@@ -117,3 +124,11 @@ stored-plans = stored
 
 pub starred-rows : AllAnswer starredRows
 starred-rows = starred-answers
+
+-- ---- 6. What plans consist of (W14). When a series of plans was taken, each count is the number of occurrences of its kind among their items, and the counts add up to those items.
+
+pub counts-each : (ps : List (List ℕ)) (k : ℕ) → k < 256 → getD (takenAll ps (replicate 256 0)) k 0 ≡ occurrences k (itemsOf ps)
+counts-each = each-count
+
+pub counts-all : (ps : List (List ℕ)) → AllBytes ps → sumOf (takenAll ps (replicate 256 0)) ≡ length (itemsOf ps)
+counts-all = all-counts

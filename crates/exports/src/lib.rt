@@ -5,6 +5,8 @@ ghost use Prim.Native.Nat.{ℕ};
 ghost use Rattle.definition.specs.TableOutcomes.{tableOutcome, textOutcome, keyOutcome};
 ghost use Rattle.definition.specs.Outcomes.{CompileOutcome, Compiles, RunOutcome, Runs, Selects, ChecksPlan};
 ghost use Rattle.table.specs.Outcomes.{answered};
+ghost use Rattle.tallies.specs.Tallies.{TallyOutcome, Tallies};
+ghost use Rattle.tally.specs.Counts.{tallied};
 ghost use Rattle.definition.specs.Bytes.{part};
 ghost use Rattle.definition.specs.Tables.{lowWord, highWord, keyStart, keyLength};
 ghost use Rattle.exports.specs.Outcomes.{told, Placed, compiled, ranTo, Tells};
@@ -110,6 +112,20 @@ pub extern "C" fn stewpebble_check_plan(plan: &[u8], pool: &[u8]) -> u32
         return 0;
     }
     11
+}
+
+// Takes a plan with its pool into the counts of kinds and the number of plans: the refusal, 11 or 21, and then nothing is counted; 0 for none.
+#[no_mangle]
+pub extern "C" fn stewpebble_tally(
+    plan: &[u8],
+    pool: &[u8],
+    counts: &mut [u64; 256],
+    plans: &mut u64,
+) -> u32
+    ensures answers { λ r. ⌜ Tallies (now (plan .entry)) (now (pool .entry)) (now (counts .entry)) (now (plans .entry)) (tallied r (now (counts .exit)) (now (plans .exit))) ⌝ }
+    ensures only { λ r. ⌜ ((o : TallyOutcome) → Tallies (now (plan .entry)) (now (pool .entry)) (now (counts .entry)) (now (plans .entry)) o → o ≡ tallied r (now (counts .exit)) (now (plans .exit))) ⌝ }
+{
+    tally::tally(plan, pool, counts, plans) as u32
 }
 
 // The numbers of a run's answer: the refusal, 0 for none; the number of nodes selected, and 0 with every refusal; the node of refusal 10, and 0 otherwise.
