@@ -15,13 +15,6 @@ pub mod QueryForms
 pub mod Walk
 pub mod Compare
 pub mod Evaluation
+pub mod Selecting
 pub mod Plans
 pub mod Outcomes
-pub mod Computes
-pub mod Sample
-pub mod Gives
-pub mod Rows
-pub mod Examples
-pub mod Laws
-pub mod Points
-pub mod Cases

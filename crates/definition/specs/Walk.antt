@@ -87,7 +87,7 @@ walkSlice s =
     next (walkBound (s .stop)) (λ b.
     next (walkStep (s .by)) (λ c. fine (slice a b c))))
 
--- A literal beyond the exact range has no form. `null` stands in its place, in a query that refusal 8 keeps from having a form.
+-- A literal beyond the exact range has no form. `null` stands in its place, in a query that refusal 8 keeps from having a form: the crate `laws` (StandIns) proves it.
 unfoldable pub walkNumeral : Numeral → Walked F.Literal
 walkNumeral (Numeral.integer z) = fine (integer z)
 walkNumeral (Numeral.float b) = fine (float b)
@@ -136,7 +136,8 @@ pub data Operand : Type 0 where
   constant : F.Literal → Operand
   expression : Expression → Operand
 
--- An expression as a test. A value function comes here only as an operand straight in an argument's chain; no parameter takes such a chain, so no form has it.
+-- An expression as a test. A value function comes here only as an operand straight in an argument's chain; no parameter takes such a chain, so no form has it:
+-- the crate `laws` (StandIns) proves it.
 unfoldable pub asTest : Expression → F.Test
 asTest (nodes q) = exists q
 asTest (valued f) = not (notValue f)
@@ -187,7 +188,7 @@ named s =
     (cond (sameBytes s (0x6D ∷ 0x61 ∷ 0x74 ∷ 0x63 ∷ 0x68 ∷ [])) match
     (cond (sameBytes s (0x73 ∷ 0x65 ∷ 0x61 ∷ 0x72 ∷ 0x63 ∷ 0x68 ∷ [])) search unknown))))
 
--- A call of match or search has no form. A comparison of its arguments stands in its place, in a query that refusal 7 keeps from having a form.
+-- A call of match or search has no form. A comparison of its arguments stands in its place, in a query that refusal 7 keeps from having a form: the crate `laws` (StandIns) proves it.
 unfoldable pub unformed : F.Argument → F.Argument → F.Test
 unformed a b = compare eq a b
 

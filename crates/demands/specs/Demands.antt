@@ -23,7 +23,7 @@ use Rattle.definition.specs.TableOutcomes.{TableOutcome, PartOutcome, tableOutc
 use Rattle.definition.specs.Evaluation.{selected}
 use Rattle.definition.specs.Outcomes.{Reading, Reads, Spells, CompileOutcome, Compiles, RunOutcome, Runs, Selects, ChecksPlan, runBy}
 use Rattle.definition.specs.Outcomes.Reading.{form}
-use Rattle.definition.specs.Rows.{starredRows}
+use Rattle.definition_examples.specs.Rows.{starredRows}
 use Rattle.spelled.specs.One.{checks-one, runs-one}
 use Rattle.readings.specs.Readings.{ReadsOnly, CompilesOnly, SelectsOnly}
 use Rattle.tallies.specs.Items.{occurrences}

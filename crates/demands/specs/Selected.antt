@@ -5,9 +5,10 @@ use mathlib.Core.Path.{_≡_, refl, sym, subst}
 use mathlib.Core.List.{List, [], _∷_}
 use Rattle.definition.specs.Outcomes.{CompileOutcome, RunOutcome, Runs, Selects, runBy}
 use Rattle.definition.specs.Outcomes.Reading.{form}
-use Rattle.definition.specs.Sample.{sampleTable, sampleText}
-use Rattle.definition.specs.Gives.{Gives}
-use Rattle.definition.specs.Rows.{Row, AllGive, starredRows, starred}
+use Rattle.definition_examples.specs.Texts.{bytes}
+use Rattle.definition_examples.specs.Sample.{sampleTable, sampleText}
+use Rattle.definition_examples.specs.Gives.{Gives}
+use Rattle.definition_examples.specs.Rows.{Row, AllGive, starredRows, starred}
 use Rattle.readings.specs.Readings.{CompilesOnly, SelectsOnly}
 use Rattle.demands.specs.Lists.{Listed}
 use Rattle.demands.specs.Cases.{accepted-lists}
@@ -47,7 +48,7 @@ module _ {s T X ns : List ℕ} (g : Gives s T X ns) where
 -- every row of a table of rows, on the sample table
 abbrev pub AllAnswer : List Row → Type 0
 AllAnswer [] = Unit {0}
-AllAnswer (r ∷ rs) = Answers (r .bytes) sampleTable sampleText (r .nodes) × AllAnswer rs
+AllAnswer (r ∷ rs) = Answers (bytes (r .query)) sampleTable sampleText (r .nodes) × AllAnswer rs
 
 all-answer : (rs : List Row) → AllGive rs → AllAnswer rs
 all-answer [] g = tt

@@ -18,8 +18,8 @@ use Rattle.definition.specs.Tables.{checkTable, tree}
 use Rattle.definition.specs.Tables.Checked.{accepted}
 use Rattle.definition.specs.Evaluation.{selected}
 use Rattle.definition.specs.Outcomes.{Translates, RunOutcome, Runs}
-use Rattle.definition.specs.Sample.{root as rootMap, listA, textB, ten, twenty, thirty, sampleTable, sampleText}
-use Rattle.definition.specs.Computes.{computes}
+use Rattle.definition_examples.specs.Sample.{root as rootMap, listA, textB, ten, twenty, thirty, sampleTable, sampleText}
+use Rattle.definition_examples.specs.Computes.{computes}
 use Rattle.demands.specs.Lists.{Listed}
 use Rattle.demands.specs.Running.{runs-list}
 

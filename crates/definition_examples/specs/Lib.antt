@@ -1,0 +1,10 @@
+pub mod Computes
+pub mod Texts
+pub mod Trees
+pub mod Sample
+pub mod Gives
+pub mod Rows
+pub mod Points
+pub mod Numbers
+pub mod Cases
+pub mod Examples

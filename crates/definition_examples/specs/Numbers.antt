@@ -1,0 +1,40 @@
+-- Number literals at the ends of what they stand for: integers, floats by their bits, and refusal 8.
+use Prim.Native.Nat.{ℕ}
+use mathlib.Core.Path.{_≡_, refl}
+use mathlib.Core.List.{List, [], _∷_}
+use mathlib.Core.Bool.{true}
+use Rattle.definition_examples.specs.Computes.{computes}
+use Rattle.definition_examples.specs.Points.{Point, refuses, plans, allHold}
+
+abbrev pub literals : List Point
+literals =
+    -- integers, up to the ends of i64
+    plans "$[?@==9223372036854775807]" "01 03 01 00 09 0D 00 02 0A 10 FF FF FF FF FF FF FF 7F 14 00 0A" "" ∷
+    plans "$[?@==-9223372036854775808]" "01 03 01 00 09 0D 00 02 0A 10 00 00 00 00 00 00 00 80 14 00 0A" "" ∷
+    plans "$[?@==-1]" "01 03 01 00 09 0D 00 02 0A 10 FF FF FF FF FF FF FF FF 14 00 0A" "" ∷
+    plans "$[?@==-0]" "01 03 01 00 09 0D 00 02 0A 10 00 00 00 00 00 00 00 00 14 00 0A" "" ∷
+    -- floats
+    plans "$[?@==-0.0]" "01 03 01 00 09 0D 00 02 0A 11 00 00 00 00 00 00 00 80 14 00 0A" "" ∷
+    plans "$[?@==0.1]" "01 03 01 00 09 0D 00 02 0A 11 9A 99 99 99 99 99 B9 3F 14 00 0A" "" ∷
+    plans "$[?@==10e22]" "01 03 01 00 09 0D 00 02 0A 11 F6 4A E1 C7 02 2D B5 44 14 00 0A" "" ∷
+    plans "$[?@==1E-0022]" "01 03 01 00 09 0D 00 02 0A 11 E6 5E 17 10 20 39 5E 3B 14 00 0A" "" ∷
+    plans "$[?@==-12.5e+1]" "01 03 01 00 09 0D 00 02 0A 11 00 00 00 00 00 40 5F C0 14 00 0A" "" ∷
+    plans "$[?@==0e0]" "01 03 01 00 09 0D 00 02 0A 11 00 00 00 00 00 00 00 00 14 00 0A" "" ∷
+    plans "$[?@==9007199254740991e0]" "01 03 01 00 09 0D 00 02 0A 11 FF FF FF FF FF FF 3F 43 14 00 0A" "" ∷
+    -- "1e22 passes, 1e23 is 8"
+    plans "$[?@==1e22]" "01 03 01 00 09 0D 00 02 0A 11 92 D5 4D 06 CF F0 80 44 14 00 0A" "" ∷
+    refuses "$[?@==1e23]" 8 ∷
+    refuses "$[?@==0e23]" 8 ∷
+    refuses "$[?@==0.0e-22]" 8 ∷
+    refuses "$[?@==9007199254740991.0]" 8 ∷
+    refuses "$[?@==9007199254740992e0]" 8 ∷
+    refuses "$[?@==9223372036854775808]" 8 ∷
+    refuses "$[?@==-9223372036854775809]" 8 ∷
+    -- 8 comes behind 4 to 7
+    refuses "$[?1e99==1 && match('a','b')]" 7 ∷
+    refuses "$[?1e99==1 && count(1)==1]" 5 ∷
+    []
+
+pub literalsHold : allHold literals ≡ true
+unfolding computes
+literalsHold = refl
