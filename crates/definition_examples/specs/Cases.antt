@@ -2,17 +2,17 @@
 use Prim.Native.Nat.{ℕ}
 use Prim.Native.String.{String}
 use mathlib.Core.Path.{_≡_, refl}
-use mathlib.Core.List.{List, [], _∷_, _++_}
-use mathlib.Core.Bool.{Bool, true, false, _&&_}
+use mathlib.Core.List.{List, [], _∷_}
+use mathlib.Core.Bool.{Bool, true, _&&_}
 use lib.Dec.{eqb}
 use lib.ListN.{replicate}
 use Rattle.definition.specs.Bytes.{sameBytes}
 use Rattle.definition.specs.TableOutcomes.{PartOutcome, tableOutcome, textOutcome, keyOutcome}
-use Rattle.definition.specs.Selecting.{Reading, RunOutcome, runBy}
+use Rattle.definition.specs.Selecting.{RunOutcome, runBy}
 use Rattle.definition_examples.specs.Computes.{computes}
 use Rattle.definition_examples.specs.Texts.{bytes, hex}
-use Rattle.definition_examples.specs.Sample.{node, table, changed, tower, root, listA, textB, ten, twenty, sampleTable, sampleText}
-use Rattle.definition_examples.specs.Gives.{selects}
+use Rattle.definition_examples.specs.Sample.{node, table, changed, sampleTable, sampleText}
+use Rattle.definition_examples.specs.Gives.{selects, all}
 use Rattle.definition_examples.specs.Points.{reads}
 
 -- ---- answers: a query, a table, its text, and the nodes that are selected. A query that has no form answers nothing.
@@ -95,8 +95,6 @@ answers =
     answer "$[?@>=1.5]" (table (node 6 0 0 0 1 4 ∷ node 3 1 0 0 1 0 ∷ node 4 1 0 0 0 0x3FF80000 ∷ node 3 1 0 0 2 0 ∷ node 4 1 0 0 0 0xBFF80000 ∷ [])) [] (2 ∷ 3 ∷ []) ∷
     -- "Integer 9007199254740993 is greater than float 9007199254740992": [9007199254740992.0]
     answer "$[?9007199254740993 > @]" (table (node 6 0 0 0 1 1 ∷ node 4 1 0 0 0 0x43400000 ∷ [])) [] (1 ∷ []) ∷
-    -- 63 lists, one in the other, around "a"
-    answer "$..[?@=='a']" (tower 0 63) (bytes "a") (63 ∷ []) ∷
     []
 
 pub answersHold : allAnswered answers ≡ true
@@ -115,7 +113,7 @@ abbrev pub allJudged : List Broken → Bool
 allJudged [] = true
 allJudged (x ∷ xs) = judged x && allJudged xs
 
--- the sample table with another byte b in node i at its byte k is refused 10 at node n
+-- the sample table with another byte b at a place is refused 10 at node n
 abbrev wrong : ℕ → ℕ → ℕ → Broken
 wrong at b n = broken (changed at b sampleTable) sampleText 10 n
 
@@ -152,9 +150,6 @@ tables =
     broken (replicate 23 0) [] 9 0 ∷
     -- an empty list with a first child
     broken (node 6 0 0 0 1 0) [] 10 0 ∷
-    -- 64 levels, and 65
-    broken (tower 0 63) (bytes "a") 0 0 ∷
-    broken (tower 0 64) (bytes "a") 10 64 ∷
     []
 
 pub tablesHold : allJudged tables ≡ true
@@ -173,15 +168,17 @@ outcome x n c i ps = eqb (x .refusal) n && (eqb (x .count) c && (eqb (x .node) i
 
 -- the text of node 2 and the key of node 1 are found; an integer has no text, a list element no key, and there is no node 6
 pub partsHold :
-    (part (textOutcome sampleTable sampleText 2) (hex "C3 A9") 0
-    && (part (keyOutcome sampleTable sampleText 1) (bytes "a") 0
-    && (part (textOutcome sampleTable sampleText 3) [] 15
-    && (part (keyOutcome sampleTable sampleText 3) [] 15
-    && (part (keyOutcome sampleTable sampleText 0) [] 15
-    && (part (textOutcome sampleTable sampleText 6) [] 15
-    && (part (keyOutcome sampleTable sampleText 6) [] 15
-    && (part (textOutcome [] sampleText 0) [] 9
-    && part (keyOutcome (changed 8 1 sampleTable) sampleText 1) [] 10)))))))) ≡ true
+    all
+    (part (textOutcome sampleTable sampleText 2) (hex "C3 A9") 0 ∷
+    part (keyOutcome sampleTable sampleText 1) (bytes "a") 0 ∷
+    part (textOutcome sampleTable sampleText 3) [] 15 ∷
+    part (keyOutcome sampleTable sampleText 3) [] 15 ∷
+    part (keyOutcome sampleTable sampleText 0) [] 15 ∷
+    part (textOutcome sampleTable sampleText 6) [] 15 ∷
+    part (keyOutcome sampleTable sampleText 6) [] 15 ∷
+    part (textOutcome [] sampleText 0) [] 9 ∷
+    part (keyOutcome (changed 8 1 sampleTable) sampleText 1) [] 10 ∷
+    []) ≡ true
 unfolding computes
 partsHold = refl
 
@@ -191,12 +188,14 @@ run T L at n c i ps = reads "$.*" (λ r. outcome (runBy r T sampleText L at) n c
 
 -- two nodes fit behind the start; one place less is 13 and is filled; a start at the end is 13 and fills nothing; a start beyond it is 14; the table is judged before the list
 pub runsHold :
-    (run sampleTable (9 ∷ 9 ∷ 9 ∷ 9 ∷ []) 1 0 2 0 (9 ∷ 1 ∷ 2 ∷ 9 ∷ [])
-    && (run sampleTable (9 ∷ 9 ∷ 9 ∷ []) 1 0 2 0 (9 ∷ 1 ∷ 2 ∷ [])
-    && (run sampleTable (9 ∷ 9 ∷ []) 1 13 0 0 (9 ∷ 1 ∷ [])
-    && (run sampleTable (9 ∷ 9 ∷ []) 2 13 0 0 (9 ∷ 9 ∷ [])
-    && (run sampleTable (9 ∷ 9 ∷ []) 3 14 0 0 (9 ∷ 9 ∷ [])
-    && (run (changed 40 2 sampleTable) (9 ∷ 9 ∷ []) 3 10 0 1 (9 ∷ 9 ∷ [])
-    && run [] (9 ∷ 9 ∷ []) 3 9 0 0 (9 ∷ 9 ∷ []))))))) ≡ true
+    all
+    (run sampleTable (9 ∷ 9 ∷ 9 ∷ 9 ∷ []) 1 0 2 0 (9 ∷ 1 ∷ 2 ∷ 9 ∷ []) ∷
+    run sampleTable (9 ∷ 9 ∷ 9 ∷ []) 1 0 2 0 (9 ∷ 1 ∷ 2 ∷ []) ∷
+    run sampleTable (9 ∷ 9 ∷ []) 1 13 0 0 (9 ∷ 1 ∷ []) ∷
+    run sampleTable (9 ∷ 9 ∷ []) 2 13 0 0 (9 ∷ 9 ∷ []) ∷
+    run sampleTable (9 ∷ 9 ∷ []) 3 14 0 0 (9 ∷ 9 ∷ []) ∷
+    run (changed 40 2 sampleTable) (9 ∷ 9 ∷ []) 3 10 0 1 (9 ∷ 9 ∷ []) ∷
+    run [] (9 ∷ 9 ∷ []) 3 9 0 0 (9 ∷ 9 ∷ []) ∷
+    []) ≡ true
 unfolding computes
 runsHold = refl

@@ -29,6 +29,11 @@ pub record Gives (s T X ns : List ℕ) : Type 0 where
 
 -- ---- the test
 
+-- whether every one of some tests holds
+abbrev pub all : List Bool → Bool
+all [] = true
+all (b ∷ bs) = b && all bs
+
 abbrev pub isAccepted : Checked → Bool
 isAccepted accepted = true
 isAccepted sized = false

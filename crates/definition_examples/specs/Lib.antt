@@ -8,3 +8,9 @@ pub mod Points
 pub mod Numbers
 pub mod Cases
 pub mod Examples
+pub mod Refusals
+pub mod NoTree
+pub mod Classes
+pub mod Rights
+pub mod Limits
+pub mod Deep

@@ -1,5 +1,5 @@
 -- Tables for the examples, built record by record, and the table of document 01's sample rows, {"a":[10,20.0,30],"b":"é"}, with the text "abé".
-use Prim.Native.Nat.{ℕ, zero, suc, _/_, _%_}
+use Prim.Native.Nat.{ℕ, suc, _/_, _%_}
 use mathlib.Core.List.{List, [], _∷_, _++_}
 use lib.ListN.{take, drop}
 use Rattle.definition_examples.specs.Texts.{hex}
@@ -20,11 +20,6 @@ table (r ∷ rs) = r ++ table rs
 -- a table with another byte at a place
 abbrev pub changed : ℕ → ℕ → List ℕ → List ℕ
 changed at b T = take at T ++ b ∷ drop (suc at) T
-
--- n lists, one in the other, the outermost at depth d, around a text of one byte
-abbrev pub tower : ℕ → ℕ → List ℕ
-tower d zero = node 5 d 0 0 0 1
-tower d (suc n) = node 6 d 0 0 (suc d) 1 ++ tower (suc d) n
 
 -- ---- the sample table
 

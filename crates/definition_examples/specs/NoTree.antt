@@ -1,0 +1,469 @@
+-- Queries that no tree of the grammar spells, so that they are refused 4: shown by going through the trees, byte by byte.
+use Prim.Native.Nat.{ℕ, _<_, _+_, _*_, _/_, _%_}
+use native.Mathlib.Omega.{arith}
+use mathlib.Core.Path.{_≡_, refl, sym, ap, subst, _∙_}
+use mathlib.Core.List.{List, [], _∷_, _++_, append-assoc}
+use mathlib.Core.Bool.{Bool, true, false, cond, not, _&&_, _||_, true≢false}
+use lib.Dec.{eqb, ltb, lit<}
+use Rattle.definition.specs.Bytes.{every}
+use Rattle.definition.specs.Utf8.{encode, encodeAll}
+use Rattle.definition.specs.Lexical.{Blanks, Name, Int, Whole, Quote, Text, Bound, isBlank, isDigit1, isLcalpha, isNameFirst, isNameChar, nameBytes, ownByte, spellBlanks, spellInt, spellWhole, spellText, spellBound}
+use Rattle.definition.specs.Lexical.Int.{zeroInt, plainInt, minusInt}
+use Rattle.definition.specs.Lexical.Whole.{intWhole, minusZero}
+use Rattle.definition.specs.Lexical.Quote.{double, single}
+use Rattle.definition.specs.Lexical.Bound.{noBound, bound}
+use Rattle.definition.specs.Grammar as G
+use Rattle.definition.specs.Grammar.{spell, spellSegments, spellSegment, spellSelectors, spellSelector, spellMoreAnd, spellMoreOr, spellBasic, spellLogicalAnd, spellComparable, spellLiteral, spellOperator, spellSingularSegment, spellSingularSegments, spellFunction, spellTest}
+use Rattle.definition.specs.Grammar.SingularSegment.{nameSegment, dotSegment, indexSegment}
+use Rattle.definition.specs.Grammar.SingularSegments.{noSingular, moreSingular}
+use Rattle.definition.specs.Grammar.Singular.{relSingular, absSingular}
+use Rattle.definition.specs.Grammar.Literal.{numberLiteral, textLiteral, trueLiteral, falseLiteral, nullLiteral}
+use Rattle.definition.specs.Grammar.Operator.{eqOperator, neOperator, ltOperator, leOperator, gtOperator, geOperator}
+use Rattle.definition.specs.Grammar.Segments.{noSegment, moreSegments}
+use Rattle.definition.specs.Grammar.Segment.{childBrackets, childWild, childName, descendantBrackets, descendantWild, descendantName}
+use Rattle.definition.specs.Grammar.Bracketed.{bracketed}
+use Rattle.definition.specs.Grammar.Selectors.{noSelector, moreSelectors}
+use Rattle.definition.specs.Grammar.Selector.{nameSelector, wildcardSelector, sliceSelector, indexSelector, filterSelector}
+use Rattle.definition.specs.Grammar.LogicalOr.{logicalOr}
+use Rattle.definition.specs.Grammar.MoreOr.{noOr, moreOr}
+use Rattle.definition.specs.Grammar.LogicalAnd.{logicalAnd}
+use Rattle.definition.specs.Grammar.MoreAnd.{noAnd, moreAnd}
+use Rattle.definition.specs.Grammar.Basic.{parenBasic, notParen, comparison, testBasic, notTest}
+use Rattle.definition.specs.Grammar.Paren.{paren}
+use Rattle.definition.specs.Grammar.Test.{queryTest, functionTest}
+use Rattle.definition.specs.Grammar.FilterQuery.{relQuery, absQuery}
+use Rattle.definition.specs.Grammar.Comparable.{literalComparable, singularComparable, functionComparable}
+use Rattle.definition.specs.Grammar.Function.{function}
+use Rattle.definition.specs.Selecting.{Reads, early, noTree}
+use Rattle.definition.specs.Selecting.Reading.{refused}
+use Rattle.definition_examples.specs.Computes.{computes}
+use Rattle.definition_examples.specs.Texts.{codes, bytes}
+use Rattle.definition_examples.specs.Gives.{left, right}
+
+-- ---- lists of bytes
+
+-- the first byte, and the first that is no blank; 0 where there is none
+abbrev hd : List ℕ → ℕ
+hd [] = 0
+hd (c ∷ s) = c
+
+abbrev tl : List ℕ → List ℕ
+tl [] = []
+tl (c ∷ s) = s
+
+abbrev first : List ℕ → ℕ
+first [] = 0
+first (c ∷ s) = cond (isBlank c) (first s) c
+
+-- a test tells two lists apart
+apart : (f : List ℕ → Bool) {s t : List ℕ} → f s ≡ true → f t ≡ false → s ≡ t → ⊥
+apart f a b e = true≢false (sym a ∙ ap f e ∙ b)
+
+-- so does the first byte
+unlike : (p : ℕ → Bool) {s t : List ℕ} → p (hd s) ≡ true → p (hd t) ≡ false → s ≡ t → ⊥
+unlike p a b e = apart (λ l. p (hd l)) a b e
+
+isEmpty : List ℕ → Bool
+isEmpty [] = true
+isEmpty (c ∷ s) = false
+
+some-byte : {c : ℕ} {s : List ℕ} → c ∷ s ≡ [] → ⊥
+unfolding isEmpty
+some-byte e = true≢false (sym (ap isEmpty e))
+
+-- ---- blanks
+
+-- no blank is before a byte that is none
+unblanked : (b : Blanks) {r s : List ℕ} → isBlank (hd s) ≡ false → spellBlanks b r ≡ s → r ≡ s
+unblanked b {r} {s} h e = go (b .bytes) (b .good) e
+  where
+    go : (l : List ℕ) → every isBlank l ≡ true → l ++ r ≡ s → r ≡ s
+    go [] g e = e
+    go (c ∷ l) g e = absurd (true≢false (sym (left (isBlank c) (every isBlank l) g) ∙ ap (λ t. isBlank (hd t)) e ∙ h))
+
+first-blanks : (b : Blanks) (r : List ℕ) → first (spellBlanks b r) ≡ first r
+first-blanks b r = go (b .bytes) (b .good)
+  where
+    go : (l : List ℕ) → every isBlank l ≡ true → first (l ++ r) ≡ first r
+    go [] g = refl
+    go (c ∷ l) g = rw (left (isBlank c) (every isBlank l) g) (go l (right (isBlank c) (every isBlank l) g))
+
+-- ---- how parts of a query begin
+
+-- a segment begins with a bracket or a dot
+segment-start : (p : ℕ → Bool) → p 0x5B ≡ true → p 0x2E ≡ true → (x : G.Segment) (r : List ℕ) → p (first (spellSegment x r)) ≡ true
+segment-start p a b (childBrackets (bracketed c x xs d)) r = a
+segment-start p a b childWild r = b
+segment-start p a b (childName n) r = b
+segment-start p a b (descendantBrackets x) r = b
+segment-start p a b descendantWild r = b
+segment-start p a b (descendantName n) r = b
+
+segments-start : (p : ℕ → Bool) → p 0x5B ≡ true → p 0x2E ≡ true → (xs : G.Segments) (r : List ℕ) → p (first r) ≡ true → p (first (spellSegments xs r)) ≡ true
+segments-start p a b noSegment r h = h
+segments-start p a b (moreSegments c x xs) r h = rw (first-blanks c (spellSegment x (spellSegments xs r))) (segment-start p a b x (spellSegments xs r))
+
+-- what stands behind a selector, a basic expression and a conjunction
+selectors-start : (p : ℕ → Bool) → p 0x2C ≡ true → (xs : G.Selectors) (r : List ℕ) → p (first r) ≡ true → p (first (spellSelectors xs r)) ≡ true
+selectors-start p a noSelector r h = h
+selectors-start p a (moreSelectors b c x xs) r h = rw (first-blanks b (0x2C ∷ spellBlanks c (spellSelector x (spellSelectors xs r)))) a
+
+ands-start : (p : ℕ → Bool) → p 0x26 ≡ true → (xs : G.MoreAnd) (r : List ℕ) → p (first r) ≡ true → p (first (spellMoreAnd xs r)) ≡ true
+ands-start p a noAnd r h = h
+ands-start p a (moreAnd b c x xs) r h = rw (first-blanks b (0x26 ∷ 0x26 ∷ spellBlanks c (spellBasic x (spellMoreAnd xs r)))) a
+
+ors-start : (p : ℕ → Bool) → p 0x7C ≡ true → (xs : G.MoreOr) (r : List ℕ) → p (first r) ≡ true → p (first (spellMoreOr xs r)) ≡ true
+ors-start p a noOr r h = h
+ors-start p a (moreOr b c x xs) r h = rw (first-blanks b (0x7C ∷ 0x7C ∷ spellBlanks c (spellLogicalAnd x (spellMoreOr xs r)))) a
+
+close-start : (p : ℕ → Bool) → p 0x5D ≡ true → (b : Blanks) (r : List ℕ) → p (first (spellBlanks b (0x5D ∷ r))) ≡ true
+close-start p a b r = rw (first-blanks b (0x5D ∷ r)) a
+
+-- the bytes that begin a selector
+abbrev isSelectorByte : ℕ → Bool
+isSelectorByte c = isDigit1 c || (eqb c 0x30 || (eqb c 0x2D || (eqb c 0x22 || (eqb c 0x27 || (eqb c 0x2A || (eqb c 0x3A || eqb c 0x3F))))))
+
+int-start : (i : Int) (r : List ℕ) → isSelectorByte (hd (spellInt i r)) ≡ true
+int-start zeroInt r = refl
+int-start (plainInt n) r = rw (n .isFirst) refl
+int-start (minusInt n) r = refl
+
+text-start : (t : Text) (r : List ℕ) → isSelectorByte (hd (spellText t r)) ≡ true
+text-start t r = go (t .quote)
+  where
+    go : (q : Quote) → isSelectorByte (ownByte q) ≡ true
+    go double = refl
+    go single = refl
+
+selector-start : (x : G.Selector) (r : List ℕ) → isSelectorByte (hd (spellSelector x r)) ≡ true
+selector-start (nameSelector t) r = text-start t r
+selector-start wildcardSelector r = refl
+selector-start (sliceSelector s) r = go (s .start) _
+  where
+    go : (b : Bound) (l : List ℕ) → isSelectorByte (hd (spellBound b (0x3A ∷ l))) ≡ true
+    go noBound l = refl
+    go (bound i b) l = int-start i _
+selector-start (indexSelector i) r = int-start i r
+selector-start (filterSelector b e) r = refl
+
+-- ---- names
+
+-- the first byte of a character is the character, or above ASCII
+encode-start : (c b : ℕ) (l : List ℕ) (p : ℕ → Bool) → b < 0x80 → p c ≡ true → p b ≡ false → hd (encode c ++ l) ≡ b → ⊥
+unfolding encode
+encode-start c b l p k h g e = go (ltb c 0x80) (ltb c 0x800) (ltb c 0x10000) e
+  where
+    go : (t u v : Bool)
+        → hd (cond t (c ∷ [])
+        (cond u ((0xC0 + c / 64) ∷ (0x80 + c % 64) ∷ [])
+        (cond v ((0xE0 + c / 4096) ∷ (0x80 + c / 64 % 64) ∷ (0x80 + c % 64) ∷ [])
+        ((0xF0 + c / 262144) ∷ (0x80 + c / 4096 % 64) ∷ (0x80 + c / 64 % 64) ∷ (0x80 + c % 64) ∷ [])))
+        ++ l) ≡ b → ⊥
+    go true u v e = true≢false (sym h ∙ ap p e ∙ g)
+    go false true v e = omega (arith, e)
+    go false false true e = omega (arith, e)
+    go false false false e = omega (arith, e)
+
+-- a character of one byte takes one byte
+encode-rest : (c b : ℕ) (l s : List ℕ) → b < 0x80 → encode c ++ l ≡ b ∷ s → l ≡ s
+unfolding encode
+encode-rest c b l s k e = go (ltb c 0x80) (ltb c 0x800) (ltb c 0x10000) e
+  where
+    go : (t u v : Bool)
+        → (cond t (c ∷ [])
+        (cond u ((0xC0 + c / 64) ∷ (0x80 + c % 64) ∷ [])
+        (cond v ((0xE0 + c / 4096) ∷ (0x80 + c / 64 % 64) ∷ (0x80 + c % 64) ∷ [])
+        ((0xF0 + c / 262144) ∷ (0x80 + c / 4096 % 64) ∷ (0x80 + c / 64 % 64) ∷ (0x80 + c % 64) ∷ [])))
+        ++ l) ≡ b ∷ s → l ≡ s
+    go true u v e = ap tl e
+    go false true v e = absurd (omega (arith, ap hd e))
+    go false false true e = absurd (omega (arith, ap hd e))
+    go false false false e = absurd (omega (arith, ap hd e))
+
+-- no name begins with a byte that is no name's
+name-start : (n : Name) (r s : List ℕ) → hd s < 0x80 → isNameFirst (hd s) ≡ false → nameBytes n ++ r ≡ s → ⊥
+name-start n r s k g e = encode-start (n .first) (hd s) (encodeAll (n .more) ++ r) isNameFirst k (n .isFirst) g (ap hd (sym (append-assoc (encode (n .first)) (encodeAll (n .more)) r) ∙ e))
+
+-- ---- `$ `, `$.`, `$.a[`
+
+abbrev isSegmentByte : ℕ → Bool
+isSegmentByte c = eqb c 0x5B || eqb c 0x2E
+
+no-blank-end : (t : G.Query) → spell t ≡ 0x24 ∷ 0x20 ∷ [] → ⊥
+no-blank-end t e = go (t .segments) (ap tl e)
+  where
+    go : (xs : G.Segments) → spellSegments xs [] ≡ 0x20 ∷ [] → ⊥
+    go noSegment e = some-byte (sym e)
+    go (moreSegments b x xs) e = apart (λ l. isSegmentByte (first l)) (rw (first-blanks b (spellSegment x (spellSegments xs []))) (segment-start isSegmentByte refl refl x (spellSegments xs []))) refl e
+
+no-dot-end : (t : G.Query) → spell t ≡ 0x24 ∷ 0x2E ∷ [] → ⊥
+no-dot-end t e = go (t .segments) (ap tl e)
+  where
+    at : (x : G.Segment) (r : List ℕ) → spellSegment x r ≡ 0x2E ∷ [] → ⊥
+    at (childBrackets (bracketed b x xs c)) r e = unlike (eqb 0x5B) refl refl e
+    at childWild r e = some-byte (ap tl e)
+    at (childName n) r e = name-start n r [] (lit< tt) refl (ap tl e)
+    at (descendantBrackets x) r e = some-byte (ap tl e)
+    at descendantWild r e = some-byte (ap tl e)
+    at (descendantName n) r e = some-byte (ap tl e)
+
+    go : (xs : G.Segments) → spellSegments xs [] ≡ 0x2E ∷ [] → ⊥
+    go noSegment e = some-byte (sym e)
+    go (moreSegments b x xs) e = at x (spellSegments xs []) (unblanked b refl e)
+
+no-open-end : (t : G.Query) → spell t ≡ 0x24 ∷ 0x2E ∷ 0x61 ∷ 0x5B ∷ [] → ⊥
+unfolding encodeAll
+no-open-end t e = go (t .segments) (ap tl e)
+  where
+    opened : (x : G.Segment) (r : List ℕ) → spellSegment x r ≡ 0x5B ∷ [] → ⊥
+    opened (childBrackets (bracketed b x xs c)) r e = unlike isSelectorByte (selector-start x _) refl (unblanked b refl (ap tl e))
+    opened childWild r e = unlike (eqb 0x2E) refl refl e
+    opened (childName n) r e = unlike (eqb 0x2E) refl refl e
+    opened (descendantBrackets x) r e = unlike (eqb 0x2E) refl refl e
+    opened descendantWild r e = unlike (eqb 0x2E) refl refl e
+    opened (descendantName n) r e = unlike (eqb 0x2E) refl refl e
+
+    behind : (xs : G.Segments) → spellSegments xs [] ≡ 0x5B ∷ [] → ⊥
+    behind noSegment e = some-byte (sym e)
+    behind (moreSegments b x xs) e = opened x (spellSegments xs []) (unblanked b refl e)
+
+    more : (cs : List ℕ) → every isNameChar cs ≡ true → (xs : G.Segments) → encodeAll cs ++ spellSegments xs [] ≡ 0x5B ∷ [] → ⊥
+    more [] h xs e = behind xs e
+    more (c ∷ cs) h xs e = encode-start c 0x5B (encodeAll cs ++ spellSegments xs []) isNameChar (lit< tt) (left (isNameChar c) (every isNameChar cs) h) refl (ap hd (sym (append-assoc (encode c) (encodeAll cs) (spellSegments xs [])) ∙ e))
+
+    at : (x : G.Segment) (xs : G.Segments) → spellSegment x (spellSegments xs []) ≡ 0x2E ∷ 0x61 ∷ 0x5B ∷ [] → ⊥
+    at (childBrackets (bracketed b y ys c)) xs e = unlike (eqb 0x5B) refl refl e
+    at childWild xs e = unlike (eqb 0x2A) refl refl (ap tl e)
+    at (childName n) xs e =
+        more (n .more) (n .areMore) xs
+        (encode-rest (n .first) 0x61 (encodeAll (n .more) ++ spellSegments xs []) (0x5B ∷ []) (lit< tt) (sym (append-assoc (encode (n .first)) (encodeAll (n .more)) (spellSegments xs [])) ∙ ap tl e))
+    at (descendantBrackets x) xs e = unlike (eqb 0x2E) refl refl (ap tl e)
+    at descendantWild xs e = unlike (eqb 0x2E) refl refl (ap tl e)
+    at (descendantName n) xs e = unlike (eqb 0x2E) refl refl (ap tl e)
+
+    go : (xs : G.Segments) → spellSegments xs [] ≡ 0x2E ∷ 0x61 ∷ 0x5B ∷ [] → ⊥
+    go noSegment e = some-byte (sym e)
+    go (moreSegments b x xs) e = at x xs (unblanked b refl e)
+
+-- ---- `$[01]`, `$[-0]`: an index or a slice begins with a whole number
+
+-- a whole number, and behind it a colon, a comma or a bracket
+abbrev endsInt : ℕ → Bool
+endsInt c = eqb c 0x3A || (eqb c 0x2C || eqb c 0x5D)
+
+-- the bytes of whole numbers
+abbrev isIntByte : ℕ → Bool
+isIntByte c = eqb c 0x30 || eqb c 0x2D
+
+-- What begins with `[0` or `[-` has a whole number there.
+bracket-int : (xs : G.Segments) (s : List ℕ) → isIntByte (hd s) ≡ true → isBlank (hd s) ≡ false → spellSegments xs [] ≡ 0x5B ∷ s
+    → ((i : Int) (r : List ℕ) → endsInt (first r) ≡ true → spellInt i r ≡ s → ⊥) → ⊥
+bracket-int xs s h g e k = go xs e
+  where
+    plain : (c : ℕ) {r : List ℕ} → isIntByte c ≡ false → c ∷ r ≡ s → ⊥
+    plain c n e = true≢false (sym h ∙ ap (λ l. isIntByte (hd l)) (sym e) ∙ n)
+
+    quoted : (q : Quote) {r : List ℕ} → ownByte q ∷ r ≡ s → ⊥
+    quoted double e = plain 0x22 refl e
+    quoted single e = plain 0x27 refl e
+
+    sliced : (b : Bound) (r : List ℕ) → spellBound b (0x3A ∷ r) ≡ s → ⊥
+    sliced noBound r e = plain 0x3A refl e
+    sliced (bound i b) r e = k i (spellBlanks b (0x3A ∷ r)) (rw (first-blanks b (0x3A ∷ r)) refl) e
+
+    selected : (x : G.Selector) (r : List ℕ) → endsInt (first r) ≡ true → spellSelector x r ≡ s → ⊥
+    selected (nameSelector t) r a e = quoted (t .quote) e
+    selected wildcardSelector r a e = plain 0x2A refl e
+    selected (sliceSelector x) r a e = sliced (x .start) _ e
+    selected (indexSelector i) r a e = k i r a e
+    selected (filterSelector b x) r a e = plain 0x3F refl e
+
+    at : (x : G.Segment) (r : List ℕ) → spellSegment x r ≡ 0x5B ∷ s → ⊥
+    at (childBrackets (bracketed b x ys c)) r e = selected x (spellSelectors ys (spellBlanks c (0x5D ∷ r))) (selectors-start endsInt refl ys (spellBlanks c (0x5D ∷ r)) (close-start endsInt refl c r)) (unblanked b g (ap tl e))
+    at childWild r e = unlike (eqb 0x2E) refl refl e
+    at (childName n) r e = unlike (eqb 0x2E) refl refl e
+    at (descendantBrackets x) r e = unlike (eqb 0x2E) refl refl e
+    at descendantWild r e = unlike (eqb 0x2E) refl refl e
+    at (descendantName n) r e = unlike (eqb 0x2E) refl refl e
+
+    go : (xs : G.Segments) → spellSegments xs [] ≡ 0x5B ∷ s → ⊥
+    go noSegment e = some-byte (sym e)
+    go (moreSegments b x xs) e = at x (spellSegments xs []) (unblanked b refl e)
+
+no-leading-zero : (t : G.Query) → spell t ≡ 0x24 ∷ 0x5B ∷ 0x30 ∷ 0x31 ∷ 0x5D ∷ [] → ⊥
+no-leading-zero t e = bracket-int (t .segments) (0x30 ∷ 0x31 ∷ 0x5D ∷ []) refl refl (ap tl e) int
+  where
+    int : (i : Int) (r : List ℕ) → endsInt (first r) ≡ true → spellInt i r ≡ 0x30 ∷ 0x31 ∷ 0x5D ∷ [] → ⊥
+    int zeroInt r a e = apart (λ l. endsInt (first l)) a refl (ap tl e)
+    int (plainInt n) r a e = true≢false (sym (n .isFirst) ∙ ap (λ l. isDigit1 (hd l)) e)
+    int (minusInt n) r a e = unlike (eqb 0x2D) refl refl e
+
+no-minus-zero : (t : G.Query) → spell t ≡ 0x24 ∷ 0x5B ∷ 0x2D ∷ 0x30 ∷ 0x5D ∷ [] → ⊥
+no-minus-zero t e = bracket-int (t .segments) (0x2D ∷ 0x30 ∷ 0x5D ∷ []) refl refl (ap tl e) int
+  where
+    int : (i : Int) (r : List ℕ) → endsInt (first r) ≡ true → spellInt i r ≡ 0x2D ∷ 0x30 ∷ 0x5D ∷ [] → ⊥
+    int zeroInt r a e = unlike (eqb 0x30) refl refl e
+    int (plainInt n) r a e = true≢false (sym (n .isFirst) ∙ ap (λ l. isDigit1 (hd l)) e)
+    int (minusInt n) r a e = true≢false (sym (n .isFirst) ∙ ap (λ l. isDigit1 (hd (tl l))) e)
+
+-- ---- `$[?@.*==1]`: what is compared is a literal, a singular query or a function
+
+-- `@.*==1]`
+abbrev wild : List ℕ
+wild = 0x40 ∷ 0x2E ∷ 0x2A ∷ 0x3D ∷ 0x3D ∷ 0x31 ∷ 0x5D ∷ []
+
+-- what may stand behind a basic expression of a filter, and behind a segment in it
+abbrev endsBasic : ℕ → Bool
+endsBasic c = eqb c 0x26 || (eqb c 0x7C || (eqb c 0x2C || eqb c 0x5D))
+
+abbrev endsSegment : ℕ → Bool
+endsSegment c = endsBasic c || (eqb c 0x5B || eqb c 0x2E)
+
+-- the operators begin so
+abbrev isOperatorByte : ℕ → Bool
+isOperatorByte c = eqb c 0x3D || (eqb c 0x21 || (eqb c 0x3C || eqb c 0x3E))
+
+operator-start : (o : G.Operator) (r : List ℕ) → isOperatorByte (first (spellOperator o r)) ≡ true
+operator-start eqOperator r = refl
+operator-start neOperator r = refl
+operator-start ltOperator r = refl
+operator-start leOperator r = refl
+operator-start gtOperator r = refl
+operator-start geOperator r = refl
+
+-- no literal and no function begins with `@`
+not-at : (c : ℕ) → eqb c 0x40 ≡ false → {r : List ℕ} → c ∷ r ≡ wild → ⊥
+not-at c h e = true≢false (ap (λ l. eqb (hd l) 0x40) (sym e) ∙ h)
+
+no-literal : (l : G.Literal) (r : List ℕ) → spellLiteral l r ≡ wild → ⊥
+no-literal (numberLiteral n) r e = go (n .whole) _ e
+  where
+    int : (i : Int) (r : List ℕ) → spellInt i r ≡ wild → ⊥
+    int zeroInt r e = not-at 0x30 refl e
+    int (plainInt n) r e = true≢false (sym (n .isFirst) ∙ ap (λ l. isDigit1 (hd l)) e)
+    int (minusInt n) r e = not-at 0x2D refl e
+
+    go : (w : Whole) (r : List ℕ) → spellWhole w r ≡ wild → ⊥
+    go (intWhole i) r e = int i r e
+    go minusZero r e = not-at 0x2D refl e
+no-literal (textLiteral t) r e = go (t .quote) e
+  where
+    go : (q : Quote) {r : List ℕ} → ownByte q ∷ r ≡ wild → ⊥
+    go double e = not-at 0x22 refl e
+    go single e = not-at 0x27 refl e
+no-literal trueLiteral r e = not-at 0x74 refl e
+no-literal falseLiteral r e = not-at 0x66 refl e
+no-literal nullLiteral r e = not-at 0x6E refl e
+
+no-function : (f : G.Function) (r : List ℕ) → spellFunction f r ≡ wild → ⊥
+no-function (function n b xs c) r e = true≢false (sym (n .isFirst) ∙ ap (λ l. isLcalpha (hd l)) e)
+
+-- a singular query takes `@` alone, and no operator stands behind it
+no-comparable : (x : G.Comparable) (r : List ℕ) → isOperatorByte (first r) ≡ true → spellComparable x r ≡ wild → ⊥
+no-comparable (literalComparable l) r a e = no-literal l r e
+no-comparable (functionComparable f) r a e = no-function f r e
+no-comparable (singularComparable (absSingular xs)) r a e = not-at 0x24 refl e
+no-comparable (singularComparable (relSingular xs)) r a e = go xs (ap tl e)
+  where
+    at : (x : G.SingularSegment) (r : List ℕ) → spellSingularSegment x r ≡ tl wild → ⊥
+    at (nameSegment t) r e = unlike (eqb 0x5B) refl refl e
+    at (dotSegment n) r e = name-start n r (tl (tl wild)) (lit< tt) refl (ap tl e)
+    at (indexSegment i) r e = unlike (eqb 0x5B) refl refl e
+
+    go : (xs : G.SingularSegments) → spellSingularSegments xs r ≡ tl wild → ⊥
+    go noSingular e = apart (λ l. isOperatorByte (first l)) a refl e
+    go (moreSingular b x xs) e = at x (spellSingularSegments xs r) (unblanked b refl e)
+
+-- a query that is a test takes `@.*`, and `=` cannot stand behind it
+no-test : (t : G.Test) (r : List ℕ) → endsBasic (first r) ≡ true → spellTest t r ≡ wild → ⊥
+no-test (functionTest f) r a e = no-function f r e
+no-test (queryTest (absQuery xs)) r a e = not-at 0x24 refl e
+no-test (queryTest (relQuery xs)) r a e = go xs (ap tl e)
+  where
+    behind : (xs : G.Segments) → spellSegments xs r ≡ 0x3D ∷ 0x3D ∷ 0x31 ∷ 0x5D ∷ [] → ⊥
+    behind xs e = apart (λ l. endsSegment (first l)) (segments-start endsSegment refl refl xs r (rw a refl)) refl e
+
+    at : (x : G.Segment) (xs : G.Segments) → spellSegment x (spellSegments xs r) ≡ tl wild → ⊥
+    at (childBrackets (bracketed b y ys c)) xs e = unlike (eqb 0x5B) refl refl e
+    at childWild xs e = behind xs (ap (λ l. tl (tl l)) e)
+    at (childName n) xs e = name-start n (spellSegments xs r) (tl (tl wild)) (lit< tt) refl (ap tl e)
+    at (descendantBrackets x) xs e = unlike (eqb 0x2E) refl refl (ap tl e)
+    at descendantWild xs e = unlike (eqb 0x2E) refl refl (ap tl e)
+    at (descendantName n) xs e = unlike (eqb 0x2E) refl refl (ap tl e)
+
+    go : (xs : G.Segments) → spellSegments xs r ≡ tl wild → ⊥
+    go noSegment e = apart (λ l. endsBasic (first l)) a refl e
+    go (moreSegments b x xs) e = at x xs (unblanked b refl e)
+
+no-basic : (x : G.Basic) (r : List ℕ) → endsBasic (first r) ≡ true → spellBasic x r ≡ wild → ⊥
+no-basic (parenBasic (paren b x c)) r a e = not-at 0x28 refl e
+no-basic (notParen b p) r a e = not-at 0x21 refl e
+no-basic (comparison x b o c y) r a e = let s = spellOperator o (spellBlanks c (spellComparable y r)) in no-comparable x (spellBlanks b s) (rw (first-blanks b s) (operator-start o (spellBlanks c (spellComparable y r)))) e
+no-basic (testBasic t) r a e = no-test t r a e
+no-basic (notTest b t) r a e = not-at 0x21 refl e
+
+-- a whole number begins with a digit or a minus
+abbrev isNumberByte : ℕ → Bool
+isNumberByte c = isDigit1 c || (eqb c 0x30 || eqb c 0x2D)
+
+int-number : (i : Int) (r : List ℕ) → isNumberByte (hd (spellInt i r)) ≡ true
+int-number zeroInt r = refl
+int-number (plainInt n) r = rw (n .isFirst) refl
+int-number (minusInt n) r = refl
+
+no-wild-compared : (t : G.Query) → spell t ≡ 0x24 ∷ 0x5B ∷ 0x3F ∷ wild → ⊥
+no-wild-compared t e = go (t .segments) (ap tl e)
+  where
+    quoted : (q : Quote) {r : List ℕ} → ownByte q ∷ r ≡ 0x3F ∷ wild → ⊥
+    quoted double e = unlike (eqb 0x22) refl refl e
+    quoted single e = unlike (eqb 0x27) refl refl e
+
+    sliced : (b : Bound) (r : List ℕ) → spellBound b (0x3A ∷ r) ≡ 0x3F ∷ wild → ⊥
+    sliced noBound r e = unlike (eqb 0x3A) refl refl e
+    sliced (bound i b) r e = unlike isNumberByte (int-number i _) refl e
+
+    selected : (x : G.Selector) (r : List ℕ) → endsBasic (first r) ≡ true → spellSelector x r ≡ 0x3F ∷ wild → ⊥
+    selected (nameSelector t) r a e = quoted (t .quote) e
+    selected wildcardSelector r a e = unlike (eqb 0x2A) refl refl e
+    selected (sliceSelector x) r a e = sliced (x .start) _ e
+    selected (indexSelector i) r a e = unlike isNumberByte (int-number i r) refl e
+    selected (filterSelector b (logicalOr (logicalAnd x u) v)) r a e =
+        no-basic x (spellMoreAnd u (spellMoreOr v r)) (ands-start endsBasic refl u (spellMoreOr v r) (ors-start endsBasic refl v r a)) (unblanked b refl (ap tl e))
+
+    at : (x : G.Segment) (r : List ℕ) → spellSegment x r ≡ 0x5B ∷ 0x3F ∷ wild → ⊥
+    at (childBrackets (bracketed b x ys c)) r e = selected x (spellSelectors ys (spellBlanks c (0x5D ∷ r))) (selectors-start endsBasic refl ys (spellBlanks c (0x5D ∷ r)) (close-start endsBasic refl c r)) (unblanked b refl (ap tl e))
+    at childWild r e = unlike (eqb 0x2E) refl refl e
+    at (childName n) r e = unlike (eqb 0x2E) refl refl e
+    at (descendantBrackets x) r e = unlike (eqb 0x2E) refl refl e
+    at descendantWild r e = unlike (eqb 0x2E) refl refl e
+    at (descendantName n) r e = unlike (eqb 0x2E) refl refl e
+
+    go : (xs : G.Segments) → spellSegments xs [] ≡ 0x5B ∷ 0x3F ∷ wild → ⊥
+    go noSegment e = some-byte (sym e)
+    go (moreSegments b x xs) e = at x (spellSegments xs []) (unblanked b refl e)
+
+-- ---- the rows
+
+pub leadingZero : Reads (bytes "$[01]") (refused 4)
+unfolding computes
+leadingZero = noTree refl no-leading-zero
+
+pub minusZeroIndex : Reads (bytes "$[-0]") (refused 4)
+unfolding computes
+minusZeroIndex = noTree refl no-minus-zero
+
+pub blankEnd : Reads (bytes "$ ") (refused 4)
+unfolding computes
+blankEnd = noTree refl no-blank-end
+
+pub openEnd : Reads (bytes "$.a[") (refused 4)
+unfolding computes
+openEnd = noTree refl no-open-end
+
+pub dotEnd : Reads (bytes "$.") (refused 4)
+unfolding computes
+dotEnd = noTree refl no-dot-end
+
+pub wildCompared : Reads (bytes "$[?@.*==1]") (refused 4)
+unfolding computes
+wildCompared = noTree refl no-wild-compared
