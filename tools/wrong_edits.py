@@ -17,8 +17,8 @@ import os, re, shutil, subprocess, sys, tempfile
 ROOT = os.path.dirname(os.path.dirname(os.path.abspath(__file__)))
 SPECS = "crates/definition/specs"
 EXAMPLES = "crates/definition_examples/specs"
-# the crates that are checked, in steps; the examples' module SLOW joins in the last step
-STEPS = (("definition",), ("definition_examples",), ("standards",), ("definition_examples", "laws"))
+# the crates that are checked with all that they depend on, in steps; the module SLOW of the examples joins in the last step
+STEPS = (("definition_examples",), ("standards",), ("definition_examples", "laws"))
 SLOW = "Deep"
 
 

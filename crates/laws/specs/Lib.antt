@@ -1,3 +1,7 @@
 pub mod Small
 pub mod Spelling
 pub mod Selection
+pub mod Levels
+pub mod StandIns
+pub mod Written
+pub mod Reached
