@@ -5,7 +5,7 @@
 
 tools/wrong_edits.txt has the edits, under the module of crates/definition/specs that each is of. Every edit is made in a copy of the crates below, of
 which each must then still be proved: the definition, its examples, and the laws above it. The copy is checked in steps, the quick ones first, and an
-edit is given up at the first crate that refuses it. With module names or numbers only those edits are tried. With --results every outcome is written
+edit is given up at the first place that refuses it. With module names or numbers only those edits are tried. With --results every outcome is written
 to the file as it comes, and an edit that the file already has as refused is not tried again.
 
 Last come the edits that nothing refuses: those of which wrong_edits.txt gives a reason, and the others, for which a row or a law is missing. The script
@@ -17,9 +17,15 @@ import os, re, shutil, subprocess, sys, tempfile
 ROOT = os.path.dirname(os.path.dirname(os.path.abspath(__file__)))
 SPECS = "crates/definition/specs"
 EXAMPLES = "crates/definition_examples/specs"
-# the crates that are checked with all that they depend on, in steps; the module SLOW of the examples joins in the last step
-STEPS = (("definition_examples",), ("standards",), ("definition_examples", "laws"))
+# the module of the examples that is to refuse an edit of a module of the definition first
+FIRST = {
+    "Limits": "Limits", "Utf8": "Classes", "Brackets": "Refusals", "Lexical": "Classes", "Literals": "Numbers", "Slices": "Rows", "Tables": "Cases",
+    "Forms": "Points", "QueryForms": "Rights", "Walk": "Points", "Compare": "Cases", "Evaluation": "Cases", "Selecting": "Cases", "Outcomes": "Examples",
+    "Plans": "Points",
+}
+# the module of the examples that takes longest, and comes last
 SLOW = "Deep"
+CRATES = ("definition_examples", "standards", "laws")
 
 
 def edits():
@@ -40,7 +46,7 @@ def edits():
 
 def needed(listed):
     """The crates of the steps and all that they depend on, as lines of crates.txt."""
-    below, todo = {}, [c for step in STEPS for c in step]
+    below, todo = {}, list(CRATES)
     while todo:
         c = todo.pop()
         if c not in below and c in listed:
@@ -71,23 +77,41 @@ def write(path, text):
         f.write(text)
 
 
-def slow(where, there):
-    """Has the slow module of the examples in the copy, or leaves it out."""
-    lib, file = os.path.join(where, EXAMPLES, "Lib.antt"), os.path.join(where, EXAMPLES, SLOW + ".antt")
-    lines = [line for line in read(lib).splitlines() if line != "pub mod " + SLOW]
-    if there:
-        shutil.copy(os.path.join(ROOT, EXAMPLES, SLOW + ".antt"), file)
-        lines.append("pub mod " + SLOW)
-    elif os.path.exists(file):
-        os.remove(file)
-    write(lib, "\n".join(lines) + "\n")
+def below(modules):
+    """Modules of the examples, with those that they use."""
+    all_of, todo = set(), list(modules)
+    while todo:
+        module = todo.pop()
+        if module not in all_of:
+            all_of.add(module)
+            todo += re.findall(r"^use Rattle\.definition_examples\.specs\.(\w+)", read(os.path.join(ROOT, EXAMPLES, module + ".antt")), re.M)
+    return all_of
 
 
-def refused_by(where):
-    """The first place that refuses the copy, or None."""
-    for i, step in enumerate(STEPS):
-        slow(where, i + 1 == len(STEPS))
-        ran = subprocess.run(["rt", "check", *step], cwd=where, stdout=subprocess.PIPE, stderr=subprocess.STDOUT, text=True)
+def keep(where, modules):
+    """Has these modules of the examples in the copy, and no others."""
+    lines = read(os.path.join(ROOT, EXAMPLES, "Lib.antt")).splitlines()
+    for module in (line[len("pub mod "):] for line in lines):
+        file = os.path.join(EXAMPLES, module + ".antt")
+        if module in modules:
+            shutil.copy(os.path.join(ROOT, file), os.path.join(where, file))
+        elif os.path.exists(os.path.join(where, file)):
+            os.remove(os.path.join(where, file))
+    write(os.path.join(where, EXAMPLES, "Lib.antt"), "".join(f"{line}\n" for line in lines if line[len("pub mod "):] in modules))
+
+
+def refused_by(where, module):
+    """The first place that refuses the copy with an edit of a module, or None."""
+    every = {line[len("pub mod "):] for line in read(os.path.join(ROOT, EXAMPLES, "Lib.antt")).splitlines()}
+    steps = (
+        (below([FIRST[module]]), ["dev", "definition_examples"]),
+        (every - {SLOW}, ["check", "definition_examples"]),
+        (every - {SLOW}, ["check", "standards", "laws"]),
+        (every, ["check", "definition_examples"]),
+    )
+    for modules, words in steps:
+        keep(where, modules)
+        ran = subprocess.run(["rt", *words], cwd=where, stdout=subprocess.PIPE, stderr=subprocess.STDOUT, text=True)
         if ran.returncode:
             place = re.search(r"crates/([\w/]*\.antt:\d+)\S*: error", ran.stdout)
             return place[1] if place else ran.stdout.strip().splitlines()[-1]
@@ -102,7 +126,7 @@ def attempt(where, module, old, new):
         return "bad", f"the old text is there {text.count(old)} times"
     write(file, text.replace(old, new))
     try:
-        place = refused_by(where)
+        place = refused_by(where, module)
     finally:
         write(file, text)
     if place is None:

@@ -64,6 +64,10 @@ sampleAnswers =
     onSample "$[?$.a[?$.b]]" (1 ∷ 2 ∷ []) ∷
     onSample "$[?@[0] && @[1]]" (1 ∷ []) ∷
     onSample "$[?@[9] || @[1]]" (1 ∷ []) ∷
+    onSample "$[?@[0] && @[9]]" [] ∷
+    onSample "$[?@[9] && @[0]]" [] ∷
+    onSample "$[?null==@.x]" [] ∷
+    onSample "$[?@.x==@.x]" [] ∷
     onSample "$[?!@[0]]" (2 ∷ []) ∷
     []
 
@@ -95,6 +99,23 @@ answers =
     answer "$[?@>=1.5]" (table (node 6 0 0 0 1 4 ∷ node 3 1 0 0 1 0 ∷ node 4 1 0 0 0 0x3FF80000 ∷ node 3 1 0 0 2 0 ∷ node 4 1 0 0 0 0xBFF80000 ∷ [])) [] (2 ∷ 3 ∷ []) ∷
     -- "Integer 9007199254740993 is greater than float 9007199254740992": [9007199254740992.0]
     answer "$[?9007199254740993 > @]" (table (node 6 0 0 0 1 1 ∷ node 4 1 0 0 0 0x43400000 ∷ [])) [] (1 ∷ []) ∷
+    -- [-1, -2, 3]
+    answer "$[?@<-1]" (table (node 6 0 0 0 1 3 ∷ node 3 1 0 0 0xFFFFFFFF 0xFFFFFFFF ∷ node 3 1 0 0 0xFFFFFFFE 0xFFFFFFFF ∷ node 3 1 0 0 3 0 ∷ [])) [] (2 ∷ []) ∷
+    answer "$[?@<=-1]" (table (node 6 0 0 0 1 3 ∷ node 3 1 0 0 0xFFFFFFFF 0xFFFFFFFF ∷ node 3 1 0 0 0xFFFFFFFE 0xFFFFFFFF ∷ node 3 1 0 0 3 0 ∷ [])) [] (1 ∷ 2 ∷ []) ∷
+    -- [9007199254740992.0]
+    answer "$[?@==9007199254740992]" (table (node 6 0 0 0 1 1 ∷ node 4 1 0 0 0 0x43400000 ∷ [])) [] (1 ∷ []) ∷
+    -- [true, null, "a", []]
+    answer "$[?@<1]" (table (node 6 0 0 0 1 4 ∷ node 2 1 0 0 0 0 ∷ node 0 1 0 0 0 0 ∷ node 5 1 0 0 0 1 ∷ node 6 1 0 0 0 0 ∷ [])) (bytes "a") [] ∷
+    answer "$[?@>='a']" (table (node 6 0 0 0 1 4 ∷ node 2 1 0 0 0 0 ∷ node 0 1 0 0 0 0 ∷ node 5 1 0 0 0 1 ∷ node 6 1 0 0 0 0 ∷ [])) (bytes "a") (3 ∷ []) ∷
+    -- [{"x": 1}, {"x": 1, "y": 2}]
+    answer "$[?@==$[1]]" (table (node 6 0 0 0 1 2 ∷ node 7 1 0 0 3 1 ∷ node 7 1 0 0 4 2 ∷ node 3 2 0 1 1 0 ∷ node 3 2 0 1 1 0 ∷ node 3 2 1 1 2 0 ∷ [])) (bytes "xy") (2 ∷ []) ∷
+    -- [{"x": 1}, {"y": 1}]
+    answer "$[?@==$[1]]" (table (node 6 0 0 0 1 2 ∷ node 7 1 0 0 3 1 ∷ node 7 1 0 0 4 1 ∷ node 3 2 0 1 1 0 ∷ node 3 2 1 1 1 0 ∷ [])) (bytes "xy") (2 ∷ []) ∷
+    -- [[1], [1, 2]]
+    answer "$[?@==$[1]]" (table (node 6 0 0 0 1 2 ∷ node 6 1 0 0 3 1 ∷ node 6 1 0 0 4 2 ∷ node 3 2 0 0 1 0 ∷ node 3 2 0 0 1 0 ∷ node 3 2 0 0 2 0 ∷ [])) [] (2 ∷ []) ∷
+    answer "$[?@==$[0]]" (table (node 6 0 0 0 1 2 ∷ node 6 1 0 0 3 1 ∷ node 6 1 0 0 4 2 ∷ node 3 2 0 0 1 0 ∷ node 3 2 0 0 1 0 ∷ node 3 2 0 0 2 0 ∷ [])) [] (1 ∷ []) ∷
+    -- [[1], [2]]
+    answer "$[?@==$[1]]" (table (node 6 0 0 0 1 2 ∷ node 6 1 0 0 3 1 ∷ node 6 1 0 0 4 1 ∷ node 3 2 0 0 1 0 ∷ node 3 2 0 0 2 0 ∷ [])) [] (2 ∷ []) ∷
     []
 
 pub answersHold : allAnswered answers ≡ true
@@ -122,24 +143,39 @@ tables =
     broken sampleTable sampleText 0 0 ∷
     -- a kind above 7
     wrong 72 8 3 ∷
-    -- byte 2 set, and byte 15
+    -- bytes 2, 3, 12 and 15 set
     wrong 2 1 0 ∷
+    wrong 3 1 0 ∷
+    wrong 12 1 0 ∷
     wrong 135 1 5 ∷
     -- a depth that is not one more than the parent's
     wrong 97 1 4 ∷
-    -- a null with a payload
+    -- a null with a payload, in its lowest and in its highest byte, and a true with that of a list
     wrong 72 0 3 ∷
+    broken (table (node 6 0 0 0 1 1 ∷ node 0 1 0 0 0 0x1000000 ∷ [])) [] 10 1 ∷
+    broken (table (node 6 0 0 0 1 1 ∷ node 2 1 0 0 2 1 ∷ node 0 2 0 0 0 0 ∷ [])) [] 10 1 ∷
     -- a float that is not finite
     broken (changed 118 0xF0 (changed 119 0x7F sampleTable)) sampleText 10 4 ∷
-    -- a text past the end, and one that cuts a character
+    -- a text past the end, by its length and by the higher bytes of its start and its length, and one that cuts a character
     wrong 68 3 2 ∷
+    wrong 66 1 2 ∷
+    wrong 70 1 2 ∷
     wrong 68 1 2 ∷
-    -- a wrong first child, a range past the end, an orphan
+    -- a wrong first child of a list and of a map, a range past the end, an orphan
     wrong 40 2 1 ∷
+    wrong 42 1 1 ∷
+    wrong 16 2 0 ∷
     wrong 44 4 1 ∷
+    wrong 46 1 1 ∷
+    wrong 20 6 0 ∷
     wrong 44 2 5 ∷
-    -- a list element with a key
+    -- a list element with a key, by its length and by its start
     wrong 80 1 3 ∷
+    wrong 76 1 3 ∷
+    -- a key past the end, by its length, the higher bytes of it, and its start
+    wrong 32 9 1 ∷
+    wrong 34 1 1 ∷
+    wrong 30 1 1 ∷
     -- two members of one key
     wrong 52 0 2 ∷
     -- a root with a key, and one that is not at depth 0

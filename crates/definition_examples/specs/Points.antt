@@ -129,6 +129,7 @@ forms =
     -- not, before a query, a value function and a parenthesis
     plans "$[?!(!@)]" "01 03 01 00 09 05 00 02 0A 18 15 15 0A" "" ∷
     plans "$[?!count(@.*)]" "01 03 01 00 09 09 00 02 03 01 00 08 0A 19 18 15 0A" "" ∷
+    plans "$[?!count(@.a)||@.b]" "01 03 01 00 09 1B 00 02 03 01 00 05 00 00 01 00 0A 19 18 15 17 0B 00 02 03 01 00 05 01 00 01 00 0A 18 0A" "ab" ∷
     plans "$[?!(@==1)]" "01 03 01 00 09 0E 00 02 0A 10 01 00 00 00 00 00 00 00 14 00 15 0A" "" ∷
     plans "$[?!(!count(@))]" "01 03 01 00 09 06 00 02 0A 19 18 15 15 0A" "" ∷
     -- arguments, in parentheses or not
