@@ -7,7 +7,7 @@ use mathlib.Core.Bool.{Bool, true, false, cond, not, _&&_, _||_, true≢false}
 use lib.Dec.{eqb, ltb, lit<}
 use Rattle.definition.specs.Bytes.{every}
 use Rattle.definition.specs.Utf8.{encode, encodeAll}
-use Rattle.definition.specs.Lexical.{Blanks, Name, Int, Whole, Quote, Text, Bound, isBlank, isDigit1, isLcalpha, isNameFirst, isNameChar, nameBytes, ownByte, spellBlanks, spellInt, spellWhole, spellText, spellBound}
+use Rattle.definition.specs.Lexical.{Blanks, Name, Int, Whole, Quote, Text, Bound, isBlank, isDigit1, isLcalpha, isNameFirst, isNameChar, nameBytes, ownByte, spellBlanks, spellInt, spellWhole, spellFraction, spellExponent, spellText, spellBound}
 use Rattle.definition.specs.Lexical.Int.{zeroInt, plainInt, minusInt}
 use Rattle.definition.specs.Lexical.Whole.{intWhole, minusZero}
 use Rattle.definition.specs.Lexical.Quote.{double, single}
@@ -306,11 +306,7 @@ no-minus-zero t e = bracket-int (t .segments) (0x2D ∷ 0x30 ∷ 0x5D ∷ []) re
     int (plainInt n) r a e = true≢false (sym (n .isFirst) ∙ ap (λ l. isDigit1 (hd l)) e)
     int (minusInt n) r a e = true≢false (sym (n .isFirst) ∙ ap (λ l. isDigit1 (hd (tl l))) e)
 
--- ---- `$[?@.*==1]`: what is compared is a literal, a singular query or a function
-
--- `@.*==1]`
-abbrev wild : List ℕ
-wild = 0x40 ∷ 0x2E ∷ 0x2A ∷ 0x3D ∷ 0x3D ∷ 0x31 ∷ 0x5D ∷ []
+-- ---- filters that begin with `@`: what may begin so, and what may follow
 
 -- what may stand behind a basic expression of a filter, and behind a segment in it
 abbrev endsBasic : ℕ → Bool
@@ -331,77 +327,6 @@ operator-start leOperator r = refl
 operator-start gtOperator r = refl
 operator-start geOperator r = refl
 
--- no literal and no function begins with `@`
-not-at : (c : ℕ) → eqb c 0x40 ≡ false → {r : List ℕ} → c ∷ r ≡ wild → ⊥
-not-at c h e = true≢false (ap (λ l. eqb (hd l) 0x40) (sym e) ∙ h)
-
-no-literal : (l : G.Literal) (r : List ℕ) → spellLiteral l r ≡ wild → ⊥
-no-literal (numberLiteral n) r e = go (n .whole) _ e
-  where
-    int : (i : Int) (r : List ℕ) → spellInt i r ≡ wild → ⊥
-    int zeroInt r e = not-at 0x30 refl e
-    int (plainInt n) r e = true≢false (sym (n .isFirst) ∙ ap (λ l. isDigit1 (hd l)) e)
-    int (minusInt n) r e = not-at 0x2D refl e
-
-    go : (w : Whole) (r : List ℕ) → spellWhole w r ≡ wild → ⊥
-    go (intWhole i) r e = int i r e
-    go minusZero r e = not-at 0x2D refl e
-no-literal (textLiteral t) r e = go (t .quote) e
-  where
-    go : (q : Quote) {r : List ℕ} → ownByte q ∷ r ≡ wild → ⊥
-    go double e = not-at 0x22 refl e
-    go single e = not-at 0x27 refl e
-no-literal trueLiteral r e = not-at 0x74 refl e
-no-literal falseLiteral r e = not-at 0x66 refl e
-no-literal nullLiteral r e = not-at 0x6E refl e
-
-no-function : (f : G.Function) (r : List ℕ) → spellFunction f r ≡ wild → ⊥
-no-function (function n b xs c) r e = true≢false (sym (n .isFirst) ∙ ap (λ l. isLcalpha (hd l)) e)
-
--- a singular query takes `@` alone, and no operator stands behind it
-no-comparable : (x : G.Comparable) (r : List ℕ) → isOperatorByte (first r) ≡ true → spellComparable x r ≡ wild → ⊥
-no-comparable (literalComparable l) r a e = no-literal l r e
-no-comparable (functionComparable f) r a e = no-function f r e
-no-comparable (singularComparable (absSingular xs)) r a e = not-at 0x24 refl e
-no-comparable (singularComparable (relSingular xs)) r a e = go xs (ap tl e)
-  where
-    at : (x : G.SingularSegment) (r : List ℕ) → spellSingularSegment x r ≡ tl wild → ⊥
-    at (nameSegment t) r e = unlike (eqb 0x5B) refl refl e
-    at (dotSegment n) r e = name-start n r (tl (tl wild)) (lit< tt) refl (ap tl e)
-    at (indexSegment i) r e = unlike (eqb 0x5B) refl refl e
-
-    go : (xs : G.SingularSegments) → spellSingularSegments xs r ≡ tl wild → ⊥
-    go noSingular e = apart (λ l. isOperatorByte (first l)) a refl e
-    go (moreSingular b x xs) e = at x (spellSingularSegments xs r) (unblanked b refl e)
-
--- a query that is a test takes `@.*`, and `=` cannot stand behind it
-no-test : (t : G.Test) (r : List ℕ) → endsBasic (first r) ≡ true → spellTest t r ≡ wild → ⊥
-no-test (functionTest f) r a e = no-function f r e
-no-test (queryTest (absQuery xs)) r a e = not-at 0x24 refl e
-no-test (queryTest (relQuery xs)) r a e = go xs (ap tl e)
-  where
-    behind : (xs : G.Segments) → spellSegments xs r ≡ 0x3D ∷ 0x3D ∷ 0x31 ∷ 0x5D ∷ [] → ⊥
-    behind xs e = apart (λ l. endsSegment (first l)) (segments-start endsSegment refl refl xs r (rw a refl)) refl e
-
-    at : (x : G.Segment) (xs : G.Segments) → spellSegment x (spellSegments xs r) ≡ tl wild → ⊥
-    at (childBrackets (bracketed b y ys c)) xs e = unlike (eqb 0x5B) refl refl e
-    at childWild xs e = behind xs (ap (λ l. tl (tl l)) e)
-    at (childName n) xs e = name-start n (spellSegments xs r) (tl (tl wild)) (lit< tt) refl (ap tl e)
-    at (descendantBrackets x) xs e = unlike (eqb 0x2E) refl refl (ap tl e)
-    at descendantWild xs e = unlike (eqb 0x2E) refl refl (ap tl e)
-    at (descendantName n) xs e = unlike (eqb 0x2E) refl refl (ap tl e)
-
-    go : (xs : G.Segments) → spellSegments xs r ≡ tl wild → ⊥
-    go noSegment e = apart (λ l. endsBasic (first l)) a refl e
-    go (moreSegments b x xs) e = at x xs (unblanked b refl e)
-
-no-basic : (x : G.Basic) (r : List ℕ) → endsBasic (first r) ≡ true → spellBasic x r ≡ wild → ⊥
-no-basic (parenBasic (paren b x c)) r a e = not-at 0x28 refl e
-no-basic (notParen b p) r a e = not-at 0x21 refl e
-no-basic (comparison x b o c y) r a e = let s = spellOperator o (spellBlanks c (spellComparable y r)) in no-comparable x (spellBlanks b s) (rw (first-blanks b s) (operator-start o (spellBlanks c (spellComparable y r)))) e
-no-basic (testBasic t) r a e = no-test t r a e
-no-basic (notTest b t) r a e = not-at 0x21 refl e
-
 -- a whole number begins with a digit or a minus
 abbrev isNumberByte : ℕ → Bool
 isNumberByte c = isDigit1 c || (eqb c 0x30 || eqb c 0x2D)
@@ -411,36 +336,192 @@ int-number zeroInt r = refl
 int-number (plainInt n) r = rw (n .isFirst) refl
 int-number (minusInt n) r = refl
 
-no-wild-compared : (t : G.Query) → spell t ≡ 0x24 ∷ 0x5B ∷ 0x3F ∷ wild → ⊥
-no-wild-compared t e = go (t .segments) (ap tl e)
+whole-number : (w : Whole) (r : List ℕ) → isNumberByte (hd (spellWhole w r)) ≡ true
+whole-number (intWhole i) r = int-number i r
+whole-number minusZero r = refl
+
+-- the bytes that begin what is compared
+abbrev isComparableByte : ℕ → Bool
+isComparableByte c = isLcalpha c || (isNumberByte c || (eqb c 0x22 || (eqb c 0x27 || (eqb c 0x40 || eqb c 0x24))))
+
+or-true : (a : Bool) → (a || true) ≡ true
+or-true true = refl
+or-true false = refl
+
+comparable-start : (x : G.Comparable) (r : List ℕ) → isComparableByte (hd (spellComparable x r)) ≡ true
+comparable-start (literalComparable (numberLiteral n)) r = rw (whole-number (n .whole) (spellFraction (n .frac) (spellExponent (n .exp) r))) (or-true (isLcalpha (hd (spellWhole (n .whole) (spellFraction (n .frac) (spellExponent (n .exp) r))))))
+comparable-start (literalComparable (textLiteral t)) r = go (t .quote)
   where
-    quoted : (q : Quote) {r : List ℕ} → ownByte q ∷ r ≡ 0x3F ∷ wild → ⊥
-    quoted double e = unlike (eqb 0x22) refl refl e
-    quoted single e = unlike (eqb 0x27) refl refl e
+    go : (q : Quote) → isComparableByte (ownByte q) ≡ true
+    go double = refl
+    go single = refl
+comparable-start (literalComparable trueLiteral) r = refl
+comparable-start (literalComparable falseLiteral) r = refl
+comparable-start (literalComparable nullLiteral) r = refl
+comparable-start (singularComparable (relSingular xs)) r = refl
+comparable-start (singularComparable (absSingular xs)) r = refl
+comparable-start (functionComparable (function n b xs c)) r = rw (n .isFirst) refl
 
-    sliced : (b : Bound) (r : List ℕ) → spellBound b (0x3A ∷ r) ≡ 0x3F ∷ wild → ⊥
-    sliced noBound r e = unlike (eqb 0x3A) refl refl e
-    sliced (bound i b) r e = unlike isNumberByte (int-number i _) refl e
+-- `@` and the bytes l behind it
+module _ (l : List ℕ) where
+  not-at : (c : ℕ) → eqb c 0x40 ≡ false → {r : List ℕ} → c ∷ r ≡ 0x40 ∷ l → ⊥
+  not-at c h e = true≢false (ap (λ m. eqb (hd m) 0x40) (sym e) ∙ h)
 
-    selected : (x : G.Selector) (r : List ℕ) → endsBasic (first r) ≡ true → spellSelector x r ≡ 0x3F ∷ wild → ⊥
-    selected (nameSelector t) r a e = quoted (t .quote) e
-    selected wildcardSelector r a e = unlike (eqb 0x2A) refl refl e
-    selected (sliceSelector x) r a e = sliced (x .start) _ e
-    selected (indexSelector i) r a e = unlike isNumberByte (int-number i r) refl e
-    selected (filterSelector b (logicalOr (logicalAnd x u) v)) r a e =
-        no-basic x (spellMoreAnd u (spellMoreOr v r)) (ands-start endsBasic refl u (spellMoreOr v r) (ors-start endsBasic refl v r a)) (unblanked b refl (ap tl e))
+  -- no literal and no function begins with `@`
+  no-literal : (x : G.Literal) (r : List ℕ) → spellLiteral x r ≡ 0x40 ∷ l → ⊥
+  no-literal (numberLiteral n) r e = unlike isNumberByte (whole-number (n .whole) _) refl e
+  no-literal (textLiteral t) r e = go (t .quote) e
+    where
+      go : (q : Quote) {r : List ℕ} → ownByte q ∷ r ≡ 0x40 ∷ l → ⊥
+      go double e = not-at 0x22 refl e
+      go single e = not-at 0x27 refl e
+  no-literal trueLiteral r e = not-at 0x74 refl e
+  no-literal falseLiteral r e = not-at 0x66 refl e
+  no-literal nullLiteral r e = not-at 0x6E refl e
 
-    at : (x : G.Segment) (r : List ℕ) → spellSegment x r ≡ 0x5B ∷ 0x3F ∷ wild → ⊥
-    at (childBrackets (bracketed b x ys c)) r e = selected x (spellSelectors ys (spellBlanks c (0x5D ∷ r))) (selectors-start endsBasic refl ys (spellBlanks c (0x5D ∷ r)) (close-start endsBasic refl c r)) (unblanked b refl (ap tl e))
-    at childWild r e = unlike (eqb 0x2E) refl refl e
-    at (childName n) r e = unlike (eqb 0x2E) refl refl e
-    at (descendantBrackets x) r e = unlike (eqb 0x2E) refl refl e
-    at descendantWild r e = unlike (eqb 0x2E) refl refl e
-    at (descendantName n) r e = unlike (eqb 0x2E) refl refl e
+  no-function : (f : G.Function) (r : List ℕ) → spellFunction f r ≡ 0x40 ∷ l → ⊥
+  no-function (function n b xs c) r e = true≢false (sym (n .isFirst) ∙ ap (λ m. isLcalpha (hd m)) e)
 
-    go : (xs : G.Segments) → spellSegments xs [] ≡ 0x5B ∷ 0x3F ∷ wild → ⊥
-    go noSegment e = some-byte (sym e)
-    go (moreSegments b x xs) e = at x (spellSegments xs []) (unblanked b refl e)
+  -- a comparison begins with a singular query, a test with a query
+  from-comparable : (x : G.Comparable) (r : List ℕ) → ((xs : G.SingularSegments) → spellSingularSegments xs r ≡ l → ⊥) → spellComparable x r ≡ 0x40 ∷ l → ⊥
+  from-comparable (literalComparable x) r k e = no-literal x r e
+  from-comparable (functionComparable f) r k e = no-function f r e
+  from-comparable (singularComparable (absSingular xs)) r k e = not-at 0x24 refl e
+  from-comparable (singularComparable (relSingular xs)) r k e = k xs (ap tl e)
+
+  from-test : (t : G.Test) (r : List ℕ) → ((xs : G.Segments) → spellSegments xs r ≡ l → ⊥) → spellTest t r ≡ 0x40 ∷ l → ⊥
+  from-test (functionTest f) r k e = no-function f r e
+  from-test (queryTest (absQuery xs)) r k e = not-at 0x24 refl e
+  from-test (queryTest (relQuery xs)) r k e = k xs (ap tl e)
+
+  -- so does a basic expression: what is left are the bytes behind `@`, of both
+  from-basic : (x : G.Basic) (r : List ℕ)
+      → ((xs : G.SingularSegments) (b c : Blanks) (o : G.Operator) (y : G.Comparable) → spellSingularSegments xs (spellBlanks b (spellOperator o (spellBlanks c (spellComparable y r)))) ≡ l → ⊥)
+      → ((xs : G.Segments) → spellSegments xs r ≡ l → ⊥)
+      → spellBasic x r ≡ 0x40 ∷ l → ⊥
+  from-basic (parenBasic (paren b x c)) r k m e = not-at 0x28 refl e
+  from-basic (notParen b p) r k m e = not-at 0x21 refl e
+  from-basic (comparison x b o c y) r k m e = from-comparable x (spellBlanks b (spellOperator o (spellBlanks c (spellComparable y r)))) (λ xs. k xs b c o y) e
+  from-basic (testBasic t) r k m e = from-test t r m e
+  from-basic (notTest b t) r k m e = not-at 0x21 refl e
+
+  -- Where neither a comparison nor a test goes on with l behind `@`, no tree spells `$[?@l`.
+  from-query : (t : G.Query)
+      → ((xs : G.SingularSegments) (b c : Blanks) (o : G.Operator) (y : G.Comparable) (r : List ℕ) → spellSingularSegments xs (spellBlanks b (spellOperator o (spellBlanks c (spellComparable y r)))) ≡ l → ⊥)
+      → ((xs : G.Segments) (r : List ℕ) → endsBasic (first r) ≡ true → spellSegments xs r ≡ l → ⊥)
+      → spell t ≡ 0x24 ∷ 0x5B ∷ 0x3F ∷ 0x40 ∷ l → ⊥
+  from-query t k m e = go (t .segments) (ap tl e)
+    where
+      quoted : (q : Quote) {r : List ℕ} → ownByte q ∷ r ≡ 0x3F ∷ 0x40 ∷ l → ⊥
+      quoted double e = unlike (eqb 0x22) refl refl e
+      quoted single e = unlike (eqb 0x27) refl refl e
+
+      sliced : (b : Bound) (r : List ℕ) → spellBound b (0x3A ∷ r) ≡ 0x3F ∷ 0x40 ∷ l → ⊥
+      sliced noBound r e = unlike (eqb 0x3A) refl refl e
+      sliced (bound i b) r e = unlike isNumberByte (int-number i _) refl e
+
+      selected : (x : G.Selector) (r : List ℕ) → endsBasic (first r) ≡ true → spellSelector x r ≡ 0x3F ∷ 0x40 ∷ l → ⊥
+      selected (nameSelector t) r a e = quoted (t .quote) e
+      selected wildcardSelector r a e = unlike (eqb 0x2A) refl refl e
+      selected (sliceSelector x) r a e = sliced (x .start) _ e
+      selected (indexSelector i) r a e = unlike isNumberByte (int-number i r) refl e
+      selected (filterSelector b (logicalOr (logicalAnd x u) v)) r a e =
+          let s = spellMoreAnd u (spellMoreOr v r) in
+          from-basic x s (λ xs b c o y. k xs b c o y s) (λ xs. m xs s (ands-start endsBasic refl u (spellMoreOr v r) (ors-start endsBasic refl v r a))) (unblanked b refl (ap tl e))
+
+      at : (x : G.Segment) (r : List ℕ) → spellSegment x r ≡ 0x5B ∷ 0x3F ∷ 0x40 ∷ l → ⊥
+      at (childBrackets (bracketed b x ys c)) r e = selected x (spellSelectors ys (spellBlanks c (0x5D ∷ r))) (selectors-start endsBasic refl ys (spellBlanks c (0x5D ∷ r)) (close-start endsBasic refl c r)) (unblanked b refl (ap tl e))
+      at childWild r e = unlike (eqb 0x2E) refl refl e
+      at (childName n) r e = unlike (eqb 0x2E) refl refl e
+      at (descendantBrackets x) r e = unlike (eqb 0x2E) refl refl e
+      at descendantWild r e = unlike (eqb 0x2E) refl refl e
+      at (descendantName n) r e = unlike (eqb 0x2E) refl refl e
+
+      go : (xs : G.Segments) → spellSegments xs [] ≡ 0x5B ∷ 0x3F ∷ 0x40 ∷ l → ⊥
+      go noSegment e = some-byte (sym e)
+      go (moreSegments b x xs) e = at x (spellSegments xs []) (unblanked b refl e)
+
+-- singular segments begin as segments do
+singulars-start : (p : ℕ → Bool) → p 0x5B ≡ true → p 0x2E ≡ true → (xs : G.SingularSegments) (r : List ℕ) → p (first r) ≡ true → p (first (spellSingularSegments xs r)) ≡ true
+singulars-start p a b noSingular r h = h
+singulars-start p a b (moreSingular c x xs) r h = rw (first-blanks c (spellSingularSegment x (spellSingularSegments xs r))) (go x)
+  where
+    go : (x : G.SingularSegment) → p (first (spellSingularSegment x (spellSingularSegments xs r))) ≡ true
+    go (nameSegment t) = a
+    go (dotSegment n) = b
+    go (indexSegment i) = a
+
+-- behind the first side of a comparison: a segment or an operator
+abbrev goesOn : ℕ → Bool
+goesOn c = isOperatorByte c || (eqb c 0x5B || eqb c 0x2E)
+
+compared-start : (xs : G.SingularSegments) (b : Blanks) (o : G.Operator) (s : List ℕ) → goesOn (first (spellSingularSegments xs (spellBlanks b (spellOperator o s)))) ≡ true
+compared-start xs b o s = singulars-start goesOn refl refl xs (spellBlanks b (spellOperator o s)) (rw (first-blanks b (spellOperator o s), operator-start o s) refl)
+
+-- A filter in which `@` is followed by a byte that begins neither a segment nor an operator, and closes nothing.
+no-word : (c : ℕ) (s : List ℕ) (t : G.Query) → isBlank c ≡ false → goesOn c ≡ false → endsSegment c ≡ false → spell t ≡ 0x24 ∷ 0x5B ∷ 0x3F ∷ 0x40 ∷ 0x20 ∷ c ∷ s → ⊥
+no-word c s t n g h e =
+    from-query (0x20 ∷ c ∷ s) t
+    (λ xs b d o y r f. apart (λ m. goesOn (first m)) (compared-start xs b o (spellBlanks d (spellComparable y r))) (rw n g) f)
+    (λ xs r a f. apart (λ m. endsSegment (first m)) (segments-start endsSegment refl refl xs r (rw a refl)) (rw n h) f)
+    e
+
+-- ---- `$[?@.*==1]`: what is compared is a literal, a singular query or a function
+
+no-wild-compared : (t : G.Query) → spell t ≡ 0x24 ∷ 0x5B ∷ 0x3F ∷ 0x40 ∷ 0x2E ∷ 0x2A ∷ 0x3D ∷ 0x3D ∷ 0x31 ∷ 0x5D ∷ [] → ⊥
+no-wild-compared t e = from-query (0x2E ∷ 0x2A ∷ 0x3D ∷ 0x3D ∷ 0x31 ∷ 0x5D ∷ []) t (λ xs b c o y r f. compared xs b o (spellBlanks c (spellComparable y r)) f) (λ xs r a f. tested xs r a f) e
+  where
+    singular : (x : G.SingularSegment) (r : List ℕ) → spellSingularSegment x r ≡ 0x2E ∷ 0x2A ∷ 0x3D ∷ 0x3D ∷ 0x31 ∷ 0x5D ∷ [] → ⊥
+    singular (nameSegment t) r e = unlike (eqb 0x5B) refl refl e
+    singular (dotSegment n) r e = name-start n r (0x2A ∷ 0x3D ∷ 0x3D ∷ 0x31 ∷ 0x5D ∷ []) (lit< tt) refl (ap tl e)
+    singular (indexSegment i) r e = unlike (eqb 0x5B) refl refl e
+
+    compared : (xs : G.SingularSegments) (b : Blanks) (o : G.Operator) (s : List ℕ) → spellSingularSegments xs (spellBlanks b (spellOperator o s)) ≡ 0x2E ∷ 0x2A ∷ 0x3D ∷ 0x3D ∷ 0x31 ∷ 0x5D ∷ [] → ⊥
+    compared noSingular b o s e = apart (λ m. isOperatorByte (first m)) (rw (first-blanks b (spellOperator o s)) (operator-start o s)) refl e
+    compared (moreSingular c x xs) b o s e = singular x (spellSingularSegments xs (spellBlanks b (spellOperator o s))) (unblanked c refl e)
+
+    behind : (xs : G.Segments) (r : List ℕ) → endsBasic (first r) ≡ true → spellSegments xs r ≡ 0x3D ∷ 0x3D ∷ 0x31 ∷ 0x5D ∷ [] → ⊥
+    behind xs r a e = apart (λ m. endsSegment (first m)) (segments-start endsSegment refl refl xs r (rw a refl)) refl e
+
+    at : (x : G.Segment) (xs : G.Segments) (r : List ℕ) → endsBasic (first r) ≡ true → spellSegment x (spellSegments xs r) ≡ 0x2E ∷ 0x2A ∷ 0x3D ∷ 0x3D ∷ 0x31 ∷ 0x5D ∷ [] → ⊥
+    at (childBrackets (bracketed b y ys c)) xs r a e = unlike (eqb 0x5B) refl refl e
+    at childWild xs r a e = behind xs r a (ap (λ m. tl (tl m)) e)
+    at (childName n) xs r a e = name-start n (spellSegments xs r) (0x2A ∷ 0x3D ∷ 0x3D ∷ 0x31 ∷ 0x5D ∷ []) (lit< tt) refl (ap tl e)
+    at (descendantBrackets x) xs r a e = unlike (eqb 0x2E) refl refl (ap tl e)
+    at descendantWild xs r a e = unlike (eqb 0x2E) refl refl (ap tl e)
+    at (descendantName n) xs r a e = unlike (eqb 0x2E) refl refl (ap tl e)
+
+    tested : (xs : G.Segments) (r : List ℕ) → endsBasic (first r) ≡ true → spellSegments xs r ≡ 0x2E ∷ 0x2A ∷ 0x3D ∷ 0x3D ∷ 0x31 ∷ 0x5D ∷ [] → ⊥
+    tested noSegment r a e = apart (λ m. endsBasic (first m)) a refl e
+    tested (moreSegments b x xs) r a e = at x xs r a (unblanked b refl e)
+
+-- ---- `$[?@==[1]]`: nothing that is compared begins with a bracket
+
+no-array : (t : G.Query) → spell t ≡ 0x24 ∷ 0x5B ∷ 0x3F ∷ 0x40 ∷ 0x3D ∷ 0x3D ∷ 0x5B ∷ 0x31 ∷ 0x5D ∷ 0x5D ∷ [] → ⊥
+no-array t e = from-query (0x3D ∷ 0x3D ∷ 0x5B ∷ 0x31 ∷ 0x5D ∷ 0x5D ∷ []) t (λ xs b c o y r f. compared xs b c o y r f) (λ xs r a f. tested xs r a f) e
+  where
+    side : (c : Blanks) (y : G.Comparable) (r : List ℕ) → spellBlanks c (spellComparable y r) ≡ 0x5B ∷ 0x31 ∷ 0x5D ∷ 0x5D ∷ [] → ⊥
+    side c y r e = unlike isComparableByte (comparable-start y r) refl (unblanked c refl e)
+
+    operated : (o : G.Operator) (c : Blanks) (y : G.Comparable) (r : List ℕ) → spellOperator o (spellBlanks c (spellComparable y r)) ≡ 0x3D ∷ 0x3D ∷ 0x5B ∷ 0x31 ∷ 0x5D ∷ 0x5D ∷ [] → ⊥
+    operated eqOperator c y r e = side c y r (ap (λ m. tl (tl m)) e)
+    operated neOperator c y r e = unlike (eqb 0x21) refl refl e
+    operated ltOperator c y r e = unlike (eqb 0x3C) refl refl e
+    operated leOperator c y r e = unlike (eqb 0x3C) refl refl e
+    operated gtOperator c y r e = unlike (eqb 0x3E) refl refl e
+    operated geOperator c y r e = unlike (eqb 0x3E) refl refl e
+
+    singular : (x : G.SingularSegment) (r : List ℕ) → isSegmentByte (hd (spellSingularSegment x r)) ≡ true
+    singular (nameSegment t) r = refl
+    singular (dotSegment n) r = refl
+    singular (indexSegment i) r = refl
+
+    compared : (xs : G.SingularSegments) (b c : Blanks) (o : G.Operator) (y : G.Comparable) (r : List ℕ) → spellSingularSegments xs (spellBlanks b (spellOperator o (spellBlanks c (spellComparable y r)))) ≡ 0x3D ∷ 0x3D ∷ 0x5B ∷ 0x31 ∷ 0x5D ∷ 0x5D ∷ [] → ⊥
+    compared noSingular b c o y r e = operated o c y r (unblanked b refl e)
+    compared (moreSingular d x xs) b c o y r e = unlike isSegmentByte (singular x (spellSingularSegments xs (spellBlanks b (spellOperator o (spellBlanks c (spellComparable y r)))))) refl (unblanked d refl e)
+
+    tested : (xs : G.Segments) (r : List ℕ) → endsBasic (first r) ≡ true → spellSegments xs r ≡ 0x3D ∷ 0x3D ∷ 0x5B ∷ 0x31 ∷ 0x5D ∷ 0x5D ∷ [] → ⊥
+    tested xs r a e = apart (λ m. endsSegment (first m)) (segments-start endsSegment refl refl xs r (rw a refl)) refl e
 
 -- ---- the rows
 
@@ -467,3 +548,16 @@ dotEnd = noTree refl no-dot-end
 pub wildCompared : Reads (bytes "$[?@.*==1]") (refused 4)
 unfolding computes
 wildCompared = noTree refl no-wild-compared
+
+-- "array literals, `contains`, `in` (all three refused 4)"
+pub arrayLiteral : Reads (bytes "$[?@==[1]]") (refused 4)
+unfolding computes
+arrayLiteral = noTree refl no-array
+
+pub containsWord : Reads (bytes "$[?@ contains 1]") (refused 4)
+unfolding computes
+containsWord = noTree refl (λ t e. no-word 0x63 (codes "ontains 1]") t refl refl refl e)
+
+pub inWord : Reads (bytes "$[?@ in $]") (refused 4)
+unfolding computes
+inWord = noTree refl (λ t e. no-word 0x69 (codes "n $]") t refl refl refl e)

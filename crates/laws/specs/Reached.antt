@@ -57,7 +57,8 @@ use Rattle.definition.specs.Walk.{Walked, Expression, Operand, fine, also, next
 use Rattle.definition.specs.Walk.Walked.{refused, walked}
 use Rattle.definition.specs.Walk.Expression.{nodes, valued, logical}
 use Rattle.definition.specs.Walk.Operand.{constant, expression}
-use Rattle.laws.specs.Written.{and-left as left, and-right as right, text-written, int-written, integer-written}
+use Rattle.tables.specs.Bools.{and-left as left, and-right as right}
+use Rattle.laws.specs.Written.{text-written, int-written, integer-written}
 
 -- ---- walks that report nothing
 

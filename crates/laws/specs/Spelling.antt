@@ -48,20 +48,12 @@ use Rattle.definition.specs.Grammar.Function.{function}
 use Rattle.definition.specs.Grammar.Arguments.{noArgument, arguments}
 use Rattle.definition.specs.Grammar.MoreArguments.{noMore, moreArguments}
 use Rattle.definition.specs.Grammar.Argument.{literalArgument, queryArgument, logicalArgument, functionArgument}
+use Rattle.tables.specs.Bools.{and-left, and-right}
 use Rattle.utf8.specs.Bytes.{inside-high}
 use Rattle.utf8.specs.Encode.{utf8-ascii, utf8-encode, utf8-encodeAll}
 use Rattle.utf8.specs.Names.{name-scalar, unescaped-scalar, first-char}
 
 -- ---- classes of ASCII bytes
-
-and-left : (a b : Bool) → (a && b) ≡ true → a ≡ true
-and-left true b e = refl
-and-left false b e = e
-
-and-right : (a b : Bool) → (a && b) ≡ true → b ≡ true
-and-right true b e = e
-and-right false true e = refl
-and-right false false e = e
 
 either : (a b : Bool) → (a || b) ≡ true → (a ≡ true) ⊎ (b ≡ true)
 either true b e = inl refl

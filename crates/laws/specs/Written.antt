@@ -20,18 +20,11 @@ use Rattle.definition.specs.Lexical.Char.{plain, escape}
 use Rattle.definition.specs.Lexical.Quote.{double}
 use Rattle.definition.specs.Literals.{Numeral, escapeValue, charBytes, charsBytes, textBytes, decimalFrom, decimal, naturalDigits, intValue, wholeDigits, isMinus, wholeNumeral, numeralOf, numeral}
 use Rattle.definition.specs.QueryForms.{insideI64}
+use Rattle.tables.specs.Bools.{and-left, and-right}
 use Rattle.utf8.specs.Decode.{decode}
 use Rattle.utf8.specs.Names.{unescaped-wide}
 
 -- ---- tests
-
-pub and-left : (a b : Bool) → (a && b) ≡ true → a ≡ true
-and-left true b h = refl
-and-left false b h = h
-
-pub and-right : (a b : Bool) → (a && b) ≡ true → b ≡ true
-and-right true b h = h
-and-right false b h = absurd (false≢true h)
 
 -- a test that holds of every number below n
 abbrev allBelow : ℕ → (ℕ → Bool) → Bool
