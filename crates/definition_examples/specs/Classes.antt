@@ -3,7 +3,7 @@ use Prim.Native.Nat.{ℕ, zero, suc}
 use Prim.Native.String.{String}
 use mathlib.Core.Path.{_≡_, refl}
 use mathlib.Core.List.{List, [], _∷_, map}
-use mathlib.Core.Bool.{Bool, true, false, cond, not, _&&_}
+use mathlib.Core.Bool.{Bool, true, cond, not, _&&_}
 use Rattle.definition.specs.Bytes.{every, sameBytes}
 use Rattle.definition.specs.Utf8.{isScalar, encode, isUtf8}
 use Rattle.definition.specs.Lexical.{isBlank, isDigit, isDigit1, isLcalpha, isAlpha, isNameFirst, isNameChar, isFunctionChar, isUnescaped, isHex, isE, isShort, isHigh, isLow, hexValue}

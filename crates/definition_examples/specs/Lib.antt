@@ -9,6 +9,7 @@ pub mod Numbers
 pub mod Cases
 pub mod Examples
 pub mod Refusals
+pub mod Starts
 pub mod NoTree
 pub mod Classes
 pub mod Rights

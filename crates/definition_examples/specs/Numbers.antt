@@ -1,5 +1,4 @@
 -- Number literals at the ends of what they stand for: integers, floats by their bits, and refusal 8.
-use Prim.Native.Nat.{ℕ}
 use mathlib.Core.Path.{_≡_, refl}
 use mathlib.Core.List.{List, [], _∷_}
 use mathlib.Core.Bool.{true}

@@ -1,8 +1,7 @@
 -- Refusals 1 to 3, which look at the bytes of a query alone, in their order, and the bracket count's rule for quoted text.
 -- For 4 to 8 see NoTree, Points and Numbers.
 use Prim.Native.Nat.{ℕ, suc}
-use Prim.Native.String.{String}
-use mathlib.Core.Path.{_≡_, refl, sym, subst, _∙_}
+use mathlib.Core.Path.{_≡_, refl, subst, _∙_}
 use mathlib.Core.List.{List, [], _∷_, _++_}
 use mathlib.Core.Bool.{Bool, true, _&&_}
 use native.Mathlib.Omega.{arith}

@@ -1,10 +1,10 @@
 -- Which forms are query forms: a wrong part is found wherever it stands, and the nesting of 128 is met exactly by every part that counts.
-use Prim.Native.Nat.{ℕ, zero, suc, _^_}
+use Prim.Native.Nat.{ℕ, zero, suc}
 use mathlib.Core.Path.{_≡_, refl}
-use mathlib.Core.List.{List, [], _∷_}
-use mathlib.Core.Bool.{Bool, true, false, not, _&&_}
+use mathlib.Core.List.{[], _∷_}
+use mathlib.Core.Bool.{Bool, true, not, _&&_}
 use mathlib.Core.Option.{none, some}
-use lib.IntN.{ℤ, pos, negsuc}
+use lib.IntN.{pos, negsuc}
 use Rattle.definition.specs.Forms as F
 use Rattle.definition.specs.Forms.Literal.{integer, float, text}
 use Rattle.definition.specs.Forms.Operator.{eq}

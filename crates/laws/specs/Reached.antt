@@ -1,7 +1,7 @@
 -- Every query form is the form of some tree of the grammar, as far as its floats can be written: so query forms are what the grammar and the typing
 -- rules allow, and nothing wider. The tree has parentheses around every operand, brackets around every selector, and no blank. Assumes nothing.
 use Prim.Native.Nat.{ℕ}
-use mathlib.Core.Path.{_≡_, refl, sym, ap, _∙_}
+use mathlib.Core.Path.{_≡_, refl, ap, _∙_}
 use mathlib.Core.List.{List, [], _∷_}
 use mathlib.Core.Bool.{Bool, true, false, _&&_, false≢true}
 use mathlib.Core.Option.{Option, none, some}
@@ -9,7 +9,7 @@ use lib.Dec.{leb}
 use lib.IntN.{ℤ}
 use Rattle.definition.specs.Limits.{maxNesting}
 use Rattle.definition.specs.Bytes.{sameBytes}
-use Rattle.definition.specs.Lexical.{Blanks, FunctionName, Int, Number, Bound, Step, Slice, functionBytes}
+use Rattle.definition.specs.Lexical.{Blanks, FunctionName, Int, Number, Bound, Step, Slice}
 use Rattle.definition.specs.Lexical.Bound.{noBound, bound}
 use Rattle.definition.specs.Lexical.Step.{noStep, step}
 use Rattle.definition.specs.Literals.{inRange, Numeral, numeral}
@@ -19,13 +19,13 @@ use Rattle.definition.specs.QueryForms.{literalRight, boundRight, queryRight, s
 use Rattle.definition.specs.Selecting.{judge}
 use Rattle.definition.specs.Selecting.Reading.{form}
 use Rattle.definition.specs.Grammar as G
-use Rattle.definition.specs.Grammar.SingularSegment.{nameSegment, dotSegment, indexSegment}
+use Rattle.definition.specs.Grammar.SingularSegment.{nameSegment, indexSegment}
 use Rattle.definition.specs.Grammar.SingularSegments.{noSingular, moreSingular}
 use Rattle.definition.specs.Grammar.Singular.{relSingular, absSingular}
 use Rattle.definition.specs.Grammar.Literal.{numberLiteral, textLiteral, trueLiteral, falseLiteral, nullLiteral}
 use Rattle.definition.specs.Grammar.Operator.{eqOperator, neOperator, ltOperator, leOperator, gtOperator, geOperator}
 use Rattle.definition.specs.Grammar.Segments.{noSegment, moreSegments}
-use Rattle.definition.specs.Grammar.Segment.{childBrackets, childWild, childName, descendantBrackets, descendantWild, descendantName}
+use Rattle.definition.specs.Grammar.Segment.{childBrackets, descendantBrackets}
 use Rattle.definition.specs.Grammar.Bracketed.{bracketed}
 use Rattle.definition.specs.Grammar.Selectors.{noSelector, moreSelectors}
 use Rattle.definition.specs.Grammar.Selector.{nameSelector, wildcardSelector, sliceSelector, indexSelector, filterSelector}
@@ -39,9 +39,9 @@ use Rattle.definition.specs.Grammar.Test.{queryTest, functionTest}
 use Rattle.definition.specs.Grammar.FilterQuery.{relQuery, absQuery}
 use Rattle.definition.specs.Grammar.Comparable.{literalComparable, singularComparable, functionComparable}
 use Rattle.definition.specs.Grammar.Function.{function}
-use Rattle.definition.specs.Grammar.Arguments.{noArgument, arguments}
-use Rattle.definition.specs.Grammar.MoreArguments.{noMore, moreArguments}
-use Rattle.definition.specs.Grammar.Argument.{literalArgument, queryArgument, logicalArgument, functionArgument}
+use Rattle.definition.specs.Grammar.Arguments.{arguments}
+use Rattle.definition.specs.Grammar.MoreArguments.{noMore}
+use Rattle.definition.specs.Grammar.Argument.{literalArgument, queryArgument, functionArgument}
 use Rattle.definition.specs.Forms as F
 use Rattle.definition.specs.Forms.{isSingular}
 use Rattle.definition.specs.Forms.Literal.{null, boolean, integer, float, text}

@@ -1,6 +1,6 @@
 -- What a tree of the grammar spells is UTF-8, and no query is empty: so a text that is refused 2 is in no tree's way.
 use mathlib.Core.Path.{_≡_, refl, ap, _∙_}
-use mathlib.Core.Bool.{Bool, true, false, _&&_, _||_}
+use mathlib.Core.Bool.{Bool, true, false, _||_}
 use mathlib.Core.Logic.{_⊎_, inl, inr, ⊎-elim}
 use mathlib.Core.List.{List, [], _∷_, _++_, append-assoc}
 use Prim.Native.Nat.{ℕ, _<_}
@@ -10,7 +10,7 @@ use lib.Dec.{eqb, lit<}
 use lib.ListN.{length}
 use Rattle.definition.specs.Bytes.{every, within}
 use Rattle.definition.specs.Utf8.{isUtf8, isUtf8From, encode, encodeAll, isScalar}
-use Rattle.definition.specs.Lexical.{Int, Whole, Fraction, Sign, Exponent, Escape, Char, Quote, Bound, Step}
+use Rattle.definition.specs.Lexical.{Quote}
 use Rattle.definition.specs.Lexical.{isBlank, isDigit, isLcalpha, isFunctionChar, isNameChar, isHex, isE, isShort, ownByte, otherByte}
 use Rattle.definition.specs.Lexical.{spellBlanks, spellName, spellFunctionName, spellNatural, spellDigits, spellInt, spellWhole, spellFraction, spellSign, spellExponent, spellNumber, spellHex4, spellEscape, spellChar, spellChars, spellText, spellBound, spellStep, spellSlice}
 use Rattle.definition.specs.Lexical.Int.{zeroInt, plainInt, minusInt}

@@ -1,9 +1,8 @@
 -- What stands in for a part that has no form is in no form: the walk of a query that has one meets no literal beyond the exact range, no call of
 -- match or search, and no chain straight in an argument, in which a value function could be an operand. Assumes nothing.
-use Prim.Native.Nat.{ℕ}
 use mathlib.Core.Path.{_≡_, refl, sym, ap, subst, _∙_}
 use mathlib.Core.List.{List, [], _∷_}
-use mathlib.Core.Bool.{Bool, true, false, cond, not, _&&_, _||_, true≢false, false≢true}
+use mathlib.Core.Bool.{Bool, true, false, not, _&&_, true≢false, false≢true}
 use Rattle.definition.specs.Lexical.{Blanks, functionBytes}
 use Rattle.definition.specs.Literals.{Numeral, numeral}
 use Rattle.definition.specs.Grammar as G
@@ -27,7 +26,6 @@ use Rattle.definition.specs.Grammar.Arguments.{noArgument, arguments}
 use Rattle.definition.specs.Grammar.MoreArguments.{noMore, moreArguments}
 use Rattle.definition.specs.Grammar.Argument.{literalArgument, queryArgument, logicalArgument, functionArgument}
 use Rattle.definition.specs.Forms as F
-use Rattle.definition.specs.Forms.{isSingular}
 use Rattle.definition.specs.Walk.{Walked, Expression, Operand, Named, fine, also, next, walkNumeral, walkLiteral, compared, asNodes, asValue, named, only, asRegex, call, walkSegments, walkSegment, walkBracketed, walkSelectors, walkSelector, walkOr, walkMoreOr, walkAnd, walkMoreAnd, walkBasic, walkParen, walkTest, walkFilterQuery, walkComparable, walkFunction, walkArguments, walkMoreArguments, walkArgument, walk}
 use Rattle.definition.specs.Walk.Walked.{refused, walked}
 use Rattle.definition.specs.Walk.Expression.{nodes, valued, logical}

@@ -3,14 +3,14 @@
 use Prim.Native.Nat.{ℕ, zero, suc, _+_, _-_, _*_, _/_, _%_, _^_, _≤_, _<_}
 use mathlib.Core.Path.{_≡_, refl, sym, ap, ap₂, subst, _∙_}
 use mathlib.Core.List.{List, [], _∷_, _++_}
-use mathlib.Core.Bool.{Bool, true, false, cond, not, _&&_, _||_, true≢false, false≢true}
+use mathlib.Core.Bool.{Bool, true, false, cond, not, _&&_, _||_, true≢false}
 use native.Mathlib.Omega.{arith}
 use borrow.Author.Tests.{ltb-true, ltb-false, le-leb, eqb-true, not-true}
-use lib.Dec.{eqb, leb, ltb, lit<}
+use lib.Dec.{eqb, ltb}
 use lib.IntN.{ℤ, pos, negsuc, negℤ}
 use Rattle.definition.specs.Bytes.{every, within}
 use Rattle.definition.specs.Utf8.{isScalar, encode, encodeAll, isUtf8}
-use Rattle.definition.specs.Lexical.{Natural, Int, Number, Hex4, Char, Text, isDigit, isDigit1, isUnescaped, isHex, isHigh, isLow, hexValue, hex4Value}
+use Rattle.definition.specs.Lexical.{Natural, Int, Number, Char, Text, isDigit, isUnescaped, isHex, isHigh, isLow, hexValue}
 use Rattle.definition.specs.Lexical.Int.{zeroInt, plainInt, minusInt}
 use Rattle.definition.specs.Lexical.Whole.{intWhole}
 use Rattle.definition.specs.Lexical.Fraction.{noFraction}

@@ -1,7 +1,7 @@
 -- Document 01's walk over a list of n ends within n + 1 places: the bound on its steps in Slices cuts nothing off. Assumes nothing.
 use Prim.Native.Nat.{ℕ, zero, suc, _+_, _≤_, zero-le}
 use mathlib.Core.Path.{_≡_, refl, ap}
-use mathlib.Core.List.{List, [], _∷_, _++_}
+use mathlib.Core.List.{List, [], _++_}
 use mathlib.Core.Bool.{Bool, true, false, cond}
 use mathlib.Core.Option.{Option}
 use native.Mathlib.Omega.{arith}
