@@ -152,11 +152,11 @@ fn tell(ran: Ran, count: &mut u64, node: &mut u64) -> u32
 
 // Run: the refusal, 0 for none; the number of nodes selected is set, and 0 with every refusal; the node of refusal 10 is set, and 0 otherwise.
 #[no_mangle]
-pub extern "C" fn stewpebble_run(
-    plan: &[u8],
-    pool: &[u8],
-    table: &[u8],
-    text: &[u8],
+pub extern "C" fn stewpebble_run<'a>(
+    plan: &'a [u8],
+    pool: &'a [u8],
+    table: &'a [u8],
+    text: &'a [u8],
     list: &mut [u32],
     start: usize,
     count: &mut u64,
@@ -171,10 +171,10 @@ pub extern "C" fn stewpebble_run(
 
 // Select: the refusal, 0 for none, with the same numbers as those of run.
 #[no_mangle]
-pub extern "C" fn stewpebble_select(
+pub extern "C" fn stewpebble_select<'a>(
     query: &[u8],
-    table: &[u8],
-    text: &[u8],
+    table: &'a [u8],
+    text: &'a [u8],
     list: &mut [u32],
     start: usize,
     count: &mut u64,

@@ -71,7 +71,7 @@ fn with_plan(line: &[u8], from: usize, call: Call) {
 }
 
 // Reads the pool behind a plan.
-fn with_pool(line: &[u8], from: usize, plan: &[u8], call: Call) {
+fn with_pool<'a>(line: &[u8], from: usize, plan: &'a [u8], call: Call) {
     let mut room = io::large_buffer();
     match words::bytes(line, from, &mut room) {
         ByteWord::Bytes(n, next) => {
@@ -87,7 +87,7 @@ fn with_pool(line: &[u8], from: usize, plan: &[u8], call: Call) {
 }
 
 // Reads the table, behind a query or behind a plan and a pool where the call has them.
-fn with_table(line: &[u8], from: usize, query: &[u8], pool: &[u8], call: Call) {
+fn with_table<'a>(line: &[u8], from: usize, query: &'a [u8], pool: &'a [u8], call: Call) {
     let mut room = [0u8; TABLE_ROOM];
     match words::bytes(line, from, &mut room) {
         ByteWord::Bytes(n, next) => with_text(
@@ -104,7 +104,14 @@ fn with_table(line: &[u8], from: usize, query: &[u8], pool: &[u8], call: Call) {
 }
 
 // Reads the text behind a table.
-fn with_text(line: &[u8], from: usize, query: &[u8], pool: &[u8], table: &[u8], call: Call) {
+fn with_text<'a>(
+    line: &[u8],
+    from: usize,
+    query: &'a [u8],
+    pool: &'a [u8],
+    table: &'a [u8],
+    call: Call,
+) {
     let mut room = io::large_buffer();
     match words::bytes(line, from, &mut room) {
         ByteWord::Bytes(n, next) => {
@@ -116,13 +123,13 @@ fn with_text(line: &[u8], from: usize, query: &[u8], pool: &[u8], table: &[u8], 
 }
 
 // Answers a call whose byte strings are read.
-fn finish(
+fn finish<'a>(
     line: &[u8],
     from: usize,
-    query: &[u8],
-    pool: &[u8],
-    table: &[u8],
-    text: &[u8],
+    query: &'a [u8],
+    pool: &'a [u8],
+    table: &'a [u8],
+    text: &'a [u8],
     call: Call,
 ) {
     match call {

@@ -11,13 +11,13 @@ const LIST_ROOM: usize = 65535;
 const NOT_SET: u32 = 0xffff_ffff;
 
 // Answers run and select, the length of whose list and whose start position begin at a place. The plan of run stands in for the query.
-pub fn answer(
+pub fn answer<'a>(
     line: &[u8],
     from: usize,
-    query: &[u8],
-    pool: &[u8],
-    table: &[u8],
-    text: &[u8],
+    query: &'a [u8],
+    pool: &'a [u8],
+    table: &'a [u8],
+    text: &'a [u8],
     select: bool,
 ) {
     let NumberWord::Is(length, next) = words::number(line, from) else {
@@ -40,14 +40,21 @@ pub fn answer(
     }
 }
 
-fn show_select(query: &[u8], table: &[u8], text: &[u8], list: &mut [u32], start: usize) {
+fn show_select<'a>(query: &[u8], table: &'a [u8], text: &'a [u8], list: &mut [u32], start: usize) {
     show(
         refusals::of_select(select::select(query, table, text, list, start)),
         list,
     );
 }
 
-fn show_run(plan: &[u8], pool: &[u8], table: &[u8], text: &[u8], list: &mut [u32], start: usize) {
+fn show_run<'a>(
+    plan: &'a [u8],
+    pool: &'a [u8],
+    table: &'a [u8],
+    text: &'a [u8],
+    list: &mut [u32],
+    start: usize,
+) {
     show(
         refusals::of_run(run::run(plan, pool, table, text, list, start)),
         list,

@@ -1,13 +1,7 @@
 // Runs a plan on a table of values: the numbers of the nodes that it selects, into a list of the caller's from a start position on.
-//
-//   walk       the walk depth first over plan items and child ranges; public for `measured`, which times it by itself
-//   answers    what is asked of a query in a filter's code
 ghost use Rattle.definition.specs.Outcomes.{Runs};
 ghost use Rattle.run.specs.Outcomes.{ran, Planned, RunsForm, AskPlacing, DonePlacing};
 use table::TableChecked;
-
-mod answers;
-pub mod walk;
 
 // What a run comes to.
 pub enum Ran {
@@ -26,11 +20,11 @@ pub enum Ran {
 }
 
 // The nodes that a plan selects of an accepted table, into the places from the start position on.
-fn place_nodes(
-    plan: &[u8],
-    pool: &[u8],
-    table: &[u8],
-    text: &[u8],
+fn place_nodes<'a>(
+    plan: &'a [u8],
+    pool: &'a [u8],
+    table: &'a [u8],
+    text: &'a [u8],
     list: &mut [u32],
     start: usize,
 ) -> Ran
@@ -41,7 +35,7 @@ fn place_nodes(
         return Ran::WrongStart;
     }
     let room = list.len() - start;
-    let n = walk::evaluate_segment(
+    let n = eval::evaluate(
         plan,
         pool,
         table,
@@ -61,11 +55,11 @@ fn place_nodes(
 }
 
 // Runs a plan that is the translation of a query form.
-pub fn run_form(
-    plan: &[u8],
-    pool: &[u8],
-    table: &[u8],
-    text: &[u8],
+pub fn run_form<'a>(
+    plan: &'a [u8],
+    pool: &'a [u8],
+    table: &'a [u8],
+    text: &'a [u8],
     list: &mut [u32],
     start: usize,
 ) -> Ran
@@ -80,11 +74,11 @@ pub fn run_form(
 }
 
 // Runs a plan.
-pub fn run(
-    plan: &[u8],
-    pool: &[u8],
-    table: &[u8],
-    text: &[u8],
+pub fn run<'a>(
+    plan: &'a [u8],
+    pool: &'a [u8],
+    table: &'a [u8],
+    text: &'a [u8],
     list: &mut [u32],
     start: usize,
 ) -> Ran

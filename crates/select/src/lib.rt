@@ -38,12 +38,12 @@ pub enum Selection {
 }
 
 // A query that no early refusal meets, read in the two rooms given.
-fn select_in(
+fn select_in<'a>(
     query: &[u8],
-    room: &mut [u8],
-    texts: &mut [u8],
-    table: &[u8],
-    text: &[u8],
+    room: &'a mut [u8],
+    texts: &'a mut [u8],
+    table: &'a [u8],
+    text: &'a [u8],
     list: &mut [u32],
     start: usize,
 ) -> Selection
@@ -66,7 +66,13 @@ fn select_in(
     }
 }
 
-fn select_tiny(query: &[u8], table: &[u8], text: &[u8], list: &mut [u32], start: usize) -> Selection
+fn select_tiny<'a>(
+    query: &[u8],
+    table: &'a [u8],
+    text: &'a [u8],
+    list: &mut [u32],
+    start: usize,
+) -> Selection
     requires { ⌜ (length (now query) ≤ 16) × (early (now query) ≡ 0) ⌝ }
     ensures { λ r. ⌜ SelectsOnly (now (query .entry)) (now (table .entry)) (now (text .entry)) (now (list .entry)) start (selected r (now (list .exit))) ⌝ }
 {
@@ -75,10 +81,10 @@ fn select_tiny(query: &[u8], table: &[u8], text: &[u8], list: &mut [u32], start:
     select_in(query, &mut room, &mut texts, table, text, list, start)
 }
 
-fn select_small(
+fn select_small<'a>(
     query: &[u8],
-    table: &[u8],
-    text: &[u8],
+    table: &'a [u8],
+    text: &'a [u8],
     list: &mut [u32],
     start: usize,
 ) -> Selection
@@ -90,10 +96,10 @@ fn select_small(
     select_in(query, &mut room, &mut texts, table, text, list, start)
 }
 
-fn select_brief(
+fn select_brief<'a>(
     query: &[u8],
-    table: &[u8],
-    text: &[u8],
+    table: &'a [u8],
+    text: &'a [u8],
     list: &mut [u32],
     start: usize,
 ) -> Selection
@@ -105,10 +111,10 @@ fn select_brief(
     select_in(query, &mut room, &mut texts, table, text, list, start)
 }
 
-fn select_short(
+fn select_short<'a>(
     query: &[u8],
-    table: &[u8],
-    text: &[u8],
+    table: &'a [u8],
+    text: &'a [u8],
     list: &mut [u32],
     start: usize,
 ) -> Selection
@@ -121,10 +127,10 @@ fn select_short(
 }
 
 // As compile::rooms::compile_long, it calls itself so that LLVM does not join it into its caller.
-fn select_long(
+fn select_long<'a>(
     query: &[u8],
-    table: &[u8],
-    text: &[u8],
+    table: &'a [u8],
+    text: &'a [u8],
     list: &mut [u32],
     start: usize,
     again: u8,
@@ -141,7 +147,13 @@ fn select_long(
 }
 
 // "Select: the same without 12, then 9, 10, 14, 13." There is one outcome for each input.
-pub fn select(query: &[u8], table: &[u8], text: &[u8], list: &mut [u32], start: usize) -> Selection
+pub fn select<'a>(
+    query: &[u8],
+    table: &'a [u8],
+    text: &'a [u8],
+    list: &mut [u32],
+    start: usize,
+) -> Selection
     ensures answers { λ r. ⌜ Selects (now (query .entry)) (now (table .entry)) (now (text .entry)) (now (list .entry)) start (selected r (now (list .exit))) ⌝ }
     ensures only { λ r. ⌜ ((o : RunOutcome) → Selects (now (query .entry)) (now (table .entry)) (now (text .entry)) (now (list .entry)) start o → o ≡ selected r (now (list .exit))) ⌝ }
 {

@@ -5,3 +5,5 @@ pub mod Heads
 pub mod Places
 pub mod Loops
 pub mod Turns
+pub mod Stands
+pub mod Spans

@@ -12,9 +12,8 @@ use Rattle.slices.specs.Walks.{Inside, walked}
 use Rattle.slices.specs.declared.Walk.{Walk}
 use Rattle.walks.specs.States.{State, st, emit}
 use Rattle.walks.specs.Emits.{go}
-use Rattle.walks.specs.Steps.{one-of}
 use Rattle.walks.specs.Items.{SegmentsAt}
-use Rattle.visits.specs.Visits.{Query, over, goes, Deep, numbersFrom}
+use Rattle.visits.specs.Visits.{Query, numbersFrom}
 
 -- the query f at pc from a node is the query g at q from node m
 pub record Along (P L S X : List ℕ) (node pc m q : ℕ) (f : Segments) (k : ℕ) : Type 0 where
@@ -44,24 +43,6 @@ pub record InWalked (cap : ℕ) (l₀ : List ℕ) (a₀ : ℕ) (w₀ : Walk) (l 
   pub room : a ≤ cap + 1
   pub inside : Inside maxNodes w
   pub again : emit (walked w) (st cap l a) ≡ emit (walked w₀) (st cap l₀ a₀)
-
--- the nodes of a range
-pub record InEach (P L S X : List ℕ) (i e rest cap : ℕ) (l₀ : List ℕ) (a₀ : ℕ) (l : List ℕ) (a j : ℕ) : Type 0 where
-  pub low : i ≤ j
-  pub same : length l ≡ length l₀
-  pub room : a ≤ cap + 1
-  pub again : (f : Segments) (k : ℕ) → SegmentsAt P L rest k f → (R : Json) → over f R one-of S X j e (st cap l a) ≡ over f R one-of S X i e (st cap l₀ a₀)
-
--- the places of a slice
-pub record InPlaces (P L S X : List ℕ) (rest cap : ℕ) (l₀ : List ℕ) (a₀ : ℕ) (w₀ : Walk) (l : List ℕ) (a : ℕ) (w : Walk) : Type 0 where
-  pub same : length l ≡ length l₀
-  pub room : a ≤ cap + 1
-  pub fewer : w .left ≤ w₀ .left
-  pub inside : Inside (nodeCount S) w
-  pub steady : w .step ≡ w₀ .step
-  pub way : w .down ≡ w₀ .down
-  pub deep : (h : ℕ) → Deep S h (walked w₀) → Deep S h (walked w)
-  pub again : (f : Segments) (k : ℕ) → SegmentsAt P L rest k f → (R : Json) → goes f R S X (walked w) (st cap l a) ≡ goes f R S X (walked w₀) (st cap l₀ a₀)
 
 -- nodes that are neither lists nor maps
 pub record InPassed (S : List ℕ) (i e j : ℕ) : Type 0 where

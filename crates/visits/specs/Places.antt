@@ -1,5 +1,5 @@
 -- The places of a slice as nodes: one after the other, and from a range of children to the table. Numbers from a place on. Assumes nothing.
-use Prim.Native.Nat.{ℕ, zero, suc, _+_, _*_, _-_, _≤_, _<_}
+use Prim.Native.Nat.{ℕ, zero, suc, _+_, _-_, _≤_, _<_}
 use mathlib.Core.Path.{_≡_, refl, sym, ap, _∙_, subst}
 use mathlib.Core.List.{List, [], _∷_, head-eq-of-cons-eq, tail-eq-of-cons-eq}
 use mathlib.Core.Bool.{Bool as Bits, true, false}
@@ -10,7 +10,7 @@ use Rattle.definition.specs.Limits.{maxNodes}
 use Rattle.definition.specs.Values.{Json}
 use Rattle.definition.specs.Forms.{Segments}
 use Rattle.definition.specs.Forms.Segments.{end}
-use Rattle.definition.specs.Tables.{nodeCount, nodeAt, depthAt, kindAt, kindList}
+use Rattle.definition.specs.Tables.{nodeCount, nodeAt, kindAt, kindList}
 use Rattle.tables.specs.Accepted.{Accepted}
 use Rattle.slices.specs.Walks.{moved, placesFrom, walked, Within, Inside, Next}
 use Rattle.slices.specs.Laws.{within-at, within-next, step-down, step-up, inside-at}
@@ -20,7 +20,7 @@ use Rattle.walks.specs.Emits.{go}
 use Rattle.walks.specs.Steps.{segment-end}
 use Rattle.walks.specs.Ranges.{picked, picked-step, picked-end}
 use Rattle.visits.specs.Loops.{InPassed}
-use Rattle.visits.specs.Visits.{numbersFrom, goes, Deep, Further, AskPlaced, DonePlaced}
+use Rattle.visits.specs.Visits.{numbersFrom, goes, Further, AskPlaced, DonePlaced}
 
 -- ---- numbers
 
@@ -111,10 +111,6 @@ module _ (f : Segments) (R : Json) (S X : List ℕ) (tab : Accepted S X) (e : f 
   unfolding walked
   goes-places w s i = emit-by (w .down) (w .step) (w .left) (w .at) s (i .within)
 
-pub deep-step : (S : List ℕ) (h : ℕ) (w w′ : Walk) → Next w w′ → Deep S h (walked w) → Deep S h (walked w′)
-unfolding Deep
-deep-step S h w w′ n d = subst (Deep S h) (n .places) d .1
-
 -- ---- the places of a range as nodes
 
 lower : (first at step : ℕ) → step ≤ at → moved true step (first + at) ≡ first + moved true step at
@@ -142,11 +138,6 @@ module _ (first c : ℕ) (down : Bits) (step : ℕ) where
       ∙ picks-by S X f R l (moved down step at) s′ (within-next c down step at l w)
       ∙ picked-step S X f R first c at (placesFrom down step (moved down step at) l) s s′ (picked S X f R first c (placesFrom down step at (suc l)) s) (within-at c down step at l w) refl refl
 
-  deep-by : (S : List ℕ) (h : ℕ) → ((k : ℕ) → k < c → h ≤ 3 * depthAt S (first + k)) → (l at : ℕ) → Within c down step at l → Deep S h (placesFrom down step (first + at) l)
-  unfolding Deep placesFrom
-  deep-by S h d zero at w = tt
-  deep-by S h d (suc l) at w = (d at (within-at c down step at l w), subst (Deep S h) (sym (shift first c down step at l w)) (deep-by S h d l (moved down step at) (within-next c down step at l w)))
-
 module _ {S : List ℕ} {first : ℕ} (w : Walk) (a : AskPlaced S first w) where
   placed-by : (r : Walk) → walked r ≡ placesFrom (w .down) (w .step) (first + w .at) (w .left) → r .left ≡ w .left → r .down ≡ w .down → r .step ≤ maxNodes → r .at ≤ maxNodes
       → ((c : ℕ) → Inside c w → (0 < c → first + c ≤ nodeCount S) → Inside (nodeCount S) r) → DonePlaced S first w r
@@ -159,7 +150,6 @@ module _ {S : List ℕ} {first : ℕ} (w : Walk) (a : AskPlaced S first w) where
         here = u;
         inside = i;
         picks = λ c h X f R s. ap (λ (ks : List ℕ). goes f R S X ks s) e ∙ picks-by first c (w .down) (w .step) S X f R (w .left) (w .at) s (h .within);
-        deep = λ c h k d. subst (Deep S k) (sym e) (deep-by first c (w .down) (w .step) S k d (w .left) (w .at) (h .within));
       }
 
   pub place-bound : 0 < w .left → first + w .at < nodeCount S

@@ -1,6 +1,6 @@
 -- What the functions ask and give that visit nodes with a query. Each answer holds for every form whose code stands there. P is the plan, L the pool, S the
 -- table, X the text. Assumes nothing: these are definitions.
-use Prim.Native.Nat.{ℕ, zero, suc, _+_, _*_, _-_, _≤_, _<_}
+use Prim.Native.Nat.{ℕ, zero, suc, _+_, _-_, _≤_, _<_}
 use mathlib.Core.Path.{_≡_}
 use mathlib.Core.List.{List, [], _∷_}
 use mathlib.Core.Bool.{true, false}
@@ -16,13 +16,11 @@ use Rattle.slices.specs.Walks.{Inside, walked, Next}
 use Rattle.slices.specs.declared.Walk.{Walk}
 use Rattle.walks.specs.States.{State, st}
 use Rattle.walks.specs.Emits.{go}
-use Rattle.walks.specs.Steps.{span, one-of}
+use Rattle.walks.specs.Steps.{span}
 use Rattle.walks.specs.Ranges.{picked}
 use Rattle.walks.specs.Items.{SegmentsAt}
 use Rattle.visits.specs.declared.Reached.{Reached}
 use Rattle.visits.specs.declared.Visited.{Visited}
-use Rattle.visits.specs.declared.Stop.{Stop}
-use Rattle.visits.specs.declared.Halt.{Halt}
 
 -- a cap is below 2^62, so that one more than it is a number of the machine
 abbrev pub capLimit : ℕ
@@ -132,54 +130,12 @@ pub record DoneVisit (P L S X : List ℕ) (node rest cap : ℕ) (l : List ℕ) (
 abbrev pub over : Segments → Json → (Json → List Json) → List ℕ → List ℕ → ℕ → ℕ → State → State
 over f R h S X i e s = span f R h S X (0 + i) (e - i) s
 
-pub record AskEach (P L S X : List ℕ) (i e rest len at cap : ℕ) : Type 0 where
-  pub given : Given P L S X
-  pub range : i < e → e ≤ nodeCount S
-  pub query : Query P L rest
-  pub room : at ≤ cap + 1
-  pub wide : len ≤ cap + 1
-  pub small : cap < capLimit
-
--- Nothing is left; or all before child r .i are done, and that child needs more.
-pub record DoneEach (P L S X : List ℕ) (i e rest cap : ℕ) (l : List ℕ) (at : ℕ) (l′ : List ℕ) (r : Stop) : Type 0 where
-  pub room : r .at ≤ cap + 1
-  pub ended : r .more ≡ false → (f : Segments) (k : ℕ) → SegmentsAt P L rest k f → (R : Json) → st cap l′ (r .at) ≡ over f R one-of S X i e (st cap l at)
-  pub low : r .more ≡ true → i ≤ r .i
-  pub high : r .more ≡ true → r .i < e
-  pub again : r .more ≡ true → (f : Segments) (k : ℕ) → SegmentsAt P L rest k f → (R : Json) → over f R one-of S X (r .i) e (st cap l′ (r .at)) ≡ over f R one-of S X i e (st cap l at)
-  pub paused : r .more ≡ true → Paused P L S X (r .i) rest (r .node) (r .pc)
-
 -- ---- the places of a slice
 
 -- what is emitted for some nodes in turn
 unfoldable pub goes : Segments → Json → List ℕ → List ℕ → List ℕ → State → State
 goes f R S X [] s = s
 goes f R S X (n ∷ ns) s = goes f R S X ns (go f R (nodeAt S X n ∷ []) s)
-
-pub record AskPlaces (P L S X : List ℕ) (w : Walk) (rest len at cap : ℕ) : Type 0 where
-  pub given : Given P L S X
-  pub inside : Inside (nodeCount S) w
-  pub query : Query P L rest
-  pub room : at ≤ cap + 1
-  pub wide : len ≤ cap + 1
-  pub small : cap < capLimit
-
--- each of some nodes is so deep in the table that the stack has room there
-unfoldable pub Deep : List ℕ → ℕ → List ℕ → Type 0
-Deep S h [] = Unit {0}
-Deep S h (n ∷ ns) = (h ≤ 3 * depthAt S n) × Deep S h ns
-
-pub record DonePlaces (P L S X : List ℕ) (w : Walk) (rest cap : ℕ) (l : List ℕ) (at : ℕ) (l′ : List ℕ) (r : Halt) : Type 0 where
-  pub room : r .at ≤ cap + 1
-  pub ended : r .more ≡ false → (f : Segments) (k : ℕ) → SegmentsAt P L rest k f → (R : Json) → st cap l′ (r .at) ≡ goes f R S X (walked w) (st cap l at)
-  pub some : r .more ≡ true → 0 < r .walk .left
-  pub fewer : r .more ≡ true → r .walk .left ≤ w .left
-  pub inside : r .more ≡ true → Inside (nodeCount S) (r .walk)
-  pub steady : r .more ≡ true → r .walk .step ≡ w .step
-  pub way : r .more ≡ true → r .walk .down ≡ w .down
-  pub deep : r .more ≡ true → (h : ℕ) → Deep S h (walked w) → Deep S h (walked (r .walk))
-  pub again : r .more ≡ true → (f : Segments) (k : ℕ) → SegmentsAt P L rest k f → (R : Json) → goes f R S X (walked (r .walk)) (st cap l′ (r .at)) ≡ goes f R S X (walked w) (st cap l at)
-  pub paused : r .more ≡ true → Paused P L S X (r .walk .at) rest (r .node) (r .pc)
 
 -- r is the walk w without its first place, with the same step in the same direction
 pub record Further (w r : Walk) : Type 0 where
@@ -202,7 +158,6 @@ pub record DonePlaced (S : List ℕ) (first : ℕ) (w r : Walk) : Type 0 where
   pub here : r .at ≤ maxNodes
   pub inside : (c : ℕ) → Inside c w → (0 < c → first + c ≤ nodeCount S) → Inside (nodeCount S) r
   pub picks : (c : ℕ) → Inside c w → (X : List ℕ) (f : Segments) (R : Json) (s : State) → goes f R S X (walked r) s ≡ picked S X f R first c (walked w) s
-  pub deep : (c : ℕ) → Inside c w → (h : ℕ) → ((k : ℕ) → k < c → h ≤ 3 * depthAt S (first + k)) → Deep S h (walked r)
 
 -- ---- children without children
 

@@ -1,5 +1,5 @@
-// The parts of a walk that need neither a filter nor a list of what is left to do: a node's number into a list; the segments of one name or index at the
-// front of a query; one node, the children of a range, or the places of a slice, each with a query, up to the first that needs more.
+// The parts of evaluation that need no call of it: a node's number into a list; the segments of one name or index at the front of a query; one node with a query, up
+// to what needs more; the places of a slice as nodes; the next list or map of a range.
 use equal::members::Member;
 use slices::Walk;
 use steps::leaves;
@@ -11,7 +11,7 @@ ghost use lib.ListN.{length};
 ghost use Rattle.definition.specs.Limits.{maxNodes};
 ghost use Rattle.slices.specs.Walks.{Inside, walked};
 ghost use Rattle.walks.specs.States.{st, push as pushed, emit};
-ghost use Rattle.visits.specs.Visits.{AskPush, AskReach, DoneReach, AskVisit, DoneVisit, AskEach, DoneEach, AskPlaces, DonePlaces, AskPlaced, DonePlaced, AskNumbers, numbersFrom, AskWalked, AskContainer, DoneContainer, Further};
+ghost use Rattle.visits.specs.Visits.{AskPush, AskReach, DoneReach, AskVisit, DoneVisit, AskPlaced, DonePlaced, AskNumbers, numbersFrom, AskWalked, AskContainer, DoneContainer, Further};
 
 // The first four bytes of a child segment of one selector, as a number: the segment's kind, the number of its selectors, and the selector's kind.
 const NAME_HEAD: usize = 0x05000103;
@@ -40,15 +40,6 @@ pub struct Visited {
 // The children of a range with a query: the next place of the list and, where child i needs more, the node and the place in the plan where it goes on.
 pub struct Stop {
     pub i: usize,
-    pub at: usize,
-    pub node: usize,
-    pub pc: usize,
-    pub more: bool,
-}
-
-// The same of the places of a slice, which are nodes: the first of `walk` needs more.
-pub struct Halt {
-    pub walk: Walk,
     pub at: usize,
     pub node: usize,
     pub pc: usize,
@@ -225,56 +216,6 @@ pub fn visit(
     }
 }
 
-// The nodes from i up to e with the query at rest, up to the first that needs more.
-pub fn each_child(
-    plan: &[u8],
-    pool: &[u8],
-    table: &[u8],
-    text: &[u8],
-    i: usize,
-    e: usize,
-    rest: usize,
-    list: &mut [u32],
-    at: usize,
-    cap: usize,
-) -> Stop
-    requires { ⌜ AskEach (now plan) (now pool) (now table) (now text) i e rest (length (now list)) at cap ⌝ }
-    ensures { λ r. ⌜ DoneEach (now (plan .entry)) (now (pool .entry)) (now (table .entry)) (now (text .entry)) i e rest cap (now (list .entry)) at (now (list .exit)) r ⌝ }
-{
-    let mut a = at;
-    let mut j = i;
-    while j < e {
-        if cap < a {
-            return Stop {
-                i: j,
-                at: a,
-                node: j,
-                pc: rest,
-                more: false,
-            };
-        }
-        let v = visit(plan, pool, table, text, j, rest, list, a, cap);
-        a = v.at;
-        if v.more {
-            return Stop {
-                i: j,
-                at: a,
-                node: v.node,
-                pc: v.pc,
-                more: true,
-            };
-        }
-        j += 1;
-    }
-    Stop {
-        i: e,
-        at: a,
-        node: e,
-        pc: rest,
-        more: false,
-    }
-}
-
 // A walk without its first place, with the same step in the same direction. Where none is left it stands at 0, so that the place is always small.
 pub fn further(w: Walk) -> Walk
     requires { ⌜ (0 < w .left) × Inside maxNodes w ⌝ }
@@ -312,83 +253,6 @@ pub fn push_places(list: &mut [u32], walk: Walk, at: usize, cap: usize) -> usize
         w = further(w);
     }
     a
-}
-
-// The nodes that are the places of a walk, with the query at rest, up to the first that needs more.
-fn visit_places(
-    plan: &[u8],
-    pool: &[u8],
-    table: &[u8],
-    text: &[u8],
-    walk: Walk,
-    rest: usize,
-    list: &mut [u32],
-    at: usize,
-    cap: usize,
-) -> Halt
-    requires { ⌜ AskPlaces (now plan) (now pool) (now table) (now text) walk rest (length (now list)) at cap ⌝ }
-    ensures { λ r. ⌜ DonePlaces (now (plan .entry)) (now (pool .entry)) (now (table .entry)) (now (text .entry)) walk rest cap (now (list .entry)) at (now (list .exit)) r ⌝ }
-{
-    let mut a = at;
-    let mut w = walk;
-    while 0 < w.left {
-        if cap < a {
-            return Halt {
-                walk: w,
-                at: a,
-                node: 0,
-                pc: rest,
-                more: false,
-            };
-        }
-        let v = visit(plan, pool, table, text, w.at, rest, list, a, cap);
-        a = v.at;
-        if v.more {
-            return Halt {
-                walk: w,
-                at: a,
-                node: v.node,
-                pc: v.pc,
-                more: true,
-            };
-        }
-        w = further(w);
-    }
-    Halt {
-        walk: w,
-        at: a,
-        node: 0,
-        pc: rest,
-        more: false,
-    }
-}
-
-// The nodes that are the places of a walk, with the query at rest, up to the first that needs more: at the end of a query none does.
-pub fn each_place(
-    plan: &[u8],
-    pool: &[u8],
-    table: &[u8],
-    text: &[u8],
-    walk: Walk,
-    rest: usize,
-    list: &mut [u32],
-    at: usize,
-    cap: usize,
-) -> Halt
-    requires { ⌜ AskPlaces (now plan) (now pool) (now table) (now text) walk rest (length (now list)) at cap ⌝ }
-    ensures { λ r. ⌜ DonePlaces (now (plan .entry)) (now (pool .entry)) (now (table .entry)) (now (text .entry)) walk rest cap (now (list .entry)) at (now (list .exit)) r ⌝ }
-{
-    if plan[rest] == END {
-        let b = push_places(list, walk, at, cap);
-        return Halt {
-            walk,
-            at: b,
-            node: 0,
-            pc: rest,
-            more: false,
-        };
-    }
-    visit_places(plan, pool, table, text, walk, rest, list, at, cap)
 }
 
 // The places of a walk in a range of children, as nodes. The step of a single place says nothing and is left out, so that every number is small.

@@ -14,20 +14,20 @@ returns c = places-beyond _ _ _ _ _ _ (c .if1 .taken)
 sub-room : tie.Need-sub-room
 sub-room c = search needs
 
-mul-evaluate-segment : tie.Need-mul-evaluate-segment
-mul-evaluate-segment c = search needs
+mul-evaluate : tie.Need-mul-evaluate
+mul-evaluate c = search needs
 
-sub-evaluate-segment : tie.Need-sub-evaluate-segment
-sub-evaluate-segment c = search needs
+sub-evaluate : tie.Need-sub-evaluate
+sub-evaluate c = search needs
 
-part-evaluate-segment-start : tie.Need-part-evaluate-segment-start
-part-evaluate-segment-start c = search needs
+part-evaluate-start : tie.Need-part-evaluate-start
+part-evaluate-start c = search needs
 
-part-evaluate-segment-end : tie.Need-part-evaluate-segment-end
-part-evaluate-segment-end c = search needs
+part-evaluate-end : tie.Need-part-evaluate-end
+part-evaluate-end c = search needs
 
-evaluate-segment-requires : tie.Need-evaluate-segment-requires
-evaluate-segment-requires c κs =
+evaluate-requires : tie.Need-evaluate-requires
+evaluate-requires c κs =
     let a = c .before .before .before .before .before .before .before in
     let t = a .pre .planned .translates in
     let tab = accepted-gives _ _ (a .pre .table) in
@@ -41,13 +41,13 @@ same-length : tie.Need-same-length
 same-length c = search needs
 
 returns-2 : tie.Need-returns-2
-returns-2 c = places-selected _ _ _ _ _ _ (c .before .before .before .before .before .if1 .left) _ _ (c .before .before .before .evaluate-segment .ensures) (c .if2 .taken)
+returns-2 c = places-selected _ _ _ _ _ _ (c .before .before .before .before .before .if1 .left) _ _ (c .before .before .before .evaluate .ensures) (c .if2 .taken)
 
 same-length-2 : tie.Need-same-length-2
 same-length-2 c = search needs
 
 returns-3 : tie.Need-returns-3
-returns-3 c = places-full _ _ _ _ _ _ (c .before .before .before .before .before .if1 .left) _ _ (c .before .before .before .evaluate-segment .ensures) (c .if2 .left)
+returns-3 c = places-full _ _ _ _ _ _ (c .before .before .before .before .before .if1 .left) _ _ (c .before .before .before .evaluate .ensures) (c .if2 .left)
 
 pub place-nodes-spec : {M : Type 1} → statement M
 place-nodes-spec =
@@ -55,11 +55,11 @@ place-nodes-spec =
     (tie.spec
     returns
     sub-room
-    mul-evaluate-segment
-    sub-evaluate-segment
-    part-evaluate-segment-start
-    part-evaluate-segment-end
-    evaluate-segment-requires
+    mul-evaluate
+    sub-evaluate
+    part-evaluate-start
+    part-evaluate-end
+    evaluate-requires
     same-length
     returns-2
     same-length-2

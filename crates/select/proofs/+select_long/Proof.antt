@@ -14,15 +14,15 @@ use Rattle.select.proofs.+select_long.Lts-select_long as lts
 use Rattle.select.proofs.+select_long.{statement}
 use Rattle.select.proofs.+select_long.Tie.{close}
 
-abbrev μ : Measures 4 kinds.ps ℕ
+abbrev μ : Measures 3 kinds.ps ℕ
 μ κs a = a .1 .1 .1 .1 .1 .0
 
 -- what it is given at the measure t, and what a call of itself asks below t
-abbrev at : ℕ → In 4 kinds.ps
-at t = and 4 kinds.ps (is 4 kinds.ps μ t) select-long.Pre
+abbrev at : ℕ → In 3 kinds.ps
+at t = and 3 kinds.ps (is 3 kinds.ps μ t) select-long.Pre
 
-abbrev below : ℕ → In 4 kinds.ps
-below t = and 4 kinds.ps (falls 4 kinds.ps _<_ μ t) select-long.Pre
+abbrev below : ℕ → In 3 kinds.ps
+below t = and 3 kinds.ps (falls 3 kinds.ps _<_ μ t) select-long.Pre
 
 abbrev calls : ℕ → lts.Claims
 calls t = (below t, select-long.Post, select-in-reads.Asked, select-in-reads.Learnt)

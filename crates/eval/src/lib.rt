@@ -1,0 +1,577 @@
+// Evaluation: what the segments of a plan select of a table, depth first over plan items and child ranges, with no list between segments. A level of the table is a
+// call, and a query in a filter's code is a call of the same evaluation. It stops as soon as it has passed its cap. A selection has as many places as its cap; a query
+// in a filter has one place, for its first node.
+//
+// What is lent, the numbers of the evaluation and the list stand behind one reference each, so that a call hands on few words and one that comes last takes the place
+// of its caller's frame.
+//
+//   answers    what is asked of a query in a filter's code
+ghost use Prim.Native.Nat.{_<_};
+ghost use lib.ListN.{length};
+ghost use Rattle.definition.specs.Tables.{nodeCount};
+ghost use Rattle.filters.specs.Queries.{Within};
+ghost use Rattle.filters.specs.Kept.{AskTest, DoneTest};
+ghost use Rattle.filters.specs.Tests.{AskRest, DoneRest};
+ghost use Rattle.eval.specs.Lent.{planOf, poolOf, tableOf, textOf};
+ghost use Rattle.eval.specs.Asks.{Begins, AskSegments, DoneSegments, Asked, Steady, AskSegment, DoneSegment, AskEnter, Entered, AskSelectors, DoneSelectors, AskDescent, DoneDescent, AskSelector, DoneSelector, AskKind, AskEach, DoneEach, AskFlats, DoneFlats, DoneKeep, AskNext, DoneNext, AskQuery, DoneQuery};
+use equal::Operand;
+use equal::members::Member;
+use filters::kept;
+use shortcuts::flats;
+use shortcuts::straight;
+use steps::Regs;
+use steps::leaves;
+use steps::plans;
+use table::records;
+use text::bytes;
+
+mod answers;
+
+const CURRENT: u8 = 0x02;
+
+const CHILD: u8 = 0x03;
+
+const INDEX: u8 = 0x06;
+
+const SLICE: u8 = 0x07;
+
+const WILDCARD: u8 = 0x08;
+
+const END: u8 = 0x0A;
+
+const LENGTH: u8 = 0x1A;
+
+// The first four bytes of a child segment of one selector, as a number: the segment's kind, the number of its selectors, and the selector's kind.
+const SLICE_HEAD: usize = 0x07000103;
+
+const WILDCARD_HEAD: usize = 0x08000103;
+
+const FILTER_HEAD: usize = 0x09000103;
+
+// The places of what is lent.
+const PLAN: usize = 0;
+
+const POOL: usize = 1;
+
+const TABLE: usize = 2;
+
+const TEXT: usize = 3;
+
+// The places of the evaluation's numbers: the node that `$` stands for, how many nodes are counted, and the next place of the list.
+const ROOT: usize = 0;
+
+const CAP: usize = 1;
+
+const AT: usize = 2;
+
+// From one node, what the segments at pc select: the next place of the list. Where names and indices lead to the end of the query, or to a slice at its end, no
+// further call is needed.
+pub fn evaluate<'a>(
+    plan: &'a [u8],
+    pool: &'a [u8],
+    table: &'a [u8],
+    text: &'a [u8],
+    root: usize,
+    node: usize,
+    pc: usize,
+    list: &mut [u32],
+    at: usize,
+    cap: usize,
+) -> usize
+    requires { ⌜ Begins (now plan) (now pool) (now table) (now text) root node (length (now list)) at cap ⌝ }
+    requires { ⌜ AskSegments (now plan) (now pool) pc ⌝ }
+    ensures { λ r. ⌜ DoneSegments cap (now (plan .entry)) (now (pool .entry)) (now (table .entry)) (now (text .entry)) root node pc (now (list .entry)) at (now (list .exit)) r ⌝ }
+{
+    let r = visits::front(plan, pool, table, text, node, pc);
+    if !r.some {
+        return at;
+    }
+    let m = r.node;
+    let q = r.pc;
+    if plan[q] == END {
+        return visits::push(list, at, m, cap);
+    }
+    if straight::is_last_slice(plan, q) {
+        return straight::push_slice(plan, pool, table, text, m, q, list, at, cap);
+    }
+    let lent = [plan, pool, table, text];
+    let mut state = [root, cap, at];
+    enter(&lent, &mut state, list, m, q);
+    state[AT]
+}
+
+// The entrance: the list becomes one word.
+fn enter(lent: &[&[u8]; 4], state: &mut [usize; 3], list: &mut [u32], node: usize, pc: usize)
+    requires { ⌜ AskEnter (now lent) node pc (now state) (now list) ⌝ }
+    ensures { λ r. ⌜ Entered (now (lent .entry)) node pc (now (state .entry)) (list .entry) (now (state .exit)) (list .exit) ⌝ }
+{
+    let mut places = list;
+    first(lent, state, &mut places, node, pc);
+}
+
+// The same with the list as one word. A child segment of one filter, slice or wildcard is applied at once.
+fn first(lent: &[&[u8]; 4], state: &mut [usize; 3], list: &mut &mut [u32], node: usize, pc: usize)
+    requires { ⌜ AskEnter (now lent) node pc (now state) (now (now list)) ⌝ }
+    ensures { λ r. ⌜ Entered (now (lent .entry)) node pc (now (state .entry)) (now (list .entry)) (now (state .exit)) (now (list .exit)) ⌝ }
+{
+    let plan = lent[PLAN];
+    if plan[pc] != CHILD {
+        evaluate_segment(lent, state, list, node, pc);
+        return;
+    }
+    let head = bytes::word32(plan, pc);
+    let p = pc + 3;
+    if head == FILTER_HEAD {
+        let rest = p + 3 + bytes::word16(plan, p + 1);
+        if !keep_children(lent, state, list, node, p, rest) {
+            eval_filter(lent, state, list, node, p, rest);
+        }
+        return;
+    }
+    if head == SLICE_HEAD {
+        each_place(lent, state, list, node, p, pc + 29);
+        return;
+    }
+    if head == WILDCARD_HEAD {
+        let table = lent[TABLE];
+        let i = records::first_child(table, node) as usize;
+        let n = records::child_count(table, node) as usize;
+        each_child(lent, state, list, i, i + n, pc + 4);
+        return;
+    }
+    evaluate_segment(lent, state, list, node, pc);
+}
+
+// One node with the segments at pc.
+fn evaluate_segment(
+    lent: &[&[u8]; 4],
+    state: &mut [usize; 3],
+    list: &mut &mut [u32],
+    node: usize,
+    pc: usize,
+)
+    requires { ⌜ Asked (now lent) (now state) (now (now list)) ⌝ }
+    requires { ⌜ AskSegment (now lent) node pc ⌝ }
+    ensures { λ r. ⌜ Steady (now (state .entry)) (now (list .entry)) (now (state .exit)) (now (list .exit)) ⌝ }
+    ensures { λ r. ⌜ DoneSegment (now (lent .entry)) node pc (now (state .entry)) (now (now (list .entry))) (now (state .exit)) (now (now (list .exit))) ⌝ }
+{
+    let plan = lent[PLAN];
+    let r = visits::reach(plan, lent[POOL], lent[TABLE], lent[TEXT], node, pc);
+    if !r.some {
+        return;
+    }
+    let m = r.node;
+    let q = r.pc;
+    let k = plan[q];
+    if k == END {
+        let at = state[AT];
+        let next = visits::push(*list, at, m, state[CAP]);
+        state[AT] = next;
+        return;
+    }
+    if k == CHILD {
+        apply_selectors(lent, state, list, m, q);
+        return;
+    }
+    recursive_descent(lent, state, list, m, q);
+}
+
+// The descendant segment at pc on a node: "the node, then each child's descent, in table order".
+fn recursive_descent(
+    lent: &[&[u8]; 4],
+    state: &mut [usize; 3],
+    list: &mut &mut [u32],
+    node: usize,
+    pc: usize,
+)
+    requires { ⌜ Asked (now lent) (now state) (now (now list)) ⌝ }
+    requires { ⌜ AskDescent (now lent) node pc ⌝ }
+    ensures { λ r. ⌜ Steady (now (state .entry)) (now (list .entry)) (now (state .exit)) (now (list .exit)) ⌝ }
+    ensures { λ r. ⌜ DoneDescent (now (lent .entry)) node pc (now (state .entry)) (now (now (list .entry))) (now (state .exit)) (now (now (list .exit))) ⌝ }
+{
+    apply_selectors(lent, state, list, node, pc);
+    let table = lent[TABLE];
+    let first = records::first_child(table, node) as usize;
+    let count = records::child_count(table, node) as usize;
+    let e = first + count;
+    let mut j = skip_flats(lent, state, list, first, e, pc);
+    while j < e {
+        recursive_descent(lent, state, list, j, pc);
+        j = skip_flats(lent, state, list, j + 1, e, pc);
+    }
+}
+
+// The first node from i on that has a list or a map among its children, or e. What the descendant segment at pc selects of those before it is pushed. Once the cap is
+// passed none is left.
+fn skip_flats(
+    lent: &[&[u8]; 4],
+    state: &mut [usize; 3],
+    list: &mut &mut [u32],
+    i: usize,
+    e: usize,
+    pc: usize,
+) -> usize
+    requires { ⌜ Asked (now lent) (now state) (now (now list)) ⌝ }
+    requires { ⌜ AskFlats (now lent) i e pc ⌝ }
+    ensures { λ r. ⌜ Steady (now (state .entry)) (now (list .entry)) (now (state .exit)) (now (list .exit)) ⌝ }
+    ensures { λ r. ⌜ DoneFlats (now (lent .entry)) i e pc (now (state .entry)) (now (now (list .entry))) (now (state .exit)) (now (now (list .exit))) r ⌝ }
+{
+    let cap = state[CAP];
+    let at = state[AT];
+    if cap < at {
+        return e;
+    }
+    let table = lent[TABLE];
+    let j = visits::next_container(table, i, e);
+    let f = flats::flat_start(
+        lent[PLAN],
+        lent[POOL],
+        table,
+        lent[TEXT],
+        j,
+        e,
+        pc,
+        *list,
+        at,
+        cap,
+    );
+    state[AT] = f.at;
+    f.i
+}
+
+// The selectors of the segment at pc on a node, one after the other.
+fn apply_selectors(
+    lent: &[&[u8]; 4],
+    state: &mut [usize; 3],
+    list: &mut &mut [u32],
+    node: usize,
+    pc: usize,
+)
+    requires { ⌜ Asked (now lent) (now state) (now (now list)) ⌝ }
+    requires { ⌜ AskSelectors (now lent) node pc ⌝ }
+    ensures { λ r. ⌜ Steady (now (state .entry)) (now (list .entry)) (now (state .exit)) (now (list .exit)) ⌝ }
+    ensures { λ r. ⌜ DoneSelectors (now (lent .entry)) node pc (now (state .entry)) (now (now (list .entry))) (now (state .exit)) (now (now (list .exit))) ⌝ }
+{
+    let plan = lent[PLAN];
+    let mut m = bytes::word16(plan, pc + 1);
+    let mut p = pc + 3;
+    let rest = plans::skip_selectors(plan, p, m);
+    while 1 < m {
+        apply_selector(lent, state, list, node, p, rest);
+        if state[CAP] < state[AT] {
+            return;
+        }
+        p = plans::next_selector(lent[PLAN], p);
+        m -= 1;
+    }
+    apply_selector(lent, state, list, node, p, rest);
+}
+
+// The selector at p on a node, each selected node with the segments at rest.
+fn apply_selector(
+    lent: &[&[u8]; 4],
+    state: &mut [usize; 3],
+    list: &mut &mut [u32],
+    node: usize,
+    p: usize,
+    rest: usize,
+)
+    requires { ⌜ Asked (now lent) (now state) (now (now list)) ⌝ }
+    requires { ⌜ AskSelector (now lent) node p rest ⌝ }
+    ensures { λ r. ⌜ Steady (now (state .entry)) (now (list .entry)) (now (state .exit)) (now (list .exit)) ⌝ }
+    ensures { λ r. ⌜ DoneSelector (now (lent .entry)) node p rest (now (state .entry)) (now (now (list .entry))) (now (state .exit)) (now (now (list .exit))) ⌝ }
+{
+    let plan = lent[PLAN];
+    let k = plan[p];
+    if k <= INDEX {
+        let found = leaves::select_one(plan, lent[POOL], lent[TABLE], lent[TEXT], p, node);
+        let Member::At(m) = found else {
+            return;
+        };
+        evaluate_segment(lent, state, list, m, rest);
+        return;
+    }
+    if k == SLICE {
+        each_place(lent, state, list, node, p, rest);
+        return;
+    }
+    if k == WILDCARD {
+        let table = lent[TABLE];
+        let i = records::first_child(table, node) as usize;
+        let n = records::child_count(table, node) as usize;
+        each_child(lent, state, list, i, i + n, rest);
+        return;
+    }
+    if !keep_children(lent, state, list, node, p, rest) {
+        eval_filter(lent, state, list, node, p, rest);
+    }
+}
+
+// The elements of a node at the places of the slice at p, each with the segments at rest.
+fn each_place(
+    lent: &[&[u8]; 4],
+    state: &mut [usize; 3],
+    list: &mut &mut [u32],
+    node: usize,
+    p: usize,
+    rest: usize,
+)
+    requires { ⌜ Asked (now lent) (now state) (now (now list)) ⌝ }
+    requires { ⌜ AskSelector (now lent) node p rest ⌝ }
+    requires { ⌜ AskKind (now lent) p 7 ⌝ }
+    ensures { λ r. ⌜ Steady (now (state .entry)) (now (list .entry)) (now (state .exit)) (now (list .exit)) ⌝ }
+    ensures { λ r. ⌜ DoneSelector (now (lent .entry)) node p rest (now (state .entry)) (now (now (list .entry))) (now (state .exit)) (now (now (list .exit))) ⌝ }
+{
+    let plan = lent[PLAN];
+    let table = lent[TABLE];
+    let from = records::low_word(table, node) as usize;
+    let s = leaves::slice_at(plan, table, p, node);
+    let mut w = visits::placed(table, from, s);
+    if plan[rest] == END {
+        let at = state[AT];
+        let next = visits::push_places(*list, w, at, state[CAP]);
+        state[AT] = next;
+        return;
+    }
+    while 0 < w.left {
+        if state[CAP] < state[AT] {
+            return;
+        }
+        evaluate_segment(lent, state, list, w.at, rest);
+        w = visits::further(w);
+    }
+}
+
+// The nodes from i up to e, each with the segments at rest. Where a wildcard alone follows, it calls itself with the children of each.
+fn each_child(
+    lent: &[&[u8]; 4],
+    state: &mut [usize; 3],
+    list: &mut &mut [u32],
+    i: usize,
+    e: usize,
+    rest: usize,
+)
+    requires { ⌜ Asked (now lent) (now state) (now (now list)) ⌝ }
+    requires { ⌜ AskEach (now lent) i e rest ⌝ }
+    ensures { λ r. ⌜ Steady (now (state .entry)) (now (list .entry)) (now (state .exit)) (now (list .exit)) ⌝ }
+    ensures { λ r. ⌜ DoneEach (now (lent .entry)) i e rest (now (state .entry)) (now (now (list .entry))) (now (state .exit)) (now (now (list .exit))) ⌝ }
+{
+    if e <= i {
+        return;
+    }
+    let plan = lent[PLAN];
+    if plan[rest] == END {
+        let at = state[AT];
+        let next = visits::push_each(*list, i, e, at, state[CAP]);
+        state[AT] = next;
+        return;
+    }
+    let head = bytes::word32(plan, rest);
+    let mut j = i;
+    while j < e {
+        if state[CAP] < state[AT] {
+            return;
+        }
+        if head == WILDCARD_HEAD {
+            let table = lent[TABLE];
+            let first = records::first_child(table, j) as usize;
+            let n = records::child_count(table, j) as usize;
+            each_child(lent, state, list, first, first + n, rest + 4);
+            j += 1;
+        } else {
+            evaluate_segment(lent, state, list, j, rest);
+            j += 1;
+        }
+    }
+}
+
+// The children of a node for which the filter at p holds, each with the segments at rest, where the filter is read once: whether it is.
+fn keep_children(
+    lent: &[&[u8]; 4],
+    state: &mut [usize; 3],
+    list: &mut &mut [u32],
+    node: usize,
+    p: usize,
+    rest: usize,
+) -> bool
+    requires { ⌜ Asked (now lent) (now state) (now (now list)) ⌝ }
+    requires { ⌜ AskSelector (now lent) node p rest ⌝ }
+    requires { ⌜ AskKind (now lent) p 9 ⌝ }
+    ensures { λ r. ⌜ Steady (now (state .entry)) (now (list .entry)) (now (state .exit)) (now (list .exit)) ⌝ }
+    ensures { λ r. ⌜ DoneKeep (now (lent .entry)) node p rest (now (state .entry)) (now (now (list .entry))) (now (state .exit)) (now (now (list .exit))) r ⌝ }
+{
+    let plan = lent[PLAN];
+    let z = p + 3 + bytes::word16(plan, p + 1);
+    let g = kept::read_form(plan, p + 3, z, rest);
+    if g.way == 0 {
+        return false;
+    }
+    let table = lent[TABLE];
+    let i = records::low_word(table, node) as usize;
+    let n = records::child_count(table, node) as usize;
+    let root = state[ROOT];
+    let at = state[AT];
+    let cap = state[CAP];
+    let next = kept::keep(
+        plan,
+        lent[POOL],
+        table,
+        lent[TEXT],
+        root,
+        i,
+        i + n,
+        p + 3,
+        z,
+        g,
+        rest,
+        *list,
+        at,
+        cap,
+    );
+    state[AT] = next;
+    true
+}
+
+// The children of a node for which the filter at p holds, each with the segments at rest.
+fn eval_filter(
+    lent: &[&[u8]; 4],
+    state: &mut [usize; 3],
+    list: &mut &mut [u32],
+    node: usize,
+    p: usize,
+    rest: usize,
+)
+    requires { ⌜ Asked (now lent) (now state) (now (now list)) ⌝ }
+    requires { ⌜ AskSelector (now lent) node p rest ⌝ }
+    requires { ⌜ AskKind (now lent) p 9 ⌝ }
+    ensures { λ r. ⌜ Steady (now (state .entry)) (now (list .entry)) (now (state .exit)) (now (list .exit)) ⌝ }
+    ensures { λ r. ⌜ DoneSelector (now (lent .entry)) node p rest (now (state .entry)) (now (now (list .entry))) (now (state .exit)) (now (now (list .exit))) ⌝ }
+{
+    let z = p + 3 + bytes::word16(lent[PLAN], p + 1);
+    let table = lent[TABLE];
+    let i = records::low_word(table, node) as usize;
+    let n = records::child_count(table, node) as usize;
+    let e = i + n;
+    let mut j = next_kept(lent, state[ROOT], i, e, p + 3, z);
+    while j < e {
+        evaluate_segment(lent, state, list, j, rest);
+        if state[CAP] < state[AT] {
+            return;
+        }
+        j = next_kept(lent, state[ROOT], j + 1, e, p + 3, z);
+    }
+}
+
+// The first node from i on for which the test from p up to z holds, or e.
+fn next_kept(lent: &[&[u8]; 4], root: usize, i: usize, e: usize, p: usize, z: usize) -> usize
+    requires { ⌜ AskNext (now lent) root i e p z ⌝ }
+    ensures { λ r. ⌜ DoneNext (now (lent .entry)) root i e p z r ⌝ }
+{
+    let mut j = i;
+    while j < e {
+        if eval_filter_expr(lent, root, j, p, z) {
+            return j;
+        }
+        j += 1;
+    }
+    j
+}
+
+// Whether the test from p up to e holds of a node. What is left of its code goes by registers from the first part on that is not told without them.
+fn eval_filter_expr(lent: &[&[u8]; 4], root: usize, node: usize, p: usize, e: usize) -> bool
+    requires { ⌜ Within (planOf (now lent)) (poolOf (now lent)) (tableOf (now lent)) (textOf (now lent)) root node ⌝ }
+    requires { ⌜ AskTest (planOf (now lent)) (poolOf (now lent)) p e ⌝ }
+    ensures { λ r. ⌜ DoneTest (planOf (now (lent .entry))) (poolOf (now (lent .entry))) (tableOf (now (lent .entry))) (textOf (now (lent .entry))) root node p e r ⌝ }
+{
+    let mut acc = false;
+    let mut q = p;
+    while q < e {
+        let plan = lent[PLAN];
+        let k = plan[q];
+        if k <= CURRENT {
+            let t = filters::short_test(
+                plan,
+                lent[POOL],
+                lent[TABLE],
+                lent[TEXT],
+                root,
+                node,
+                q,
+                e,
+            );
+            if !t.some {
+                return eval_rest(lent, root, node, acc, q, e);
+            }
+            acc = t.acc;
+            q = t.q;
+        } else {
+            if !filters::is_logic(k) {
+                return eval_rest(lent, root, node, acc, q, e);
+            }
+            let t = filters::logic_expr(plan, acc, q);
+            acc = t.acc;
+            q = t.q;
+        }
+    }
+    acc
+}
+
+// The answer of a test's code from p up to e with an answer before it, by registers.
+fn eval_rest(lent: &[&[u8]; 4], root: usize, node: usize, acc: bool, p: usize, e: usize) -> bool
+    requires { ⌜ Within (planOf (now lent)) (poolOf (now lent)) (tableOf (now lent)) (textOf (now lent)) root node ⌝ }
+    requires { ⌜ AskRest (planOf (now lent)) (poolOf (now lent)) (tableOf (now lent)) (textOf (now lent)) root node «acc» p e ⌝ }
+    ensures { λ r. ⌜ DoneRest (planOf (now (lent .entry))) (poolOf (now (lent .entry))) (tableOf (now (lent .entry))) (textOf (now (lent .entry))) root node «acc» p e r ⌝ }
+{
+    let mut s = Regs {
+        acc,
+        x: Operand::Nothing,
+        y: Operand::Nothing,
+        q: p,
+    };
+    while s.q < e {
+        let q = s.q;
+        let plan = lent[PLAN];
+        if plan[q] <= CURRENT {
+            s = eval_query(lent, root, node, s);
+        } else {
+            s = leaves::plain_expr(plan, lent[POOL], lent[TABLE], lent[TEXT], s);
+        }
+    }
+    s.acc
+}
+
+// The query in a filter's code at s.q, with what is asked of it: "a query inside it is evaluated by the same rules". Where names and indices lead to its end, or
+// to nothing, no call is needed.
+fn eval_query(lent: &[&[u8]; 4], root: usize, node: usize, s: Regs) -> Regs
+    requires { ⌜ Within (planOf (now lent)) (poolOf (now lent)) (tableOf (now lent)) (textOf (now lent)) root node ⌝ }
+    requires { ⌜ AskQuery (planOf (now lent)) (poolOf (now lent)) (tableOf (now lent)) (textOf (now lent)) root node s ⌝ }
+    ensures { λ r. ⌜ DoneQuery (planOf (now (lent .entry))) (poolOf (now (lent .entry))) (tableOf (now (lent .entry))) (textOf (now (lent .entry))) root node s r ⌝ }
+{
+    let plan = lent[PLAN];
+    let table = lent[TABLE];
+    let text = lent[TEXT];
+    let q = s.q;
+    let from = leaves::begins(plan[q], root, node);
+    let r = visits::reach(plan, lent[POOL], table, text, from, q + 1);
+    let m = r.node;
+    let pc = r.pc;
+    let z = plans::past_query(plan, pc);
+    let mode = plan[z];
+    if mode == LENGTH {
+        return answers::to_registers(table, text, s, mode, z, 0, 0);
+    }
+    if !r.some {
+        return answers::to_registers(table, text, s, mode, z, 0, 0);
+    }
+    if plan[pc] == END {
+        return answers::to_registers(table, text, s, mode, z, 1, m);
+    }
+    let cap = leaves::cap_of(mode);
+    let mut state = [from, cap, 0];
+    let mut one = [0u32; 1];
+    let mut places = &mut one[0..];
+    evaluate_segment(lent, &mut state, &mut places, m, pc);
+    let n = state[AT];
+    let head = places[0];
+    answers::to_registers(table, text, s, mode, z, n, head as usize)
+}

@@ -1,0 +1,4 @@
+pub mod Flats
+pub mod FlatLaws
+pub mod FlatTests
+pub mod Straights
