@@ -599,3 +599,30 @@ def select(query, table, text, length, start):
     except Refused as refused:
         return refused.args[0], 0, {}
     return listed(q, table, text, length, start)
+
+
+# ---- what plans consist of
+
+# how many bytes follow the byte of a kind, where any do
+BODIES = {0x03: 2, 0x04: 2, 0x05: 4, 0x06: 8, 0x07: 25, 0x09: 2, 0x10: 8, 0x11: 8, 0x12: 4, 0x13: 1, 0x14: 1, 0x16: 2, 0x17: 2}
+
+
+def kinds(plan):
+    """The kinds of an accepted plan's items, in their order."""
+    at = 0
+    while at < len(plan):
+        yield plan[at]
+        at += 1 + BODIES.get(plan[at], 0)
+    assert at == len(plan)
+
+
+def take(counts, taken, plan, pool):
+    """The refusal or 0, and the 256 counts and the number of plans afterwards."""
+    if not plans.check(plan, pool):
+        return 11, counts, taken
+    more = list(counts)
+    for kind in kinds(plan):
+        more[kind] += 1
+    if taken + 1 > MAX_INT or max(more) > MAX_INT:
+        return 21, counts, taken
+    return 0, more, taken + 1

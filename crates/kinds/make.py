@@ -1,7 +1,7 @@
 #!/usr/bin/env python3
 """Writes stdin and stdout of the program kinds, beside this file: queries, and what their plans consist of.
 
-The plans are those of tools/reference.py, and the items are counted here by document 01's table "Plan items". The first line is document 02's
+The plans and their items are those of tools/reference.py. The first line is document 02's
 example; its six lines of output are compared with what is counted for it. Run it with no arguments; it always writes the same files.
 """
 import collections, os, sys
@@ -11,7 +11,6 @@ sys.dont_write_bytecode = True
 sys.path.insert(0, os.path.join(HERE, "..", "..", "tools"))
 import reference
 
-BODIES = {0x03: 2, 0x04: 2, 0x05: 4, 0x06: 8, 0x07: 25, 0x09: 2, 0x10: 8, 0x11: 8, 0x12: 4, 0x13: 1, 0x14: 1, 0x16: 2, 0x17: 2}
 EXAMPLE = "$.a[1]"
 WRITTEN = ["01 1", "03 2", "05 1", "06 1", "0A 1", "plans 1"]
 QUERIES = [
@@ -21,20 +20,12 @@ QUERIES = [
 ]
 
 
-def kinds(plan):
-    at = 0
-    while at < len(plan):
-        yield plan[at]
-        at += 1 + BODIES.get(plan[at], 0)
-    assert at == len(plan)
-
-
 def lines(queries):
     counts, plans = collections.Counter(), 0
     for query in queries:
-        answer = reference.compile(query.encode(), 61440, 4096)
+        answer = reference.compile(query.encode(), 13 * 4096, 4096)
         if answer[0] == 0:
-            counts.update(kinds(answer[1]))
+            counts.update(reference.kinds(answer[1]))
             plans += 1
     return ["%02X %d" % (k, counts[k]) for k in sorted(counts)] + ["plans %d" % plans]
 

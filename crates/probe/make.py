@@ -14,6 +14,8 @@ from tables import FLOAT, INTEGER, LIST, MAP, STRING, build, check, named, paren
 
 NODES, TEXT, LINE, QUERY, PLAN, PLACES = 8192, 65536, 524800, 8192, 65536, 65535
 TABLE = 24 * NODES
+KINDS = 256
+COUNTS = 8 * KINDS
 
 
 # ---- the program's lines
@@ -74,6 +76,7 @@ ROOMS = {
     b"plan": [PLAN, PLAN],
     b"run": [PLAN, PLAN, TABLE, TEXT, None, None],
     b"select": [QUERY, TABLE, TEXT, None, None],
+    b"take": [COUNTS, None, PLAN, PLAN],
 }
 
 
@@ -120,6 +123,17 @@ def answer_select(query, table, text, length, start):
     if length > PLACES:
         raise TooLong
     return listed(*reference.select(query, table, text, length, start))
+
+
+def answer_take(counts, taken, plan, pool):
+    if len(counts) != COUNTS:
+        raise Bad
+    refusal, after, taken = reference.take(struct.unpack("<%dQ" % KINDS, counts), taken, plan, pool)
+    return "refused %d" % refusal if refusal else "ok %s %d" % (shown(counted(after)), taken)
+
+
+def counted(counts):
+    return struct.pack("<%dQ" % KINDS, *counts)
 
 
 def listed(refusal, n, places):
@@ -410,6 +424,29 @@ def order_lines():
         say(b"select", hexed(many), small, empty, length, start)
 
 
+def take_lines():
+    """A series of plans, accepted and refused ones mixed, the limits of a count and of the number of plans, and the words of the call."""
+    counts, taken, most = [0] * KINDS, 0, reference.MAX_INT
+
+    def line(counts, taken, plan, pool):
+        say(b"take", hexed(counted(counts)), taken, hexed(plan), hexed(pool))
+
+    for query in (b"$.a[1]", b"$", b"$[1:2:3,::]", b"$[?@.a && !@.b || @.c < null]", b"$[?length(value(@.a)) >= 2.5]", b"$[?!count(@..*)]", b"$[?@['x'] == 'y']"):
+        plan, pool = plans.translate(reference.form(query))
+        line(counts, taken, plan, pool)
+        line(counts, taken, plan[:-1], pool)
+        refusal, counts, taken = reference.take(counts, taken, plan, pool)
+    plan, pool = plans.translate(reference.form(b"$.a[1]"))
+    for kind, before in ((0x03, most - 2), (0x03, most - 1), (0x03, most), (0x0A, most - 1), (0x0A, most), (0xFF, most), (0xFF, most + 1), (0x00, 2 ** 64 - 1)):
+        line([before if k == kind else k for k in range(KINDS)], 7, plan, pool)
+    for before in (most - 1, most, most + 1, 10 ** 18 - 1):
+        line([1] * KINDS, before, plan, pool)
+    line([most] * KINDS, most, plan, b"")
+    zeros, p, x = hexed(counted([0] * KINDS)), hexed(plan), hexed(pool)
+    for words in ((zeros[2:], b"0", p, x), (zeros + b"00", b"0", p, x), (zeros[1:], b"0", p, x), (zeros, b"", p, x), (zeros, b"-", p, x), (zeros, b"0", p, b"6"), (b"-", b"0", p, x), (zeros, b"0", p), (zeros, b"0", p, x, b"0")):
+        lines.append(b" ".join((b"take",) + words))
+
+
 def word_lines():
     """The words of these calls."""
     table, text = build(queries.SAMPLE)
@@ -438,6 +475,7 @@ plan_lines()
 select_lines()
 order_lines()
 word_lines()
+take_lines()
 with open(os.path.join(HERE, "stdin"), "wb") as f:
     f.write(b"\n".join(lines))
 with open(os.path.join(HERE, "stdout"), "w") as f:

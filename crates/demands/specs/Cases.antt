@@ -1,6 +1,6 @@
 -- The answers of compile, and of run and select, case by case: each refusal on its condition, and what every lent byte and place holds afterwards.
 -- Assumes nothing.
-use Prim.Native.Nat.{ℕ, _+_, _≤_, _<_}
+use Prim.Native.Nat.{ℕ, _+_, _≤_}
 use native.Mathlib.Omega.{arith}
 use mathlib.Core.Path.{_≡_, refl, ap, sym, _∙_, subst}
 use mathlib.Core.Bool.{Bool, true, false, _&&_}
@@ -16,23 +16,12 @@ use Rattle.definition.specs.Tables.Checked.{accepted, sized, wrongAt}
 use Rattle.definition.specs.Evaluation.{selected}
 use Rattle.definition.specs.Outcomes.{Reading, Reads, Spells, CompileOutcome, Compiles, RunOutcome, Runs, Selects, write, compileBy, refuseRun, runTable, runBy}
 use Rattle.definition.specs.Outcomes.Reading.{refused, form}
-use Rattle.demands.specs.Lists.{Listed, placed-listed, listed-one}
+use Rattle.demands.specs.Promises.{CompileCase, Listed, RunCase}
+use Rattle.demands.specs.Promises.CompileCase.{refuses as refusesQuery, smallPlan, smallPool, writes}
+use Rattle.demands.specs.Promises.RunCase.{refuses as refusesRun, wrongSize, wrongNode, lists}
+use Rattle.demands.specs.Lists.{placed-listed, listed-one}
 
 -- ---- the answers of compile, case by case
-
--- For what a query reads as, and the rooms P and R before: the answer, and what the rooms hold afterwards.
-pub data CompileCase (P R : List ℕ) : Reading → CompileOutcome → Type 0 where
-  -- the query is refused, and no byte changes
-  refuses : (n : ℕ) → CompileCase P R (refused n) (record { refusal = n; planLength = 0; poolLength = 0; planRoom = P; poolRoom = R })
-  -- 12: the plan's room or the pool's is too small; the answer carries both lengths needed, and no byte changes
-  smallPlan : (q : Query) → length P < length (planOf q)
-      → CompileCase P R (form q) (record { refusal = 12; planLength = length (planOf q); poolLength = length (poolOf q); planRoom = P; poolRoom = R })
-  smallPool : (q : Query) → length R < length (poolOf q)
-      → CompileCase P R (form q) (record { refusal = 12; planLength = length (planOf q); poolLength = length (poolOf q); planRoom = P; poolRoom = R })
-  -- the plan and the pool stand in the first bytes of the rooms, and no byte behind them changes
-  writes : (q : Query) → length (planOf q) ≤ length P → length (poolOf q) ≤ length R
-      → CompileCase P R (form q)
-      (record { refusal = 0; planLength = length (planOf q); poolLength = length (poolOf q); planRoom = planOf q ++ drop (length (planOf q)) P; poolRoom = poolOf q ++ drop (length (poolOf q)) R })
 
 -- a conjunction with a test that fails
 and-false : (b : Bool) → (b && false) ≡ false
@@ -58,13 +47,13 @@ write-case q P R false b e f = smallPlan q (leb-false (length (planOf q)) (lengt
 
 pub compile-case : (x : Reading) (P R : List ℕ) → CompileCase P R x (compileBy x P R)
 unfolding compileBy
-compile-case (refused n) P R = refuses n
+compile-case (refused n) P R = refusesQuery n
 compile-case (form q) P R = write-case q P R (leb (length (planOf q)) (length P)) (leb (length (poolOf q)) (length R)) refl refl
 
 -- the cases leave one outcome: the definition's
 pub compile-case-is : {P R : List ℕ} {x : Reading} {c : CompileOutcome} → CompileCase P R x c → c ≡ compileBy x P R
 unfolding compileBy write
-compile-case-is (refuses n) = refl
+compile-case-is (refusesQuery n) = refl
 compile-case-is {P} {R} (smallPlan q h) = rw (lt-leb (length (planOf q)) (length P) h)
 compile-case-is {P} {R} (smallPool q h) = rw (lt-leb (length (poolOf q)) (length R) h, and-false (leb (length (planOf q)) (length P)))
 compile-case-is {P} {R} (writes q m n) = rw (le-leb (length (planOf q)) (length P) m, le-leb (length (poolOf q)) (length R) n, stored P (planOf q) m, stored R (poolOf q) n)
@@ -75,16 +64,6 @@ compile-cases {P = P} {R = R} k = (k .reading, k .reads, subst (CompileCase P R 
 
 -- ---- the answers of run and of select, case by case
 
--- For what a plan and a pool spell, or what a query reads as: the answer, and what the list holds afterwards.
-pub data RunCase (T X L : List ℕ) (at : ℕ) : Reading → RunOutcome → Type 0 where
-  -- the plan is refused by 11, or the query by its number, and no place changes
-  refuses : (n : ℕ) → RunCase T X L at (refused n) (record { refusal = n; count = 0; node = 0; places = L })
-  -- 9 and 10: the table is refused, by its size or at its least wrong node
-  wrongSize : (q : Query) → checkTable T X ≡ sized → RunCase T X L at (form q) (record { refusal = 9; count = 0; node = 0; places = L })
-  wrongNode : (q : Query) (i : ℕ) → checkTable T X ≡ wrongAt i → RunCase T X L at (form q) (record { refusal = 10; count = 0; node = i; places = L })
-  -- the table is accepted: the nodes are in the list, or 14 or 13
-  lists : (q : Query) {o : RunOutcome} → checkTable T X ≡ accepted → Listed (selected q (tree T X)) L at o → RunCase T X L at (form q) o
-
 -- what the check of the table comes to
 table-case : (q : Query) (T X L : List ℕ) (at : ℕ) (c : Checked) → checkTable T X ≡ c → RunCase T X L at (form q) (runTable c q T X L at)
 unfolding runTable refuseRun
@@ -94,7 +73,7 @@ table-case q T X L at (wrongAt i) e = wrongNode q i e
 
 pub run-case : (x : Reading) (T X L : List ℕ) (at : ℕ) → RunCase T X L at x (runBy x T X L at)
 unfolding runBy refuseRun
-run-case (refused n) T X L at = refuses n
+run-case (refused n) T X L at = refusesRun n
 run-case (form q) T X L at = table-case q T X L at (checkTable T X) refl
 
 -- the outcome for a form on an accepted table
@@ -105,7 +84,7 @@ accepted-lists q T X L at h = rw h (placed-listed (selected q (tree T X)) L at)
 -- the cases leave one outcome: the definition's
 pub case-is : {T X L : List ℕ} {at : ℕ} {x : Reading} {o : RunOutcome} → RunCase T X L at x o → o ≡ runBy x T X L at
 unfolding runBy runTable refuseRun
-case-is (refuses n) = refl
+case-is (refusesRun n) = refl
 case-is (wrongSize q e) = rw e
 case-is (wrongNode q i e) = rw e
 case-is {T} {X} {L} {at} (lists q e l) = listed-one l (accepted-lists q T X L at e)

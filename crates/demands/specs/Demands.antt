@@ -1,69 +1,88 @@
--- What is proved of the product as a whole, for a reader who is no prover. Every statement below is proved.
--- `A → B → C` says that C holds wherever A and B do, `A × B` that both hold, `(x : A) × B` that some x is such that B, `A ↔ B` that each follows from the other.
---   s             the bytes of a query                 P, R   the rooms lent to compile for the plan and for the pool, before
---   plan, pool    the bytes of a plan and of a pool    T, X   the bytes of a table and of its text
---   L, at         the lent list before, and the start position; c, o, n: what an operation answers, with all that its lent rooms and places hold afterwards
--- The contracts in the sources say of each operation's answer:
---   compile::compile     CompilesOnly s P R c         plan::check_plan      ChecksPlan plan pool n
---   select::select       SelectsOnly s T X L at o     table::check_table    o ≡ tableOutcome T X
---   run::run             Runs plan pool T X L at o    table::text_of_node, key_of_node    o ≡ textOutcome T X i, o ≡ keyOutcome T X i
---   tally::tally         Tallies plan pool C m o, where C are the counts before and m is the number of plans
--- What these say is in the crates `definition` and, for the last, `tallies`, from the bytes alone: the RFC's grammar and document 01's rules, with no code of ours.
-use Prim.Native.Nat.{ℕ, _≤_, _<_}
+-- The theorems: what is proved of the product as a whole, for a reader who is no prover. Every statement below is proved.
+-- `A → B → C` says that C holds wherever A and B do, `A × B` that both hold, `A ⊎ B` that one of them does, `(x : A) × B` that some x is such that B, `A ↔ B` that each follows from the other.
+-- What the letters and the types are stands in Promises.antt, and when each operation refuses in Refusals.antt. The contracts of the crate `promises`, on which the linked
+-- library stands, say of each operation's answer:
+--   compile        CompilesOnly s P R c               check_plan     ChecksPlanOnly plan pool n
+--   select         SelectsOnly s T X L at o           check_table    ChecksTableOnly T X o
+--   run            RunsOnly plan pool T X L at o      text_of_node   TextOnly T X i o, and TextBegins: which part of the text it is
+--   tally          TalliesOnly plan pool C m o        key_of_node    KeyOnly T X i o, and KeyBegins
+-- where C are the counts before and m is the number of plans.
+-- None of them requires anything, so they hold for all input. Each operation also ends on all input: the toolchain's logic is one of total correctness (its guide DESIGN,
+-- "Termination": a triple holds only of code that ends, and a loop or a cycle of calls is shown to end by a measure), so a function that is proved ends wherever its `requires` holds.
+-- That is proved of its run in the logic, and not of the compiled binary (the guide says so too).
+use Prim.Native.Nat.{ℕ, _*_, _≤_, _<_}
 use mathlib.Core.Logic.{_↔_}
 use mathlib.Core.Path.{_≡_, sym, ap, _∙_}
-use mathlib.Core.List.{List}
-use lib.ListN.{length, getD, replicate}
-use Rattle.definition.specs.Limits.{maxPlan}
+use mathlib.Core.List.{List, [], _∷_}
+use mathlib.Core.Option.{Option, none}
+use lib.IntN.{ℤ}
+use lib.ListN.{length, replicate}
+use Rattle.definition.specs.Limits.{maxQuery, maxPlan}
 use Rattle.definition.specs.Forms.{Query}
 use Rattle.definition.specs.Plans.{planOf, poolOf}
+use Rattle.definition.specs.Slices.{slicePlaces}
+use Rattle.definition.specs.StandardSlices.{rfcPlaces}
 use Rattle.definition.specs.Tables.{checkTable, tree}
-use Rattle.definition.specs.Tables.Checked.{accepted}
-use Rattle.definition.specs.TableOutcomes.{TableOutcome, PartOutcome, tableOutcome, textOutcome, keyOutcome}
+use Rattle.definition.specs.Tables.Checked.{accepted, wrongAt}
+use Rattle.definition.specs.TableOutcomes.{TableOutcome, PartOutcome}
 use Rattle.definition.specs.Evaluation.{selected}
 use Rattle.definition.specs.Outcomes.{Reading, Reads, Spells, CompileOutcome, Compiles, RunOutcome, Runs, Selects, ChecksPlan, runBy}
 use Rattle.definition.specs.Outcomes.Reading.{form}
 use Rattle.definition_examples.specs.Rows.{starredRows}
+use Rattle.standards.specs.Slices.{Standard, slices-standard, no-start-standard}
+use Rattle.tables.specs.Places.{begins-one}
 use Rattle.spelled.specs.One.{checks-one, runs-one}
-use Rattle.readings.specs.Readings.{ReadsOnly, CompilesOnly, SelectsOnly}
-use Rattle.tallies.specs.Items.{occurrences}
-use Rattle.tallies.specs.Tallies.{TallyOutcome, Tallies, tallyBy}
-use Rattle.tallies.specs.Series.{AllBytes, itemsOf, takenAll, sumOf, each-count, all-counts}
-use Rattle.demands.specs.Lists.{Listed}
-use Rattle.demands.specs.Cases.{CompileCase, RunCase, compile-cases, select-cases, run-cases}
-use Rattle.demands.specs.Written.{planIn, poolIn, Written, written, written-only, enough}
+use Rattle.tallies.specs.Items.{kindsOf}
+use Rattle.tallies.specs.Forms.{itemsOf}
+use Rattle.tallies.specs.Tallies.{TallyOutcome, Tallies, tallyBy, withPlan, allKinds}
+use Rattle.tallies.specs.Meets.{plan-items}
+use Rattle.tallies.specs.Taken.{occurring, example, example-counts}
+use Rattle.demands.specs.Promises.{Settled, ReadsOnly, CompilesOnly, SelectsOnly, RunsOnly, ChecksPlanOnly, TalliesOnly, ChecksTableOnly, TextOnly, TextBegins, KeyOnly, KeyBegins, CompileCase, Listed, RunCase, planIn, poolIn, Written, Stored, AllServed, AllAnswer, Unchanged, Taken, Counted, planBytes}
+use Rattle.demands.specs.Refusals.{First, LeastWrong, NoText, NoKey, compileRules, selectRules, runRules, planRules, tableRules, partRules, tallyRules}
+use Rattle.demands.specs.Firsts.{exactly}
+use Rattle.demands.specs.Checks.{wrong-why}
+use Rattle.demands.specs.Exactly.{compile-first, select-first, run-first, plan-check-first, table-check-first, text-first, key-first, tally-first}
+use Rattle.demands.specs.Cases.{compile-cases, select-cases, run-cases}
+use Rattle.demands.specs.Written.{written, written-only, enough}
+use Rattle.demands.specs.Rooms.{plan-within, pool-within, no-twelve, never-twelve, tenSlices, tenSlicesForm, ten-slices}
 use Rattle.demands.specs.Running.{runs-iff, written-passes, written-lists, written-selects}
-use Rattle.demands.specs.Stored.{Stored, stored}
-use Rattle.demands.specs.Served.{AllServed, servingPlan, servingPool, versions, served}
-use Rattle.demands.specs.Selected.{AllAnswer, starred-answers}
+use Rattle.demands.specs.Stored.{stored}
+use Rattle.demands.specs.Served.{servingPlan, servingPool, versions, served}
+use Rattle.demands.specs.Selected.{starred-answers}
+use Rattle.demands.specs.Series.{leaves, series}
 
--- ---- 1. Each operation has one outcome for each input. Compile and select have it from their contracts: the reader settles what each text reads as.
+-- ---- 1. Each operation has one outcome for each input. Its contract says so: two outcomes that are allowed beside the one answered coincide.
 
-pub one-compile : {s P R : List ℕ} {c o o′ : CompileOutcome} → CompilesOnly s P R c → Compiles s P R o → Compiles s P R o′ → o ≡ o′
-one-compile {o = o} {o′ = o′} k a b = k .only o a ∙ sym (k .only o′ b)
+pub one-outcome : {A : Type 0} {F : A → Type 0} {c o o′ : A} → Settled F c → F o → F o′ → o ≡ o′
+one-outcome {o = o} {o′ = o′} k a b = k .only o a ∙ sym (k .only o′ b)
 
-pub one-select : {s T X L : List ℕ} {at : ℕ} {c o o′ : RunOutcome} → SelectsOnly s T X L at c → Selects s T X L at o → Selects s T X L at o′ → o ≡ o′
-one-select {o = o} {o′ = o′} k a b = k .only o a ∙ sym (k .only o′ b)
-
+-- Of the operations whose outcome no reader of queries settles, no contract is needed for it.
 pub one-run : {plan pool T X L : List ℕ} {at : ℕ} {o o′ : RunOutcome} → Runs plan pool T X L at o → Runs plan pool T X L at o′ → o ≡ o′
 one-run = runs-one
 
 pub one-plan-check : {plan pool : List ℕ} {m n : ℕ} → ChecksPlan plan pool m → ChecksPlan plan pool n → m ≡ n
 one-plan-check = checks-one
 
-pub one-table-check : (T X : List ℕ) {o o′ : TableOutcome} → o ≡ tableOutcome T X → o′ ≡ tableOutcome T X → o ≡ o′
-one-table-check T X a b = a ∙ sym b
-
-pub one-text : (T X : List ℕ) (i : ℕ) {o o′ : PartOutcome} → o ≡ textOutcome T X i → o′ ≡ textOutcome T X i → o ≡ o′
-one-text T X i a b = a ∙ sym b
-
-pub one-key : (T X : List ℕ) (i : ℕ) {o o′ : PartOutcome} → o ≡ keyOutcome T X i → o′ ≡ keyOutcome T X i → o ≡ o′
-one-key T X i a b = a ∙ sym b
-
 pub one-tally : {plan pool C : List ℕ} {m : ℕ} {o o′ : TallyOutcome} → Tallies plan pool C m o → Tallies plan pool C m o′ → o ≡ o′
 one-tally {plan} {C = C} {m = m} a b = a .is ∙ ap (λ (z : ℕ). tallyBy z plan C m) (checks-one (a .checks) (b .checks)) ∙ sym (b .is)
 
--- each refusal is given on its condition only: CompileCase and RunCase list the cases, with what every lent byte and place holds
+pub one-table-check : (T X : List ℕ) {o o′ : TableOutcome} → ChecksTableOnly T X o → ChecksTableOnly T X o′ → o ≡ o′
+one-table-check T X a b = a ∙ sym b
+
+pub one-text : (T X : List ℕ) (i : ℕ) {o o′ : PartOutcome} → TextOnly T X i o → TextOnly T X i o′ → o ≡ o′
+one-text T X i a b = a ∙ sym b
+
+pub one-key : (T X : List ℕ) (i : ℕ) {o o′ : PartOutcome} → KeyOnly T X i o → KeyOnly T X i o′ → o ≡ o′
+one-key T X i a b = a ∙ sym b
+
+-- and the part is one: its bytes are the outcome's, and it begins at one place
+pub one-text-place : (T : List ℕ) (i n : ℕ) {t p p′ : ℕ × ℕ} → TextBegins T i n t p → TextBegins T i n t p′ → p ≡ p′
+one-text-place T i n = begins-one
+
+pub one-key-place : (T : List ℕ) (i n : ℕ) {t p p′ : ℕ × ℕ} → KeyBegins T i n t p → KeyBegins T i n t p′ → p ≡ p′
+one-key-place T i n = begins-one
+
+-- CompileCase and RunCase list the answers, each with its condition and with what every lent byte and place holds
 pub compile-answers : {s P R : List ℕ} {c : CompileOutcome} → Compiles s P R c → (x : Reading) × Reads s x × CompileCase P R x c
 compile-answers = compile-cases
 
@@ -72,6 +91,36 @@ select-answers = select-cases
 
 pub run-answers : {plan pool T X L : List ℕ} {at : ℕ} {o : RunOutcome} → Runs plan pool T X L at o → (x : Reading) × Spells plan pool x × RunCase T X L at x o
 run-answers = run-cases
+
+-- Exactly when: each operation answers n if and only if n is the first number of its order whose condition holds, or n is 0 and no condition holds.
+-- Refusals.antt has a condition for each row of document 01's table, and the orders.
+pub compile-exactly : {s P R : List ℕ} {c : CompileOutcome} → CompilesOnly s P R c → (n : ℕ) → (c .refusal ≡ n) ↔ First (compileRules s P R) n
+compile-exactly {s} {P} {R} k = exactly (compileRules s P R) (compile-first k)
+
+pub select-exactly : {s T X L : List ℕ} {at : ℕ} {o : RunOutcome} → SelectsOnly s T X L at o → (n : ℕ) → (o .refusal ≡ n) ↔ First (selectRules s T X L at) n
+select-exactly {s} {T} {X} {L} {at} k = exactly (selectRules s T X L at) (select-first k)
+
+pub run-exactly : {plan pool T X L : List ℕ} {at : ℕ} {o : RunOutcome} → RunsOnly plan pool T X L at o → (n : ℕ) → (o .refusal ≡ n) ↔ First (runRules plan pool T X L at) n
+run-exactly {plan} {pool} {T} {X} {L} {at} k = exactly (runRules plan pool T X L at) (run-first (k .is))
+
+pub plan-check-exactly : {plan pool : List ℕ} {m : ℕ} → ChecksPlanOnly plan pool m → (n : ℕ) → (m ≡ n) ↔ First (planRules plan pool) n
+plan-check-exactly {plan} {pool} k = exactly (planRules plan pool) (plan-check-first (k .is))
+
+pub table-check-exactly : (T X : List ℕ) {o : TableOutcome} → ChecksTableOnly T X o → (n : ℕ) → (o .refusal ≡ n) ↔ First (tableRules T X) n
+table-check-exactly T X k = exactly (tableRules T X) (table-check-first T X k)
+
+pub text-exactly : (T X : List ℕ) (i : ℕ) {o : PartOutcome} → TextOnly T X i o → (n : ℕ) → (o .number ≡ n) ↔ First (partRules (NoText T i) T X) n
+text-exactly T X i k = exactly (partRules (NoText T i) T X) (text-first T X i k)
+
+pub key-exactly : (T X : List ℕ) (i : ℕ) {o : PartOutcome} → KeyOnly T X i o → (n : ℕ) → (o .number ≡ n) ↔ First (partRules (NoKey T i) T X) n
+key-exactly T X i k = exactly (partRules (NoKey T i) T X) (key-first T X i k)
+
+pub tally-exactly : {plan pool C : List ℕ} {m : ℕ} {o : TallyOutcome} → TalliesOnly plan pool C m o → (n : ℕ) → (o .refusal ≡ n) ↔ First (tallyRules plan pool C m) n
+tally-exactly {plan} {pool} {C} {m} k = exactly (tallyRules plan pool C m) (tally-first (k .is))
+
+-- the node that comes with 10 is the least at which a rule fails
+pub ten-names-least : (T X : List ℕ) (i : ℕ) → checkTable T X ≡ wrongAt i → LeastWrong T X i
+ten-names-least T X i h = wrong-why T X i h .1
 
 -- ---- 2. What compile writes runs as the definition says, on every accepted table, from every position of every list; and select answers the same.
 
@@ -86,6 +135,24 @@ compile-settles = written-only
 -- rooms of 65,535 bytes are enough for every query that has a form
 pub rooms-enough : {s P R : List ℕ} {c : CompileOutcome} (q : Query) → Reads s (form q) → CompilesOnly s P R c → maxPlan ≤ length P → maxPlan ≤ length R → c .refusal ≡ 0
 rooms-enough = enough
+
+-- a plan has at most 13 bytes for each byte of its query, and a pool one: so rooms of that size are enough too
+pub plan-room : {s : List ℕ} (q : Query) → Reads s (form q) → length (planOf q) ≤ planBytes * length s
+plan-room = plan-within
+
+pub pool-room : {s : List ℕ} (q : Query) → Reads s (form q) → length (poolOf q) ≤ length s
+pool-room = pool-within
+
+pub rooms-by-length : {s P R : List ℕ} {c : CompileOutcome} → CompilesOnly s P R c → planBytes * length s ≤ length P → length s ≤ length R → c .refusal ≡ 12 → ⊥
+rooms-by-length = no-twelve
+
+-- and rooms of 53,248 and 4,096 bytes are never too small, whatever the query
+pub rooms-for-all : {s P R : List ℕ} {c : CompileOutcome} → CompilesOnly s P R c → planBytes * maxQuery ≤ length P → maxQuery ≤ length R → c .refusal ≡ 12 → ⊥
+rooms-for-all = never-twelve
+
+-- 12 for each byte would not do: the query `$[:,:,:,:,:,:,:,:,:,:]`, of 22 bytes, has a plan of 265
+pub twelve-too-few : Reads tenSlices (form tenSlicesForm) × (12 * length tenSlices < length (planOf tenSlicesForm))
+twelve-too-few = ten-slices
 
 -- plan check accepts what compile wrote
 pub written-checks : {s P R : List ℕ} {c : CompileOutcome} {n : ℕ} → Written s P R c → ChecksPlan (planIn c) (poolIn c) n → n ≡ 0
@@ -125,10 +192,30 @@ stored-plans = stored
 pub starred-rows : AllAnswer starredRows
 starred-rows = starred-answers
 
--- ---- 6. What plans consist of (W14). When a series of plans was taken, each count is the number of occurrences of its kind among their items, and the counts add up to those items.
+-- ---- 6. What plans consist of (W14).
 
-pub counts-each : (ps : List (List ℕ)) (k : ℕ) → k < 256 → getD (takenAll ps (replicate 256 0)) k 0 ≡ occurrences k (itemsOf ps)
-counts-each = each-count
+-- the items that the walk over a plan's bytes meets are the items of its form, to the last byte
+pub items-of-plan : (q : Query) → kindsOf (planOf q) ≡ itemsOf q
+items-of-plan = plan-items
 
-pub counts-all : (ps : List (List ℕ)) → AllBytes ps → sumOf (takenAll ps (replicate 256 0)) ≡ length (itemsOf ps)
-counts-all = all-counts
+-- after any series of calls of tally, accepted and refused ones mixed, the counts are the occurrences among the items of the plans that were taken: Counted says what each is
+pub counts-of-series : {C : List ℕ} {m : ℕ} {ps : List (List ℕ)} → Taken C m ps → Counted C m ps
+counts-of-series = series
+
+-- and a refused plan changed nothing
+pub refused-changes-nothing : {plan pool C : List ℕ} {m : ℕ} {o : TallyOutcome} → Tallies plan pool C m o → (o .refusal ≡ 0 → ⊥) → Unchanged C m o
+refused-changes-nothing k z = leaves k z
+
+-- document 02's example, `$.a[1]` alone: the kinds that occur, each with its count
+pub document-example : occurring 0 (withPlan (planOf example) (replicate allKinds 0)) ≡ (0x01, 1) ∷ (0x03, 2) ∷ (0x05, 1) ∷ (0x06, 1) ∷ (0x0A, 1) ∷ []
+document-example = example-counts
+
+-- ---- 7. Which slices are standard (W1): which select the indices that RFC 9535's slice selects, in its order, from a list of n.
+-- `Standard` (standards/specs/Slices.antt) asks that the step is not negative, that the list is empty, or that the normalised start is the number of an element.
+
+pub standard-slices : (n : ℕ) (a b c : Option ℤ) → Standard n a c → slicePlaces n a b c ≡ rfcPlaces n a b c
+standard-slices = slices-standard
+
+-- a slice with no start is standard on every list
+pub startless-standard : (n : ℕ) (c : Option ℤ) → Standard n none c
+startless-standard = no-start-standard

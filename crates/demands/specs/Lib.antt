@@ -1,8 +1,17 @@
+pub mod Promises
+pub mod Refusals
+pub mod Walks
+pub mod Firsts
+pub mod Checks
 pub mod Lists
 pub mod Cases
 pub mod Written
 pub mod Running
+pub mod Exactly
+pub mod Rooms
 pub mod Stored
 pub mod Served
 pub mod Selected
+pub mod Series
 pub mod Demands
+pub mod Refused

@@ -10,17 +10,7 @@ use lib.Dec.{leb}
 use lib.ListN.{length, take, drop, drop-of-length-le}
 use lib.Seq.{sets, sets-eq, length-take-le}
 use Rattle.definition.specs.Outcomes.{RunOutcome, refuseRun, place, placeFrom}
-
--- The outcome for the selected nodes ns, the lent list L and the start position at. There is one for each of the three cases.
-pub data Listed (ns L : List ℕ) (at : ℕ) : RunOutcome → Type 0 where
-  -- the nodes fit: they stand from the start position on, and no other place changes
-  listed : at + length ns ≤ length L
-      → Listed ns L at (record { refusal = 0; count = length ns; node = 0; places = take at L ++ ns ++ drop (at + length ns) L })
-  -- 13: the first nodes fill every place from the start position on
-  filled : at ≤ length L → length L < at + length ns
-      → Listed ns L at (record { refusal = 13; count = 0; node = 0; places = take at L ++ take (length L - at) ns })
-  -- 14: no place changes
-  beyond : length L < at → Listed ns L at (record { refusal = 14; count = 0; node = 0; places = L })
+use Rattle.demands.specs.Promises.{Listed, listed, filled, beyond}
 
 -- ---- the definition's outcome is of this kind
 

@@ -13,10 +13,8 @@ use Rattle.definition.specs.Outcomes.{Reading, Reads, Translates, spelled, Comp
 use Rattle.definition.specs.Outcomes.Reading.{form}
 use Rattle.keeps.specs.Keeps.{compiled-keeps}
 use Rattle.spelled.specs.One.{checks-one, runs-one}
-use Rattle.readings.specs.Readings.{ReadsOnly, SelectsOnly}
-use Rattle.demands.specs.Lists.{Listed}
+use Rattle.demands.specs.Promises.{ReadsOnly, SelectsOnly, RunsOnly, ChecksPlanOnly, Listed, planIn, poolIn, Holds, Written}
 use Rattle.demands.specs.Cases.{accepted-lists}
-use Rattle.demands.specs.Written.{planIn, poolIn, Holds, Written}
 
 -- ---- plans that translate a form
 
@@ -39,7 +37,7 @@ module _ (q : Query) (T X L : List ℕ) (at : ℕ) where
 
 -- so it is what running the query's plan gives
 pub selects-run : {s T X L : List ℕ} {at : ℕ} {o o′ : RunOutcome} (q : Query) → ReadsOnly s (form q) → Selects s T X L at o → Runs (planOf q) (poolOf q) T X L at o′ → o ≡ o′
-selects-run {s} {T} {X} {L} {at} q r k u = selects-as q T X L at r k ∙ sym (runs-as q T X L at (compiled-keeps s q (r .reads)) u)
+selects-run {s} {T} {X} {L} {at} q r k u = selects-as q T X L at r k ∙ sym (runs-as q T X L at (compiled-keeps s q (r .is)) u)
 
 -- the contract of select leaves what the query's form gives
 pub select-gives : {s T X L : List ℕ} {at : ℕ} {o : RunOutcome} (q : Query) → Reads s (form q) → SelectsOnly s T X L at o → o ≡ runBy (form q) T X L at
@@ -48,6 +46,14 @@ select-gives {T = T} {X = X} {L = L} {at = at} q r k = sym (k .only (runBy (form
 -- the plan of a query: every outcome of a run is the definition's, and the definition's is one
 pub runs-iff : {s : List ℕ} (q : Query) → Reads s (form q) → (T X L : List ℕ) (at : ℕ) (o : RunOutcome) → Runs (planOf q) (poolOf q) T X L at o ↔ (o ≡ runBy (form q) T X L at)
 runs-iff {s} q r T X L at o = (λ u. runs-as q T X L at (compiled-keeps s q r) u, λ e. subst (Runs (planOf q) (poolOf q) T X L at) (sym e) (runs-form q T X L at (compiled-keeps s q r)))
+
+-- ---- what a plan and a pool spell settles plan check and run: their contracts need not say that there is one outcome
+
+pub runs-settled : {plan pool T X L : List ℕ} {at : ℕ} {o : RunOutcome} → Runs plan pool T X L at o → RunsOnly plan pool T X L at o
+runs-settled r = record { is = r; only = λ o u. runs-one u r }
+
+pub checks-settled : {plan pool : List ℕ} {n : ℕ} → ChecksPlan plan pool n → ChecksPlanOnly plan pool n
+checks-settled k = record { is = k; only = λ m u. checks-one u k }
 
 -- ---- the bytes that compile left in its rooms
 

@@ -3,27 +3,14 @@
 use Prim.Native.Nat.{ℕ}
 use mathlib.Core.Path.{_≡_, refl, sym, subst}
 use mathlib.Core.List.{List, [], _∷_}
-use Rattle.definition.specs.Outcomes.{CompileOutcome, RunOutcome, Runs, Selects, runBy}
+use Rattle.definition.specs.Outcomes.{CompileOutcome, RunOutcome, Runs, runBy}
 use Rattle.definition.specs.Outcomes.Reading.{form}
-use Rattle.definition_examples.specs.Texts.{bytes}
-use Rattle.definition_examples.specs.Sample.{sampleTable, sampleText}
 use Rattle.definition_examples.specs.Gives.{Gives}
 use Rattle.definition_examples.specs.Rows.{Row, AllGive, starredRows, starred}
-use Rattle.readings.specs.Readings.{CompilesOnly, SelectsOnly}
-use Rattle.demands.specs.Lists.{Listed}
+use Rattle.demands.specs.Promises.{CompilesOnly, SelectsOnly, Listed, planIn, poolIn, Answers, AllAnswer}
 use Rattle.demands.specs.Cases.{accepted-lists}
-use Rattle.demands.specs.Written.{planIn, poolIn, only-holds}
+use Rattle.demands.specs.Written.{only-holds}
 use Rattle.demands.specs.Running.{select-gives, held-runs}
-
--- A row's bytes s and nodes ns on a table T with the text X, for every list and start position.
-pub record Answers (s T X ns : List ℕ) : Type 0 where
-  -- select has an outcome that lists the nodes
-  pub some : (L : List ℕ) (at : ℕ) → (o : RunOutcome) × Selects s T X L at o × Listed ns L at o
-  -- and it is what select answers
-  pub select : (L : List ℕ) (at : ℕ) (o : RunOutcome) → SelectsOnly s T X L at o → Listed ns L at o
-  -- what compile wrote, where it succeeds, runs so too
-  pub run : (P R : List ℕ) (c : CompileOutcome) → CompilesOnly s P R c → c .refusal ≡ 0 → (L : List ℕ) (at : ℕ) (o : RunOutcome)
-      → Runs (planIn c) (poolIn c) T X L at o → Listed ns L at o
 
 module _ {s T X ns : List ℕ} (g : Gives s T X ns) where
   -- the definition's outcome for the row's form
@@ -44,11 +31,6 @@ module _ {s T X ns : List ℕ} (g : Gives s T X ns) where
   row-answers = record { some = λ L at. (runBy (form (g .query)) T X L at, record { reading = form (g .query); reads = g .reads; is = refl }, lists L at); select = selects; run = runs }
 
 -- ---- the rows
-
--- every row of a table of rows, on the sample table
-abbrev pub AllAnswer : List Row → Type 0
-AllAnswer [] = Unit {0}
-AllAnswer (r ∷ rs) = Answers (bytes (r .query)) sampleTable sampleText (r .nodes) × AllAnswer rs
 
 all-answer : (rs : List Row) → AllGive rs → AllAnswer rs
 all-answer [] g = tt

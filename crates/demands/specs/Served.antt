@@ -17,10 +17,10 @@ use Rattle.definition.specs.Forms.Literal.{integer}
 use Rattle.definition.specs.Tables.{checkTable, tree}
 use Rattle.definition.specs.Tables.Checked.{accepted}
 use Rattle.definition.specs.Evaluation.{selected}
-use Rattle.definition.specs.Outcomes.{Translates, RunOutcome, Runs}
+use Rattle.definition.specs.Outcomes.{Translates}
 use Rattle.definition_examples.specs.Sample.{root as rootMap, listA, textB, ten, twenty, thirty, sampleTable, sampleText}
 use Rattle.definition_examples.specs.Computes.{computes}
-use Rattle.demands.specs.Lists.{Listed}
+use Rattle.demands.specs.Promises.{Listed, Version, Serves, AllServed}
 use Rattle.demands.specs.Running.{runs-list}
 
 -- ---- the plan
@@ -55,11 +55,6 @@ nullThere = 0x00 ∷ 0x02 ∷ 0x00 ∷ 0x00 ∷ 0x00 ∷ 0x00 ∷ 0x00 ∷ 0x00 
 abbrev integerThere : List ℕ
 integerThere = 0x03 ∷ 0x01 ∷ 0x00 ∷ 0x00 ∷ 0x00 ∷ 0x00 ∷ 0x00 ∷ 0x00 ∷ 0x01 ∷ 0x00 ∷ 0x00 ∷ 0x00 ∷ 0x00 ∷ 0x00 ∷ 0x00 ∷ 0x00 ∷ 0x28 ∷ 0x00 ∷ 0x00 ∷ 0x00 ∷ 0x00 ∷ 0x00 ∷ 0x00 ∷ 0x00 ∷ []
 
--- a table, and the nodes that the plan selects from it
-pub record Version : Type 0 where
-  pub table : List ℕ
-  pub nodes : List ℕ
-
 abbrev version : List ℕ → List ℕ → Version
 version T ns = record { table = T; nodes = ns }
 
@@ -78,14 +73,6 @@ versions =
     []
 
 -- ---- the test
-
--- what every run of the plan on a table leaves in every list
-abbrev pub Serves : List ℕ → List ℕ → Version → Type 0
-Serves plan pool v = (L : List ℕ) (at : ℕ) (o : RunOutcome) → Runs plan pool (v .table) sampleText L at o → Listed (v .nodes) L at o
-
-abbrev pub AllServed : List ℕ → List ℕ → List Version → Type 0
-AllServed plan pool [] = Unit {0}
-AllServed plan pool (v ∷ vs) = Serves plan pool v × AllServed plan pool vs
 
 -- a version, from the two things that are computed for it
 serves : {q : Query} {plan pool : List ℕ} (v : Version) → Translates q plan pool → checkTable (v .table) sampleText ≡ accepted → selected q (tree (v .table) sampleText) ≡ v .nodes → Serves plan pool v

@@ -1,89 +1,24 @@
 -- What compile writes where it succeeds: the plan and the pool of the query's form, in the first bytes of the two rooms, and nothing behind them.
 -- Assumes nothing.
-use Prim.Native.Nat.{ℕ, zero, suc, _≤_}
+use Prim.Native.Nat.{ℕ, _≤_}
 use native.Mathlib.Omega.{arith}
 use mathlib.Core.Path.{_≡_, refl, ap, sym, _∙_, subst}
-use mathlib.Core.Bool.{Bool, true, false}
 use mathlib.Core.List.{List}
-use lib.ListN.{length, take, drop}
+use lib.ListN.{length, drop}
 use lib.Seq.{take-append-seam, drop-append-seam}
 use Rattle.definition.specs.Limits.{maxPlan}
-use Rattle.definition.specs.Grammar as G
 use Rattle.definition.specs.Forms.{Query}
 use Rattle.definition.specs.Plans.{planOf, poolOf}
-use Rattle.definition.specs.Walk.{walk}
-use Rattle.definition.specs.Outcomes.{Reading, Reads, CompileOutcome, Compiles, judge, compileBy}
+use Rattle.definition.specs.Outcomes.{Reading, Reads, CompileOutcome, Compiles, compileBy}
 use Rattle.definition.specs.Outcomes.Reading.{refused, form}
-use Rattle.definition.specs.Outcomes.Reads.{tooEarly, noTree, hasTree}
-use Rattle.writing.specs.Effects.{Effect}
-use Rattle.writing.specs.Writes.{writeQuery}
-use Rattle.writing.specs.Agrees.{Agreed, agrees}
-use Rattle.keeps.specs.Fits.{not-refused}
 use Rattle.keeps.specs.Keeps.{compiled-keeps}
 use Rattle.spelled.specs.One.{translates-one}
-use Rattle.readings.specs.Readings.{ReadsOnly, CompilesOnly}
-use Rattle.demands.specs.Cases.{CompileCase, smallPlan, smallPool, writes, compile-case}
-
--- ---- 0 is no refusal of a query
-
-same-number : {m n : ℕ} → refused m ≡ refused n → m ≡ n
-same-number e = cc
-
--- the walk over a tree refuses by no 0
-walk-refuses : (t : G.Query) (n : ℕ) → judge (walk t) ≡ refused n → n ≡ 0 → ⊥
-walk-refuses t n e z = by-verdict (w .marks .verdict) refl
-  where
-    w : Effect
-    w = writeQuery t 0
-
-    a : Agreed (walk t) w
-    a = agrees t
-
-    other : (m : ℕ) → judge (walk t) ≡ refused (suc m) → ⊥
-    other m f = omega (arith, same-number (sym f ∙ e), z)
-
-    by-beyond : (b : Bool) → w .marks .beyond ≡ b → w .marks .verdict ≡ 0 → w .marks .calls ≡ false → ⊥
-    by-beyond true k v c = other 7 (a .beyond v c k)
-    by-beyond false k v c = not-refused (sym e ∙ a .forms v c k .is)
-
-    by-calls : (b : Bool) → w .marks .calls ≡ b → w .marks .verdict ≡ 0 → ⊥
-    by-calls true k v = other 6 (a .calls v k)
-    by-calls false k v = by-beyond (w .marks .beyond) refl v k
-
-    by-verdict : (m : ℕ) → w .marks .verdict ≡ m → ⊥
-    by-verdict zero v = by-calls (w .marks .calls) refl v
-    by-verdict (suc m) v = other m (a .refuses (omega (arith, v)) ∙ ap refused v)
-
--- nor does any other of the ways to read a query
-refuses-by : {s : List ℕ} {x : Reading} (n : ℕ) → Reads s x → x ≡ refused n → n ≡ 0 → ⊥
-refuses-by n (tooEarly h) e z = h (same-number e ∙ z)
-refuses-by n (noTree h f) e z = omega (arith, same-number e, z)
-refuses-by n (hasTree h t g) e z = walk-refuses t n e z
-
-pub refusal-not-zero : {s : List ℕ} {n : ℕ} → Reads s (refused n) → n ≡ 0 → ⊥
-refusal-not-zero {n = n} r z = refuses-by n r refl z
+use Rattle.demands.specs.Promises.{ReadsOnly, CompilesOnly, CompileCase, Holds, Written}
+use Rattle.demands.specs.Promises.CompileCase.{smallPlan, smallPool, writes}
+use Rattle.demands.specs.Firsts.{refusal-range}
+use Rattle.demands.specs.Cases.{compile-case}
 
 -- ---- what a successful compile writes
-
--- the plan and the pool that an answer leaves in the rooms: as many first bytes as it says
-abbrev pub planIn : CompileOutcome → List ℕ
-planIn c = take (c .planLength) (c .planRoom)
-
-abbrev pub poolIn : CompileOutcome → List ℕ
-poolIn c = take (c .poolLength) (c .poolRoom)
-
--- They are the plan and the pool of the form q, and the bytes behind them are as before.
-pub record Holds (q : Query) (P R : List ℕ) (c : CompileOutcome) : Type 0 where
-  pub plan : planIn c ≡ planOf q
-  pub pool : poolIn c ≡ poolOf q
-  pub behindPlan : drop (c .planLength) (c .planRoom) ≡ drop (c .planLength) P
-  pub behindPool : drop (c .poolLength) (c .poolRoom) ≡ drop (c .poolLength) R
-
--- the form of a query, and that its plan and its pool were written
-pub record Written (s P R : List ℕ) (c : CompileOutcome) : Type 0 where
-  pub query : Query
-  pub reads : Reads s (form query)
-  pub holds : Holds query P R c
 
 -- of the cases only the last has refusal 0
 case-holds : {P R : List ℕ} {q : Query} {c : CompileOutcome} → CompileCase P R (form q) c → c .refusal ≡ 0 → Holds q P R c
@@ -104,7 +39,7 @@ outcome-holds {P} {R} q e z = case-holds (subst (CompileCase P R (form q)) (sym 
 -- and none is that of a refused query
 outcome-refused : {s : List ℕ} {c : CompileOutcome} (n : ℕ) (P R : List ℕ) → Reads s (refused n) → c ≡ compileBy (refused n) P R → c .refusal ≡ 0 → ⊥
 unfolding compileBy
-outcome-refused n P R r e z = refusal-not-zero r (sym (ap (λ (o : CompileOutcome). o .refusal) e) ∙ z)
+outcome-refused n P R r e z = omega (arith, refusal-range r .0, ap (λ (o : CompileOutcome). o .refusal) e, z)
 
 -- a compile that answers refusal 0 wrote the plan and the pool of the query's form
 pub written : {s P R : List ℕ} {c : CompileOutcome} → Compiles s P R c → c .refusal ≡ 0 → Written s P R c
@@ -129,7 +64,7 @@ only-holds {P = P} {R = R} q k r z = outcome-holds q (sym (k .only (compileBy (f
 
 -- So it leaves the query one reading.
 pub written-only : {s P R : List ℕ} {c : CompileOutcome} → CompilesOnly s P R c → c .refusal ≡ 0 → (w : Written s P R c) → ReadsOnly s (form (w .query))
-written-only {s} {P} {R} {c} k z w = record { reads = w .reads; only = only }
+written-only {s} {P} {R} {c} k z w = record { is = w .reads; only = only }
   where
     only : (y : Reading) → Reads s y → y ≡ form (w .query)
     only (refused n) r = absurd (outcome-refused n P R r (sym (k .only (compileBy (refused n) P R) (record { reading = refused n; reads = r; is = refl }))) z)

@@ -4,19 +4,17 @@ use native.Mathlib.Omega.{arith}
 use mathlib.Core.Path.{_≡_, refl, sym, ap, ap₂, _∙_, subst}
 use mathlib.Core.List.{List, []}
 use mathlib.Core.Bool.{Bool, true, false, cond}
-use lib.Dec.{eqb}
 use borrow.Author.Tests.{ne-eqb}
 use Rattle.definition.specs.Bytes.{part}
 use Rattle.definition.specs.Tables.{Checked}
 use Rattle.definition.specs.Tables.Checked.{accepted, sized, wrongAt}
 use Rattle.definition.specs.TableOutcomes.{PartOutcome, partBy, foundPart, refusedPart}
-use Rattle.definition.specs.Outcomes.{RunOutcome, Runs, Selects, ChecksPlan}
+use Rattle.demands.specs.Promises.{Settled, ChecksPlanOnly}
 use Rattle.plan.specs.Checks.{refusal}
 use Rattle.run.specs.declared.Ran.{Ran}
 use Rattle.run.specs.Outcomes.{ran}
 use Rattle.select.specs.declared.Selection.{Selection}
 use Rattle.select.specs.Selections.{selected}
-use Rattle.spelled.specs.One.{checks-one, runs-one}
 use Rattle.table.specs.Outcomes.{answered}
 use Rattle.exports.specs.Outcomes.{Placed}
 
@@ -59,10 +57,8 @@ module _ (c : Checked) (b : Bool) (X s : List ℕ) (at n k : ℕ) (e : answered 
 
 -- ---- plan check
 
-pub checks-as : {plan pool : List ℕ} {b b' : Bool} → ChecksPlan plan pool (refusal b) → b ≡ b' → ChecksPlan plan pool (refusal b') × ((n : ℕ) → ChecksPlan plan pool n → n ≡ refusal b')
-checks-as {plan} {pool} {b' = b'} a e =
-    let k : ChecksPlan plan pool (refusal b') = subst (λ (x : Bool). ChecksPlan plan pool (refusal x)) e a in
-    (k, λ n m. checks-one m k)
+pub checks-as : {plan pool : List ℕ} {b b' : Bool} → ChecksPlanOnly plan pool (refusal b) → b ≡ b' → ChecksPlanOnly plan pool (refusal b')
+checks-as {plan} {pool} a e = subst (λ (x : Bool). ChecksPlanOnly plan pool (refusal x)) e a
 
 -- ---- run and select
 
@@ -70,13 +66,9 @@ checks-as {plan} {pool} {b' = b'} a e =
 pub tells : {r r' : Ran} → r ≡ r' → (L : List ℕ) → ran r' L ≡ ran r L
 tells e L = ap (λ (x : Ran). ran x L) (sym e)
 
-module _ {plan pool T X L : List ℕ} {at : ℕ} {o o' : RunOutcome} where
-  pub runs-as : Runs plan pool T X L at o → o' ≡ o → Runs plan pool T X L at o' × ((x : RunOutcome) → Runs plan pool T X L at x → x ≡ o')
-  runs-as a e = (subst (Runs plan pool T X L at) (sym e) a, λ x b. runs-one b a ∙ sym e)
-
-module _ {s T X L : List ℕ} {at : ℕ} {o o' : RunOutcome} where
-  pub selects-as : Selects s T X L at o → ((x : RunOutcome) → Selects s T X L at x → x ≡ o) → o' ≡ o → Selects s T X L at o' × ((x : RunOutcome) → Selects s T X L at x → x ≡ o')
-  selects-as a only e = (subst (Selects s T X L at) (sym e) a, λ x b. only x b ∙ sym e)
+-- the one outcome, by another name
+pub settled-as : {A : Type 0} {F : A → Type 0} {o o' : A} → Settled F o → o' ≡ o → Settled F o'
+settled-as {F = F} a e = subst (Settled F) (sym e) a
 
 -- what a selection comes to, from the case that it is
 pub selects-told : {r r' : Selection} → r ≡ r' → (L : List ℕ) → selected r' L ≡ selected r L

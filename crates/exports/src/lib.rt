@@ -1,11 +1,7 @@
-// The operations as functions that a C or Rust engine links: plain numbers and slices, each thin over a proved operation, with its contract carried over.
+// The operations as functions that a C or Rust engine links: plain numbers and slices, each thin over the operation of `promises`, with its statement carried over.
 // include/stewpebble.h declares them for C.
-ghost use mathlib.Core.Path.{_≡_};
-ghost use Prim.Native.Nat.{ℕ};
-ghost use Rattle.definition.specs.TableOutcomes.{tableOutcome, textOutcome, keyOutcome};
-ghost use Rattle.definition.specs.Outcomes.{CompileOutcome, Compiles, RunOutcome, Runs, Selects, ChecksPlan};
+ghost use Rattle.demands.specs.Promises.{CompilesOnly, SelectsOnly, RunsOnly, ChecksPlanOnly, ChecksTableOnly, TextOnly, KeyOnly, TalliesOnly};
 ghost use Rattle.table.specs.Outcomes.{answered};
-ghost use Rattle.tallies.specs.Tallies.{TallyOutcome, Tallies};
 ghost use Rattle.tally.specs.Counts.{tallied};
 ghost use Rattle.definition.specs.Bytes.{part};
 ghost use Rattle.definition.specs.Tables.{lowWord, highWord, keyStart, keyLength};
@@ -18,9 +14,9 @@ use table::records;
 // Table check: the refusal, 0 for none; the node of refusal 10 is set, and 0 otherwise.
 #[no_mangle]
 pub extern "C" fn stewpebble_check_table(table: &[u8], text: &[u8], node: &mut u64) -> u32
-    ensures { λ r. ⌜ told r (now (node .exit)) ≡ tableOutcome (now (table .entry)) (now (text .entry)) ⌝ }
+    ensures { λ r. ⌜ ChecksTableOnly (now (table .entry)) (now (text .entry)) (told r (now (node .exit))) ⌝ }
 {
-    match table::check_table(table, text) {
+    match promises::check_table(table, text) {
         TableChecked::Accepted => {
             *node = 0;
             0
@@ -45,11 +41,11 @@ pub extern "C" fn stewpebble_text_of_node(
     start: &mut u64,
     length: &mut u64,
 ) -> u32
-    ensures answers { λ r. ⌜ answered (part (now (text .entry)) (now (start .exit)) (now (length .exit))) r ≡ textOutcome (now (table .entry)) (now (text .entry)) node ⌝ }
+    ensures answers { λ r. ⌜ TextOnly (now (table .entry)) (now (text .entry)) node (answered (part (now (text .entry)) (now (start .exit)) (now (length .exit))) r) ⌝ }
     ensures place { λ r. ⌜ Placed r (lowWord (now (table .entry)) node) (highWord (now (table .entry)) node) (now (start .exit)) (now (length .exit)) ⌝ }
 {
     let mut number = 0u8;
-    table::text_of_node(table, text, node, &mut number);
+    promises::text_of_node(table, text, node, &mut number);
     if number != 0 {
         *start = 0;
         *length = 0;
@@ -69,11 +65,11 @@ pub extern "C" fn stewpebble_key_of_node(
     start: &mut u64,
     length: &mut u64,
 ) -> u32
-    ensures answers { λ r. ⌜ answered (part (now (text .entry)) (now (start .exit)) (now (length .exit))) r ≡ keyOutcome (now (table .entry)) (now (text .entry)) node ⌝ }
+    ensures answers { λ r. ⌜ KeyOnly (now (table .entry)) (now (text .entry)) node (answered (part (now (text .entry)) (now (start .exit)) (now (length .exit))) r) ⌝ }
     ensures place { λ r. ⌜ Placed r (keyStart (now (table .entry)) node) (keyLength (now (table .entry)) node) (now (start .exit)) (now (length .exit)) ⌝ }
 {
     let mut number = 0u8;
-    table::key_of_node(table, text, node, &mut number);
+    promises::key_of_node(table, text, node, &mut number);
     if number != 0 {
         *start = 0;
         *length = 0;
@@ -93,10 +89,9 @@ pub extern "C" fn stewpebble_compile(
     planned: &mut u64,
     pooled: &mut u64,
 ) -> u32
-    ensures answers { λ r. ⌜ Compiles (now (query .entry)) (now (plan .entry)) (now (pool .entry)) (compiled r (now (planned .exit)) (now (pooled .exit)) (now (plan .exit)) (now (pool .exit))) ⌝ }
-    ensures only { λ r. ⌜ ((o : CompileOutcome) → Compiles (now (query .entry)) (now (plan .entry)) (now (pool .entry)) o → o ≡ compiled r (now (planned .exit)) (now (pooled .exit)) (now (plan .exit)) (now (pool .exit))) ⌝ }
+    ensures { λ r. ⌜ CompilesOnly (now (query .entry)) (now (plan .entry)) (now (pool .entry)) (compiled r (now (planned .exit)) (now (pooled .exit)) (now (plan .exit)) (now (pool .exit))) ⌝ }
 {
-    let c = compile::compile(query, plan, pool);
+    let c = promises::compile(query, plan, pool);
     *planned = c.plan as u64;
     *pooled = c.pool as u64;
     c.refusal as u32
@@ -105,10 +100,9 @@ pub extern "C" fn stewpebble_compile(
 // Plan check: 11, or 0 where the plan and the pool are the translation of a query form.
 #[no_mangle]
 pub extern "C" fn stewpebble_check_plan(plan: &[u8], pool: &[u8]) -> u32
-    ensures answers { λ r. ⌜ ChecksPlan (now (plan .entry)) (now (pool .entry)) r ⌝ }
-    ensures only { λ r. ⌜ ((n : ℕ) → ChecksPlan (now (plan .entry)) (now (pool .entry)) n → n ≡ r) ⌝ }
+    ensures { λ r. ⌜ ChecksPlanOnly (now (plan .entry)) (now (pool .entry)) r ⌝ }
 {
-    if plan::check_plan(plan, pool) {
+    if promises::check_plan(plan, pool) {
         return 0;
     }
     11
@@ -122,10 +116,9 @@ pub extern "C" fn stewpebble_tally(
     counts: &mut [u64; 256],
     plans: &mut u64,
 ) -> u32
-    ensures answers { λ r. ⌜ Tallies (now (plan .entry)) (now (pool .entry)) (now (counts .entry)) (now (plans .entry)) (tallied r (now (counts .exit)) (now (plans .exit))) ⌝ }
-    ensures only { λ r. ⌜ ((o : TallyOutcome) → Tallies (now (plan .entry)) (now (pool .entry)) (now (counts .entry)) (now (plans .entry)) o → o ≡ tallied r (now (counts .exit)) (now (plans .exit))) ⌝ }
+    ensures { λ r. ⌜ TalliesOnly (now (plan .entry)) (now (pool .entry)) (now (counts .entry)) (now (plans .entry)) (tallied r (now (counts .exit)) (now (plans .exit))) ⌝ }
 {
-    tally::tally(plan, pool, counts, plans) as u32
+    promises::tally(plan, pool, counts, plans) as u32
 }
 
 // The numbers of a run's answer: the refusal, 0 for none; the number of nodes selected, and 0 with every refusal; the node of refusal 10, and 0 otherwise.
@@ -162,10 +155,9 @@ pub extern "C" fn stewpebble_run<'a>(
     count: &mut u64,
     node: &mut u64,
 ) -> u32
-    ensures answers { λ r. ⌜ Runs (now (plan .entry)) (now (pool .entry)) (now (table .entry)) (now (text .entry)) (now (list .entry)) start (ranTo r (now (count .exit)) (now (node .exit)) (now (list .exit))) ⌝ }
-    ensures only { λ r. ⌜ ((o : RunOutcome) → Runs (now (plan .entry)) (now (pool .entry)) (now (table .entry)) (now (text .entry)) (now (list .entry)) start o → o ≡ ranTo r (now (count .exit)) (now (node .exit)) (now (list .exit))) ⌝ }
+    ensures { λ r. ⌜ RunsOnly (now (plan .entry)) (now (pool .entry)) (now (table .entry)) (now (text .entry)) (now (list .entry)) start (ranTo r (now (count .exit)) (now (node .exit)) (now (list .exit))) ⌝ }
 {
-    let ran = run::run(plan, pool, table, text, list, start);
+    let ran = promises::run(plan, pool, table, text, list, start);
     tell(ran, count, node)
 }
 
@@ -180,10 +172,9 @@ pub extern "C" fn stewpebble_select<'a>(
     count: &mut u64,
     node: &mut u64,
 ) -> u32
-    ensures answers { λ r. ⌜ Selects (now (query .entry)) (now (table .entry)) (now (text .entry)) (now (list .entry)) start (ranTo r (now (count .exit)) (now (node .exit)) (now (list .exit))) ⌝ }
-    ensures only { λ r. ⌜ ((o : RunOutcome) → Selects (now (query .entry)) (now (table .entry)) (now (text .entry)) (now (list .entry)) start o → o ≡ ranTo r (now (count .exit)) (now (node .exit)) (now (list .exit))) ⌝ }
+    ensures { λ r. ⌜ SelectsOnly (now (query .entry)) (now (table .entry)) (now (text .entry)) (now (list .entry)) start (ranTo r (now (count .exit)) (now (node .exit)) (now (list .exit))) ⌝ }
 {
-    match select::select(query, table, text, list, start) {
+    match promises::select(query, table, text, list, start) {
         Selection::Refused(refusal) => {
             *count = 0;
             *node = 0;

@@ -2,13 +2,17 @@
 // in two hexadecimal digits, a blank and how often it occurs; at last `plans`, a blank and how many plans were taken.
 //
 // A line ends at a line feed, and the last one may lack it. A query that is refused is passed over.
+ghost use mathlib.Core.Path.{_≡_};
+ghost use Prim.Native.Nat.{_≤_};
+ghost use lib.ListN.{length};
+use compile::Compiled;
 use console::output;
 use tally::KINDS;
 
 // Room for one byte more than a query may have: of a longer line so many bytes are taken, and the query is refused by its length all the same.
 const QUERY_ROOM: usize = 4097;
-// Rooms for the plan and the pool of every query.
-const PLAN_ROOM: usize = 61440;
+// Rooms for the plan and the pool of every query: 13 bytes of plan for each of a query's 4,096 bytes at most, and one of pool.
+const PLAN_ROOM: usize = 53248;
 
 const POOL_ROOM: usize = 4096;
 // How many lines are taken at most.
@@ -46,11 +50,19 @@ fn show(counts: [u64; KINDS]) {
     }
 }
 
+// Compiles a query. The rooms are never too small, so no query is passed over for them.
+fn compile_query(query: &[u8], plan: &mut [u8], pool: &mut [u8]) -> Compiled
+    requires { ⌜ (53248 ≤ length (now plan)) × (4096 ≤ length (now pool)) ⌝ }
+    ensures { λ r. ⌜ (r .refusal ≡ 12 → ⊥) ⌝ }
+{
+    compile::compile(query, plan, pool)
+}
+
 // Takes the plan of a query.
 fn take(query: &[u8], counts: &mut [u64; KINDS], plans: &mut u64) {
     let mut plan = [0u8; PLAN_ROOM];
     let mut pool = [0u8; POOL_ROOM];
-    let c = compile::compile(query, &mut plan, &mut pool);
+    let c = compile_query(query, &mut plan, &mut pool);
     if c.refusal != 0 {
         return;
     }

@@ -2,6 +2,7 @@
 use crate::list_calls;
 use crate::plan_calls;
 use crate::table_calls;
+use crate::tally_calls;
 use console::output;
 use lines::words;
 use lines::words::ByteWord;
@@ -21,6 +22,7 @@ pub enum Call {
     Plan,
     Run,
     Select,
+    Take,
 }
 
 pub fn bad_line() {
@@ -41,6 +43,7 @@ pub fn start(line: &[u8], from: usize, call: Call) {
         Call::Plan => with_plan(line, from, call),
         Call::Run => with_plan(line, from, call),
         Call::Select => with_query(line, from, call),
+        Call::Take => tally_calls::answer(line, from),
     }
 }
 
@@ -140,5 +143,6 @@ fn finish<'a>(
         Call::Select => list_calls::answer(line, from, query, pool, table, text, true),
         Call::Compile => bad_line(),
         Call::Plan => bad_line(),
+        Call::Take => bad_line(),
     }
 }

@@ -8,11 +8,12 @@
 //     plan PLAN POOL                           ok | refused 11
 //     run PLAN POOL TABLE TEXT LENGTH START    ok COUNT PLACES | refused N NODE PLACES
 //     select QUERY TABLE TEXT LENGTH START     ok COUNT PLACES | refused N NODE PLACES
+//     take COUNTS PLANS PLAN POOL              ok COUNTS PLANS | refused N
 //
 // The rooms of compile are the sizes that are lent for the plan and for the pool, at most 65,536 each. Behind its answer stands ` changed` if a lent byte
 // changed that is to keep its value. LENGTH is the length of the list that is lent to run and select, at most 65,535, and START any number. The places
 // of the list are written from the first to the last that the call wrote, with a dot for one that it did not write. Numbers that a refusal's row does not
-// name are 0.
+// name are 0. COUNTS are 256 numbers of eight bytes, little-endian, and PLANS is how many plans were taken.
 //
 // A line that is none of these answers `bad line`; one with a word that does not fit its room answers `too long`.
 //
@@ -20,10 +21,12 @@
 //     list_calls    run and select
 //     plan_calls    compile and plan
 //     table_calls   table, text and key
+//     tally_calls   take
 mod calls;
 mod list_calls;
 mod plan_calls;
 mod table_calls;
+mod tally_calls;
 
 use calls::Call;
 use lines::words;
@@ -59,6 +62,10 @@ fn answer_more(line: &[u8], name: &[u8], from: usize) {
     }
     if parts::same_bytes(name, b"select") {
         call(line, from, Call::Select, 6);
+        return;
+    }
+    if parts::same_bytes(name, b"take") {
+        call(line, from, Call::Take, 5);
         return;
     }
     calls::bad_line();

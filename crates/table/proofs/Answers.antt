@@ -1,12 +1,14 @@
 -- What an answer of the check says of the definition's check, and how a part and a number make an outcome. Assumes nothing.
 use Prim.Native.Nat.{ℕ}
-use mathlib.Core.Path.{_≡_, refl, sym, ap, ap₂, _∙_}
+use mathlib.Core.Path.{_≡_, refl, sym, ap, ap₂, _∙_, subst}
 use mathlib.Core.List.{List, []}
-use mathlib.Core.Bool.{Bool, true, false}
+use mathlib.Core.Bool.{Bool, true, false, cond}
+use borrow.Author.Tests.{eq-eqb, ne-eqb}
 use Rattle.definition.specs.Tables.{checkTable}
 use Rattle.definition.specs.Tables.Checked.{accepted, sized, wrongAt}
 use Rattle.definition.specs.TableOutcomes.{TableOutcome, PartOutcome, reportTable, tableOutcome}
 use Rattle.tables.specs.Outcomes.{report-accepted, report-sized, report-wrong}
+use Rattle.tables.specs.Places.{Begins, partStart}
 use Rattle.table.specs.declared.TableChecked.{TableChecked}
 use Rattle.table.specs.declared.TableChecked.the-variants.{Accepted, WrongSize, WrongNode}
 use Rattle.table.specs.Outcomes.{reported, answered}
@@ -32,3 +34,10 @@ module _ (T X : List ℕ) (r : TableChecked) (h : reported r ≡ tableOutcome T 
 -- a part and a number that are an outcome's are the outcome
 pub answered-is : (o : PartOutcome) (s : List ℕ) (n : ℕ) → s ≡ o .part → n ≡ o .number → answered s n ≡ o
 answered-is o s n p q = ap₂ answered p q
+
+-- where a part begins that was found, and an empty one
+pub begins-found : {p t : ℕ × ℕ} {at : ℕ} (n : ℕ) → n ≡ 0 → Begins p t at → Begins p t (partStart n at)
+begins-found {p} {t} {at} n e b = subst (λ (x : Bool). Begins p t (cond x at 0)) (sym (eq-eqb n 0 e)) b
+
+pub begins-none : {p t : ℕ × ℕ} (n at : ℕ) → (n ≡ 0 → ⊥) → Begins p t 0 → Begins p t (partStart n at)
+begins-none {p} {t} n at e b = subst (λ (x : Bool). Begins p t (cond x at 0)) (sym (ne-eqb n 0 e)) b

@@ -7,9 +7,11 @@
 //   scan       the pass over the nodes
 //   named      the text and the key of a node
 ghost use mathlib.Core.Path.{_≡_};
-ghost use Rattle.definition.specs.Tables.{badSize};
+ghost use Rattle.definition.specs.Tables.{badSize, lowWord, keyStart};
 ghost use Rattle.definition.specs.TableOutcomes.{tableOutcome, textOutcome, keyOutcome};
 ghost use Rattle.table.specs.Outcomes.{reported, answered};
+ghost use Rattle.tables.specs.Places.{Begins, partStart};
+ghost use denote.Ref.{ptr};
 
 mod buckets;
 mod keys;
@@ -62,7 +64,8 @@ pub fn check_table(table: &[u8], text: &[u8]) -> TableChecked
 
 // The text of a node as a part of the lent text, and 0 in the lent number; or an empty part, and the refusal in the number.
 pub fn text_of_node<'a>(table: &[u8], text: &'a [u8], node: usize, number: &mut u8) -> &'a [u8]
-    ensures { λ r. ⌜ answered (now r) (now (number .exit)) ≡ textOutcome (now (table .entry)) (now (text .entry)) node ⌝ }
+    ensures answers { λ r. ⌜ answered (now r) (now (number .exit)) ≡ textOutcome (now (table .entry)) (now (text .entry)) node ⌝ }
+    ensures place { λ r. ⌜ Begins (ptr r) (ptr (text .entry)) (partStart (now (number .exit)) (lowWord (now (table .entry)) node)) ⌝ }
 {
     let refusal = named::text_refusal(table, text, node);
     *number = refusal;
@@ -74,7 +77,8 @@ pub fn text_of_node<'a>(table: &[u8], text: &'a [u8], node: usize, number: &mut 
 
 // The key of a node as a part of the lent text, and 0 in the lent number; or an empty part, and the refusal in the number.
 pub fn key_of_node<'a>(table: &[u8], text: &'a [u8], node: usize, number: &mut u8) -> &'a [u8]
-    ensures { λ r. ⌜ answered (now r) (now (number .exit)) ≡ keyOutcome (now (table .entry)) (now (text .entry)) node ⌝ }
+    ensures answers { λ r. ⌜ answered (now r) (now (number .exit)) ≡ keyOutcome (now (table .entry)) (now (text .entry)) node ⌝ }
+    ensures place { λ r. ⌜ Begins (ptr r) (ptr (text .entry)) (partStart (now (number .exit)) (keyStart (now (table .entry)) node)) ⌝ }
 {
     let refused = named::key_refusal(table, text, node);
     *number = refused;

@@ -6,6 +6,8 @@ ghost use lib.ListN.{length};
 ghost use Rattle.definition.specs.Tables.{nodeCount, keyStart, keyLength, lowWord, highWord, keyBytes, textBytesAt, parentOf};
 ghost use Rattle.definition.specs.TableOutcomes.{hasText, hasKey, textOutcome, keyOutcome};
 ghost use Rattle.tables.specs.Accepted.{Rooted};
+ghost use Rattle.tables.specs.Places.{Begins};
+ghost use denote.Ref.{ptr};
 use crate::TableChecked;
 use crate::records;
 use crate::scan;
@@ -103,7 +105,8 @@ pub fn key_refusal(table: &[u8], text: &[u8], node: usize) -> u8
 // The text of a node, which lies inside the text.
 pub fn text_part<'a>(table: &[u8], text: &'a [u8], node: usize) -> &'a [u8]
     requires { ⌜ (node < nodeCount (now table)) × (lowWord (now table) node + highWord (now table) node ≤ length (now text)) ⌝ }
-    ensures { λ r. ⌜ now r ≡ textBytesAt (now (table .entry)) (now (text .entry)) node ⌝ }
+    ensures bytes { λ r. ⌜ now r ≡ textBytesAt (now (table .entry)) (now (text .entry)) node ⌝ }
+    ensures place { λ r. ⌜ Begins (ptr r) (ptr (text .entry)) (lowWord (now (table .entry)) node) ⌝ }
 {
     let start = records::low_word(table, node) as usize;
     let end = start + records::high_word(table, node) as usize;
@@ -113,7 +116,8 @@ pub fn text_part<'a>(table: &[u8], text: &'a [u8], node: usize) -> &'a [u8]
 // The key of a node, which lies inside the text.
 pub fn key_part<'a>(table: &[u8], text: &'a [u8], node: usize) -> &'a [u8]
     requires { ⌜ (node < nodeCount (now table)) × (keyStart (now table) node + keyLength (now table) node ≤ length (now text)) ⌝ }
-    ensures { λ r. ⌜ now r ≡ keyBytes (now (table .entry)) (now (text .entry)) node ⌝ }
+    ensures bytes { λ r. ⌜ now r ≡ keyBytes (now (table .entry)) (now (text .entry)) node ⌝ }
+    ensures place { λ r. ⌜ Begins (ptr r) (ptr (text .entry)) (keyStart (now (table .entry)) node) ⌝ }
 {
     let start = records::key_start(table, node) as usize;
     let end = start + records::key_length(table, node) as usize;

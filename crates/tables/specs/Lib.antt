@@ -9,3 +9,4 @@ pub mod Sizes
 pub mod Accepted
 pub mod Outcomes
 pub mod Rows
+pub mod Places

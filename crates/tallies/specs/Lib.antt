@@ -1,3 +1,6 @@
 pub mod Items
+pub mod Forms
 pub mod Tallies
+pub mod Meets
 pub mod Series
+pub mod Taken

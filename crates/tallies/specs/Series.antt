@@ -1,17 +1,17 @@
 -- A series of plans: each count is the number of occurrences of its kind in all of them, and the counts add up to their items. Assumes nothing.
 use Prim.Native.Nat.{ℕ, zero, suc, _+_, _≤_, _<_}
 use mathlib.Core.Path.{_≡_, refl, sym, ap, _∙_}
-use mathlib.Core.Bool.{Bool, true, false, cond}
+use mathlib.Core.Bool.{cond}
 use mathlib.Core.List.{List, [], _∷_, _++_}
 use native.Mathlib.Nat.{add-zero, add-suc, suc-add, zero-add, add-assoc}
 use native.Mathlib.Numerals.{one-add}
 use native.Mathlib.Omega.{arith}
 use lib.Dec.{eqb}
-use lib.ListN.{length, drop, getD, replicate, length-replicate, getD-replicate}
+use lib.ListN.{length, getD, replicate, length-replicate, getD-replicate}
 use lib.Seq.{ext-getD}
 use borrow.Author.Tests.{ne-eqb, eqb-true, eqb-false}
 use Rattle.utf8.specs.Bytes.{by-test}
-use Rattle.tallies.specs.Items.{bodyLength, kindsWithin, kindsOf, occurrences}
+use Rattle.tallies.specs.Items.{kindsOf, occurrences}
 use Rattle.tallies.specs.Tallies.{tabulateFrom, sumAt, withPlan}
 
 -- ---- lists by their places
@@ -29,10 +29,10 @@ getD-tabulate i (suc n) (suc j) f h = getD-tabulate (suc i) n j f (omega arith) 
 
 -- ---- one plan behind the other
 
--- the items of all plans
-unfoldable pub itemsOf : List (List ℕ) → List ℕ
-itemsOf [] = []
-itemsOf (p ∷ ps) = kindsOf p ++ itemsOf ps
+-- the kinds of the items of all plans
+unfoldable pub kindsOfAll : List (List ℕ) → List ℕ
+kindsOfAll [] = []
+kindsOfAll (p ∷ ps) = kindsOf p ++ kindsOfAll ps
 
 -- the counts when all of them were taken
 unfoldable pub takenAll : List (List ℕ) → List ℕ → List ℕ
@@ -45,17 +45,17 @@ occurrences-append k [] b = sym (zero-add (occurrences k b))
 occurrences-append k (x ∷ a) b = ap (λ (n : ℕ). cond (eqb k x) 1 0 + n) (occurrences-append k a b) ∙ sym (add-assoc (cond (eqb k x) 1 0) (occurrences k a) (occurrences k b))
 
 -- each count is the number of occurrences of its kind
-pub each-from : (ps : List (List ℕ)) (C : List ℕ) (k : ℕ) → k < 256 → getD (takenAll ps C) k 0 ≡ getD C k 0 + occurrences k (itemsOf ps)
-unfolding takenAll itemsOf occurrences
+pub each-from : (ps : List (List ℕ)) (C : List ℕ) (k : ℕ) → k < 256 → getD (takenAll ps C) k 0 ≡ getD C k 0 + occurrences k (kindsOfAll ps)
+unfolding takenAll kindsOfAll occurrences
 each-from [] C k h = sym (add-zero (getD C k 0))
 each-from (p ∷ ps) C k h =
     each-from ps (withPlan p C) k h
-    ∙ ap (λ (n : ℕ). n + occurrences k (itemsOf ps)) (getD-tabulate 0 256 k (sumAt p C) h ∙ ap (sumAt p C) (zero-add k))
-    ∙ add-assoc (getD C k 0) (occurrences k (kindsOf p)) (occurrences k (itemsOf ps))
-    ∙ ap (λ (n : ℕ). getD C k 0 + n) (sym (occurrences-append k (kindsOf p) (itemsOf ps)))
+    ∙ ap (λ (n : ℕ). n + occurrences k (kindsOfAll ps)) (getD-tabulate 0 256 k (sumAt p C) h ∙ ap (sumAt p C) (zero-add k))
+    ∙ add-assoc (getD C k 0) (occurrences k (kindsOf p)) (occurrences k (kindsOfAll ps))
+    ∙ ap (λ (n : ℕ). getD C k 0 + n) (sym (occurrences-append k (kindsOf p) (kindsOfAll ps)))
 
-pub each-count : (ps : List (List ℕ)) (k : ℕ) → k < 256 → getD (takenAll ps (replicate 256 0)) k 0 ≡ occurrences k (itemsOf ps)
-each-count ps k h = each-from ps (replicate 256 0) k h ∙ ap (λ (n : ℕ). n + occurrences k (itemsOf ps)) (getD-replicate 256 k 0 0 h) ∙ zero-add (occurrences k (itemsOf ps))
+pub each-count : (ps : List (List ℕ)) (k : ℕ) → k < 256 → getD (takenAll ps (replicate 256 0)) k 0 ≡ occurrences k (kindsOfAll ps)
+each-count ps k h = each-from ps (replicate 256 0) k h ∙ ap (λ (n : ℕ). n + occurrences k (kindsOfAll ps)) (getD-replicate 256 k 0 0 h) ∙ zero-add (occurrences k (kindsOfAll ps))
 
 -- ---- all counts together
 
@@ -68,31 +68,10 @@ unfoldable pub Bytes : List ℕ → Type 0
 Bytes [] = Unit {0}
 Bytes (x ∷ l) = (x < 256) × Bytes l
 
-unfoldable pub AllBytes : List (List ℕ) → Type 0
-AllBytes [] = Unit {0}
-AllBytes (p ∷ ps) = Bytes p × AllBytes ps
-
-bytes-drop : (n : ℕ) (s : List ℕ) → Bytes s → Bytes (drop n s)
-unfolding Bytes
-bytes-drop zero s h = h
-bytes-drop (suc n) [] h = h
-bytes-drop (suc n) (x ∷ s) h = bytes-drop n s (h .1)
-
-bytes-kinds : (n : ℕ) (s : List ℕ) → Bytes s → Bytes (kindsWithin n s)
-unfolding Bytes kindsWithin
-bytes-kinds zero s h = tt
-bytes-kinds (suc n) [] h = tt
-bytes-kinds (suc n) (k ∷ s) h = (h .0, bytes-kinds n (drop (bodyLength k) s) (bytes-drop (bodyLength k) s (h .1)))
-
-bytes-append : (a b : List ℕ) → Bytes a → Bytes b → Bytes (a ++ b)
+pub bytes-append : (a b : List ℕ) → Bytes a → Bytes b → Bytes (a ++ b)
 unfolding Bytes
 bytes-append [] b h k = k
 bytes-append (x ∷ a) b h k = (h .0, bytes-append a b (h .1) k)
-
-bytes-items : (ps : List (List ℕ)) → AllBytes ps → Bytes (itemsOf ps)
-unfolding Bytes AllBytes itemsOf
-bytes-items [] h = tt
-bytes-items (p ∷ ps) h = bytes-append (kindsOf p) (itemsOf ps) (bytes-kinds (length p) p (h .0)) (bytes-items ps (h .1))
 
 -- sums place by place
 sum-both : (i n : ℕ) (f g : ℕ → ℕ) → sumOf (tabulateFrom i n (λ k. f k + g k)) ≡ sumOf (tabulateFrom i n f) + sumOf (tabulateFrom i n g)
@@ -133,12 +112,12 @@ unfolding takenAll
 length-taken [] C e = e
 length-taken (p ∷ ps) C e = length-taken ps (withPlan p C) (length-tabulate 0 256 (sumAt p C))
 
-taken-is : (ps : List (List ℕ)) → takenAll ps (replicate 256 0) ≡ tabulateFrom 0 256 (λ k. occurrences k (itemsOf ps))
+taken-is : (ps : List (List ℕ)) → takenAll ps (replicate 256 0) ≡ tabulateFrom 0 256 (λ k. occurrences k (kindsOfAll ps))
 taken-is ps =
     let e = length-taken ps (replicate 256 0) (length-replicate {A = ℕ} 256 0) in
-    ext-getD 0 (takenAll ps (replicate 256 0)) (tabulateFrom 0 256 (λ k. occurrences k (itemsOf ps))) (e ∙ sym (length-tabulate 0 256 (λ k. occurrences k (itemsOf ps))))
-    (λ i h. each-count ps i (omega arith) ∙ sym (getD-tabulate 0 256 i (λ k. occurrences k (itemsOf ps)) (omega arith) ∙ ap (λ (k : ℕ). occurrences k (itemsOf ps)) (zero-add i)))
+    ext-getD 0 (takenAll ps (replicate 256 0)) (tabulateFrom 0 256 (λ k. occurrences k (kindsOfAll ps))) (e ∙ sym (length-tabulate 0 256 (λ k. occurrences k (kindsOfAll ps))))
+    (λ i h. each-count ps i (omega arith) ∙ sym (getD-tabulate 0 256 i (λ k. occurrences k (kindsOfAll ps)) (omega arith) ∙ ap (λ (k : ℕ). occurrences k (kindsOfAll ps)) (zero-add i)))
 
 -- the counts add up to the items of all plans taken
-pub all-counts : (ps : List (List ℕ)) → AllBytes ps → sumOf (takenAll ps (replicate 256 0)) ≡ length (itemsOf ps)
-all-counts ps h = ap sumOf (taken-is ps) ∙ sum-kinds (itemsOf ps) (bytes-items ps h)
+pub all-counts : (ps : List (List ℕ)) → Bytes (kindsOfAll ps) → sumOf (takenAll ps (replicate 256 0)) ≡ length (kindsOfAll ps)
+all-counts ps h = ap sumOf (taken-is ps) ∙ sum-kinds (kindsOfAll ps) h

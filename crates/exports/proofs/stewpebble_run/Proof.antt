@@ -1,6 +1,6 @@
 -- The exported run hands out what `run` answers. Assumes nothing.
 use borrow.Author.Needs.{needs}
-use Rattle.exports.proofs.Answers.{runs-as}
+use Rattle.exports.proofs.Answers.{settled-as}
 use Rattle.exports.proofs.stewpebble_run.Statement.{statement}
 use Rattle.exports.proofs.stewpebble_run.Tie as tie
 
@@ -14,7 +14,7 @@ same-length : tie.Need-same-length
 same-length c = search needs
 
 returns : tie.Need-returns
-returns c = let d = c .before .before .before .before .before .run in runs-as (d .ensures) (c .tell .ensures (d .last .1 .1 .1 .1 .0))
+returns c = let d = c .before .before .before .before .before .run in settled-as (d .ensures) (c .tell .ensures (d .last .1 .1 .1 .1 .0))
 
 pub stewpebble-run-spec : {M : Type 1} → statement M
 stewpebble-run-spec = tie.close (tie.spec run-requires tell-requires same-length returns)

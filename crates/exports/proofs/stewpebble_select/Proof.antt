@@ -3,7 +3,7 @@ use mathlib.Core.Path.{_∙_}
 use borrow.Author.Needs.{needs}
 use Rattle.definition.specs.Outcomes.{refuseRun}
 use Rattle.select.specs.Selections.{selected}
-use Rattle.exports.proofs.Answers.{selects-as, selects-told}
+use Rattle.exports.proofs.Answers.{settled-as, selects-told}
 use Rattle.exports.proofs.stewpebble_select.Statement.{statement}
 use Rattle.exports.proofs.stewpebble_select.Tie as tie
 
@@ -27,7 +27,7 @@ same-length c = search needs
 
 returns : tie.Need-returns
 unfolding selected refuseRun
-returns c = let d = c .before .before .before .before .before .select in selects-as (d .ensures .0) (d .ensures .1) (selects-told (c .before .refusal .given .1) (d .last .1 .1 .1 .0))
+returns c = let d = c .before .before .before .before .before .select in settled-as (d .ensures) (selects-told (c .before .refusal .given .1) (d .last .1 .1 .1 .0))
 
 same-length-2 : tie.Need-same-length-2
 same-length-2 c = search needs
@@ -37,7 +37,7 @@ unfolding selected
 returns-2 c =
     let d = c .before .before .before .before .before .before .before .before .select in
     let l = d .last .1 .1 .1 .0 in
-    selects-as (d .ensures .0) (d .ensures .1) (c .tell .ensures l ∙ selects-told (c .before .before .before .before .ran .given .1) l)
+    settled-as (d .ensures) (c .tell .ensures l ∙ selects-told (c .before .before .before .before .ran .given .1) l)
 
 pub stewpebble-select-spec : {M : Type 1} → statement M
 stewpebble-select-spec =

@@ -1,12 +1,12 @@
 -- The number is the refusal; the part is empty for a refusal, and otherwise the one that was asked for. Assumes nothing.
 use native.Mathlib.Omega.{arith}
-use mathlib.Core.Path.{sym, _∙_}
+use mathlib.Core.Path.{refl, sym, _∙_}
 use mathlib.Core.List.{[]}
 use Rattle.definition.specs.Tables.{checkTable, keyBytes}
 use Rattle.definition.specs.TableOutcomes.{hasKey, keyOutcome}
 use Rattle.tables.specs.Accepted.{accepted-gives}
 use Rattle.tables.specs.Outcomes.{found-whole, refused-empty, key-inside}
-use Rattle.table.proofs.Answers.{answered-is}
+use Rattle.table.proofs.Answers.{answered-is, begins-found, begins-none}
 use borrow.Author.Needs.{needs}
 use Rattle.table.proofs.key_of_node.Statement.{statement}
 use Rattle.table.proofs.key_of_node.Tie as tie
@@ -28,7 +28,7 @@ unfolding keyOutcome
 returns c =
     let a = c .before .before .before .before .before .args in
     let e = c .before .before .key-refusal .ensures in
-    answered-is (keyOutcome (a .table .now) (a .text .now) (a .node)) [] (c .before .before .key-refusal .result) (sym (refused-empty (checkTable (a .table .now) (a .text .now)) (hasKey (a .table .now) (a .node)) (keyBytes (a .table .now) (a .text .now) (a .node)) (λ z. c .before .if1 .taken (e ∙ z)))) e
+    (answered-is (keyOutcome (a .table .now) (a .text .now) (a .node)) [] (c .before .before .key-refusal .result) (sym (refused-empty (checkTable (a .table .now) (a .text .now)) (hasKey (a .table .now) (a .node)) (keyBytes (a .table .now) (a .text .now) (a .node)) (λ z. c .before .if1 .taken (e ∙ z)))) e, begins-none _ _ (c .before .if1 .taken) (record { block = refl; byte = omega arith }))
 
 key-part-requires : tie.Need-key-part-requires
 unfolding keyOutcome
@@ -43,7 +43,7 @@ returns-2 c =
     let a = c .before .before .before .before .before .args in
     let e = c .before .before .key-refusal .ensures in
     let w = found-whole (checkTable (a .table .now) (a .text .now)) (hasKey (a .table .now) (a .node)) (keyBytes (a .table .now) (a .text .now) (a .node)) (sym e ∙ c .before .if1 .left) in
-    answered-is (keyOutcome (a .table .now) (a .text .now) (a .node)) _ (c .before .before .key-refusal .result) (c .key-part .ensures ∙ sym (w .2)) e
+    (answered-is (keyOutcome (a .table .now) (a .text .now) (a .node)) _ (c .before .before .key-refusal .result) (c .key-part .ensures .0 ∙ sym (w .2)) e, begins-found _ (c .before .if1 .left) (c .key-part .ensures .1))
 
 pub key-of-node-spec : {M : Type 1} → statement M
 key-of-node-spec =

@@ -1,12 +1,12 @@
 -- The number is the refusal; the part is empty for a refusal, and otherwise the one that was asked for. Assumes nothing.
 use native.Mathlib.Omega.{arith}
-use mathlib.Core.Path.{sym, _∙_}
+use mathlib.Core.Path.{refl, sym, _∙_}
 use mathlib.Core.List.{[]}
 use Rattle.definition.specs.Tables.{checkTable, textBytesAt}
 use Rattle.definition.specs.TableOutcomes.{hasText, textOutcome}
 use Rattle.tables.specs.Accepted.{accepted-gives}
 use Rattle.tables.specs.Outcomes.{found-whole, refused-empty, text-inside}
-use Rattle.table.proofs.Answers.{answered-is}
+use Rattle.table.proofs.Answers.{answered-is, begins-found, begins-none}
 use borrow.Author.Needs.{needs}
 use Rattle.table.proofs.text_of_node.Statement.{statement}
 use Rattle.table.proofs.text_of_node.Tie as tie
@@ -28,7 +28,7 @@ unfolding textOutcome
 returns c =
     let a = c .before .before .before .before .before .args in
     let e = c .before .before .text-refusal .ensures in
-    answered-is (textOutcome (a .table .now) (a .text .now) (a .node)) [] (c .before .before .text-refusal .result) (sym (refused-empty (checkTable (a .table .now) (a .text .now)) (hasText (a .table .now) (a .node)) (textBytesAt (a .table .now) (a .text .now) (a .node)) (λ z. c .before .if1 .taken (e ∙ z)))) e
+    (answered-is (textOutcome (a .table .now) (a .text .now) (a .node)) [] (c .before .before .text-refusal .result) (sym (refused-empty (checkTable (a .table .now) (a .text .now)) (hasText (a .table .now) (a .node)) (textBytesAt (a .table .now) (a .text .now) (a .node)) (λ z. c .before .if1 .taken (e ∙ z)))) e, begins-none _ _ (c .before .if1 .taken) (record { block = refl; byte = omega arith }))
 
 text-part-requires : tie.Need-text-part-requires
 unfolding textOutcome
@@ -43,7 +43,7 @@ returns-2 c =
     let a = c .before .before .before .before .before .args in
     let e = c .before .before .text-refusal .ensures in
     let w = found-whole (checkTable (a .table .now) (a .text .now)) (hasText (a .table .now) (a .node)) (textBytesAt (a .table .now) (a .text .now) (a .node)) (sym e ∙ c .before .if1 .left) in
-    answered-is (textOutcome (a .table .now) (a .text .now) (a .node)) _ (c .before .before .text-refusal .result) (c .text-part .ensures ∙ sym (w .2)) e
+    (answered-is (textOutcome (a .table .now) (a .text .now) (a .node)) _ (c .before .before .text-refusal .result) (c .text-part .ensures .0 ∙ sym (w .2)) e, begins-found _ (c .before .if1 .left) (c .text-part .ensures .1))
 
 pub text-of-node-spec : {M : Type 1} → statement M
 text-of-node-spec =
