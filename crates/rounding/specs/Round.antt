@@ -17,7 +17,7 @@ use lib.Ieee.Nearest.{closest, nearest-ge}
 use lib.Ieee.Order.{drop, kept}
 use lib.Ieee.Scale.{grid, overflow}
 use Rattle.integers.specs.Compare.{Says, said}
-use Rattle.rounding.specs.Near.{gap, Rounded}
+use Rattle.rounding.specs.Near.{gap, Nearest, Rounded}
 
 -- ---- the whole number nearest to n / u
 
@@ -76,7 +76,7 @@ room : (p j k : ℕ) → 0 < p → j < k → p + j ≤ p - 1 + k
 room p j k P h = omega arith
 
 -- What lies below a number z that is at most n is farther from n than z.
-farther : (g n z y : ℕ) → g ≤ gap n z → z ≤ n → y < z → (g ≤ gap n y) × (g ≡ gap n y → ⊥)
+pub farther : (g n z y : ℕ) → g ≤ gap n z → z ≤ n → y < z → (g ≤ gap n y) × (g ≡ gap n y → ⊥)
 farther g n z y h a c = (omega arith, λ e. omega arith)
 
 module _ (p n b : ℕ) (P : 0 < p) (B : 0 < b) where
@@ -149,26 +149,31 @@ full p n b P B = go (drop p n b) refl
     go zero e = inl e
     go (suc k) e = inr (kept-ge p n b P B (omega arith))
 
--- `round` gives the float nearest to a / b, a tie to the even one, with the sign.
-pub round-nearest : (s : Bool) (a b : ℕ) → 0 < b → grid binary64 a b < overflow binary64 → Rounded (round binary64 s a b) s a b
+-- What `round` keeps, before it is compared with the largest float, is nearest to a / b, a tie to the even one;
+pub grid-nearest : (a b : ℕ) → 0 < b → Nearest a b (grid binary64 a b)
 unfolding Wins
+grid-nearest a b B =
+    let n = a * 2 ^ low binary64 in
+    record {
+      near = λ q k Q. wins 53 n b (omega arith) B q k Q .0;
+      tie =
+          λ q k Q e d.
+          record {
+            q = kept 53 n b;
+            k = drop 53 n b;
+            is = refl;
+            even = wins 53 n b (omega arith) B q k Q .1 e d;
+            fit = kept-le 53 n b (omega arith) B;
+            full = full 53 n b (omega arith) B;
+          };
+    }
+
+-- so `round` gives the float nearest to a / b, with the sign, where that is no overflow.
+pub round-nearest : (s : Bool) (a b : ℕ) → 0 < b → grid binary64 a b < overflow binary64 → Rounded (round binary64 s a b) s a b
 round-nearest s a b B h =
     let n = a * 2 ^ low binary64 in
     record {
       X = grid binary64 a b;
       value = subst (λ (z : Float). HasValue z s (grid binary64 a b) (2 ^ low binary64)) (sym (round-is binary64 s a b)) (units-val binary64 s (kept 53 n b) (drop 53 n b) h);
-      nearest =
-          record {
-            near = λ q k Q. wins 53 n b (omega arith) B q k Q .0;
-            tie =
-                λ q k Q e d.
-                record {
-                  q = kept 53 n b;
-                  k = drop 53 n b;
-                  is = refl;
-                  even = wins 53 n b (omega arith) B q k Q .1 e d;
-                  fit = kept-le 53 n b (omega arith) B;
-                  full = full 53 n b (omega arith) B;
-                };
-          };
+      nearest = grid-nearest a b B;
     }

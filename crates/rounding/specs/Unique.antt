@@ -45,7 +45,7 @@ record Even (X : ℕ) : Type 0 where
   pub full : (k ≡ 0) ⊎ (2 ^ 52 ≤ q)
 
 -- q * 2 ^ k with q = 2 ^ 53 is 2 ^ 52 at the next exponent
-carry : (q k : ℕ) → q ≡ 2 ^ 53 → q * 2 ^ k ≡ 2 ^ 52 * 2 ^ suc k
+pub carry : (q k : ℕ) → q ≡ 2 ^ 53 → q * 2 ^ k ≡ 2 ^ 52 * 2 ^ suc k
 carry q k e = ap (λ (z : ℕ). z * 2 ^ k) e ∙ mul-assoc (2 ^ 52) 2 (2 ^ k) ∙ ap (λ (z : ℕ). 2 ^ 52 * z) (sym (pow-succ' 2 k))
 
 normal : (X : ℕ) → EvenDigits X → Even X
@@ -59,7 +59,7 @@ normal X d = go (eqb (d .q) (2 ^ 53)) refl
         record { q = d .q; k = d .k; is = d .is; even = d .even; fit = omega arith; full = d .full }
 
 -- the magnitude that follows q * 2 ^ k
-next : (q k : ℕ) → q < 2 ^ 53 → Magnitude (suc q * 2 ^ k)
+pub next : (q k : ℕ) → q < 2 ^ 53 → Magnitude (suc q * 2 ^ k)
 next q k h = go (eqb (suc q) (2 ^ 53)) refl
   where
     go : (t : Bool) → eqb (suc q) (2 ^ 53) ≡ t → Magnitude (suc q * 2 ^ k)
@@ -160,7 +160,7 @@ module _ (a b : ℕ) (B : 0 < b) where
 -- ---- the magnitude of a float
 
 -- what a float's digits and exponent are bounded by
-bounded : (s : Bool) (m : ℕ) (e : ℤ) → T (fits binary64 (fin s (suc m) e)) → (suc m < 2 ^ 53) × (down e ≤ 2 ^ 1074)
+pub bounded : (s : Bool) (m : ℕ) (e : ℤ) → T (fits binary64 (fin s (suc m) e)) → (suc m < 2 ^ 53) × (down e ≤ 2 ^ 1074)
 unfolding fits
 bounded s m e t =
     let odd = eqb (suc m % 2) 1 in
@@ -170,7 +170,7 @@ bounded s m e t =
     (ltb→lt (suc m) (2 ^ 53) (and-r odd few (and-l (odd && few) low u)), leb→le (down e) (2 ^ 1074) (and-r (odd && few) low u))
 
 -- 2 ^ j is at most 2 ^ l only if j is at most l
-exponents : (j l : ℕ) → 2 ^ j ≤ 2 ^ l → j ≤ l
+pub exponents : (j l : ℕ) → 2 ^ j ≤ 2 ^ l → j ≤ l
 exponents j l h = go (leb j l) (leb→le j l) (nleb→lt j l)
   where
     go : (t : Bool) → (T t → j ≤ l) → (T (not t) → l < j) → j ≤ l
@@ -201,10 +201,10 @@ magnitude (fin t (suc m) (negsuc k)) s X f h =
 -- ---- the float of a magnitude
 
 -- the bits of a sign and a magnitude
-bitsOf : Bool → ℕ → ℕ
+unfoldable pub bitsOf : Bool → ℕ → ℕ
 bitsOf s X = let k = size X - 53 in cond s (2 ^ 63) 0 + k * 2 ^ 52 + X / 2 ^ k
 
-bits-are : (x : Float) (s : Bool) (X : ℕ) → HasValue x s X (2 ^ 1074) → toBits binary64 x ≡ bitsOf s X
+pub bits-are : (x : Float) (s : Bool) (X : ℕ) → HasValue x s X (2 ^ 1074) → toBits binary64 x ≡ bitsOf s X
 unfolding toBits bitsOf
 bits-are nan s X h = absurd h
 bits-are (inf t) s X h = absurd h
