@@ -1,5 +1,5 @@
--- The numbers that document 01 names as limits, each stated once.
-use Prim.Native.Nat.{ℕ}
+-- The numbers that documents 01 and 02 name as limits, each stated once.
+use Prim.Native.Nat.{ℕ, _^_}
 
 -- refusal 1: "query over 4,096 bytes"
 abbrev pub maxQuery : ℕ
@@ -9,13 +9,19 @@ maxQuery = 4096
 abbrev pub maxBrackets : ℕ
 maxBrackets = 32
 
--- refusal 4, the stop of count and the exact range of float literals: 2^53-1
+-- refusal 4 and the stop of count: 2^53-1
 abbrev pub maxInt : ℕ
 maxInt = 9007199254740991
 
--- "E in -22..22"
-abbrev pub maxPower : ℕ
-maxPower = 22
+-- refusal 8: "N is below ten to the 19", "E is in -342..308"
+abbrev pub literalLimit : ℕ
+literalLimit = 10 ^ 19
+
+abbrev pub minExponent : ℕ
+minExponent = 342
+
+abbrev pub maxExponent : ℕ
+maxExponent = 308
 
 -- refusal 9: "over 65,535 nodes, or text over 16,777,216 bytes"
 abbrev pub maxNodes : ℕ

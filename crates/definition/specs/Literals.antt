@@ -6,8 +6,9 @@ use lib.Dec.{eqb, leb, ltb}
 use lib.IntN.{ℤ, pos, negsuc, negℤ, _-ℤ_, natAbs}
 use lib.Ieee.{binary64, round, toBits}
 use lib.ListN.{length}
-use Rattle.definition.specs.Limits.{maxInt, maxPower}
+use Rattle.definition.specs.Limits.{maxInt, literalLimit, minExponent, maxExponent}
 use Rattle.definition.specs.Utf8.{encode}
+use Rattle.definition.specs.Tables.{isFinite}
 use Rattle.definition.specs.Lexical.{Natural, Digits, Int, Whole, Fraction, Sign, Exponent, Number, Escape, Char, Quote, Text, hex4Value, ownByte, otherByte}
 use Rattle.definition.specs.Lexical.Int.{zeroInt, plainInt, minusInt}
 use Rattle.definition.specs.Lexical.Whole.{intWhole, minusZero}
@@ -77,7 +78,7 @@ inRange z = leb (natAbs z) maxInt
 
 -- ---- number literals
 
--- What a number literal stands for: an integer, a float by its bits, or a float beyond the exact range.
+-- What a number literal stands for: an integer, a float by its bits, or a float beyond the range of literals.
 pub data Numeral : Type 0 where
   integer : ℤ → Numeral
   float : ℕ → Numeral
@@ -108,16 +109,22 @@ unfoldable pub nearest : Bool → ℕ → ℤ → ℕ
 nearest s n (pos e) = toBits binary64 (round binary64 s (n * 10 ^ e) 1)
 nearest s n (negsuc e) = toBits binary64 (round binary64 s n (10 ^ (e + 1)))
 
--- "Accepted iff N is at most 2^53-1 and E in -22..22"
-abbrev pub isExact : ℕ → ℤ → Bool
-isExact n e = leb n maxInt && leb (natAbs e) maxPower
+-- "E is in -342..308": negsuc e is -(e + 1)
+abbrev pub exponentRight : ℤ → Bool
+exponentRight (pos e) = leb e maxExponent
+exponentRight (negsuc e) = ltb e minExponent
+
+-- document 02, W7: "every float literal whose N is below ten to the 19 and whose E is in -342..308", as they are written,
+-- and "what rounds past the largest float stays refused": there the bits of `nearest` are no finite float's
+unfoldable pub isInside : Bool → ℕ → ℤ → Bool
+isInside s n e = ltb n literalLimit && exponentRight e && isFinite (nearest s n e)
 
 unfoldable pub floatBy : Bool → Bool → ℕ → ℤ → Numeral
 floatBy true s n e = float (nearest s n e)
 floatBy false s n e = beyond
 
 unfoldable pub floatNumeral : Bool → ℕ → ℤ → Numeral
-floatNumeral s n e = floatBy (isExact n e) s n e
+floatNumeral s n e = floatBy (isInside s n e) s n e
 
 -- without `.`, `e` and `E`: "inside i64: Int", which makes "-0" Int 0, and otherwise a float
 unfoldable pub wholeNumeral : Bool → ℕ → Numeral

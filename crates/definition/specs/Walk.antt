@@ -1,5 +1,5 @@
 -- The walk over a query's tree in the Rust's order (parser.rs): the first of refusals 4, 5 and 6, or the form of the query.
--- The form has no parentheses, blanks or spellings. Besides it the walk tells whether match or search is called and whether a float literal is beyond the exact range, for refusals 7 and 8.
+-- The form has no parentheses, blanks or spellings. Besides it the walk tells whether match or search is called and whether a float literal is beyond the range of literals, for refusals 7 and 8.
 use Prim.Native.Nat.{ℕ}
 use mathlib.Core.List.{List, [], _∷_}
 use mathlib.Core.Bool.{Bool, true, false, cond, _||_}
@@ -49,7 +49,7 @@ use Rattle.definition.specs.Forms.Function.{countOf, lengthOf, valueOf}
 
 -- ---- what the walk of a part comes to
 
--- A refusal; or what the part stands for, with whether it calls match or search and whether it has a literal beyond the exact range.
+-- A refusal; or what the part stands for, with whether it calls match or search and whether it has a literal beyond the range of literals.
 pub data Walked (A : Type 0) : Type 0 where
   refused : ℕ → Walked A
   walked : (calls beyond : Bool) → A → Walked A
@@ -87,7 +87,7 @@ walkSlice s =
     next (walkBound (s .stop)) (λ b.
     next (walkStep (s .by)) (λ c. fine (slice a b c))))
 
--- A literal beyond the exact range has no form. `null` stands in its place, in a query that refusal 8 keeps from having a form: the crate `laws` (StandIns) proves it.
+-- A literal beyond the range of literals has no form. `null` stands in its place, in a query that refusal 8 keeps from having a form: the crate `laws` (StandIns) proves it.
 unfoldable pub walkNumeral : Numeral → Walked F.Literal
 walkNumeral (Numeral.integer z) = fine (integer z)
 walkNumeral (Numeral.float b) = fine (float b)

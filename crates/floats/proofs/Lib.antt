@@ -1,2 +1,3 @@
 pub mod Operations
 pub mod Powers
+pub mod Places

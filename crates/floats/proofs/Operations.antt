@@ -1,15 +1,14 @@
 -- A product and a quotient of two floats are their exact product and quotient, rounded once. So a whole number times or over a power of ten
--- is the definition's `nearest`, and by the laws of `rounding` it is the nearest float over whole numbers. Assumes nothing.
+-- is the definition's `nearest`. Assumes nothing.
 use mathlib.Core.Path.{_≡_, refl, sym, ap, _∙_, subst}
 use mathlib.Core.Bool.{Bool, true, false, not, cond}
 use Prim.Native.Nat.{ℕ, zero, suc, _+_, _*_, _^_, _≤_, _<_}
 use native.Mathlib.Nat.{le-trans, mul-comm, mul-mul-mul-comm, mul-pos, mul-one, one-mul}
 use native.Mathlib.Numerals.{add-one}
 use native.Mathlib.Omega.{arith}
-use borrow.Author.Tests.{le-leb}
 use lib.Dec.{T, eqb, ltb, le→leb, lit≤, eqb·suc-zero}
 use lib.IntN.{ℤ, pos, negsuc, negℤ}
-use lib.Ieee.{Float, nan, inf, fin, Format, binary64, unlike, up, down, mul, div, neg, round, odd, units, low, prec, emax, ofInt, inFloat, toBits, ofBits, isNan}
+use lib.Ieee.{Float, nan, inf, fin, Format, binary64, unlike, up, down, mul, div, neg, round, odd, units, low, prec, emax, ofInt, inFloat, toBits, isNan}
 use lib.Ieee.Back.{round-whole}
 use lib.Ieee.Bits.{cond-no}
 use lib.Ieee.Exact.{HasValue}
@@ -17,12 +16,9 @@ use lib.Ieee.Fits.{down-pos, round-is}
 use lib.Ieee.Order.{drop, kept}
 use lib.Ieee.Positive.{first-pos}
 use lib.Ieee.Scale.{round-same}
-use Rattle.definition.specs.Limits.{maxInt, maxPower}
-use Rattle.definition.specs.Literals.{nearest, isExact}
-use Rattle.rounding.specs.Near.{Rounded}
-use Rattle.rounding.specs.Decimal.{above, below, nearest-is, nearest-rounded, ten-pos}
-use Rattle.integers.specs.Signed.{signed, size-of}
-use Rattle.floats.specs.Scaled.{Scaled}
+use Rattle.definition.specs.Limits.{maxInt}
+use Rattle.definition.specs.Literals.{nearest}
+use Rattle.rounding.specs.Decimal.{nearest-is, ten-pos}
 
 -- ---- fractions
 
@@ -134,27 +130,9 @@ module _ (s : Bool) (n k : ℕ) (x p : Float) (v : HasValue x s n 1) (w : HasVal
   pub over-number : T (not (isNan (div binary64 x p)))
   over-number = round-number (div binary64 x p) s n (10 ^ k) quotient
 
-  times-nearest : toBits binary64 (mul binary64 x p) ≡ nearest s n (pos k)
+  pub times-nearest : toBits binary64 (mul binary64 x p) ≡ nearest s n (pos k)
   times-nearest = ap (toBits binary64) product ∙ sym (nearest-is s n (pos k))
 
-over-nearest : (s : Bool) (n k : ℕ) (x p : Float) → HasValue x s n 1 → HasValue p false (10 ^ k) 1 → toBits binary64 (div binary64 x p) ≡ nearest s n (negℤ (pos k))
+pub over-nearest : (s : Bool) (n k : ℕ) (x p : Float) → HasValue x s n 1 → HasValue p false (10 ^ k) 1 → toBits binary64 (div binary64 x p) ≡ nearest s n (negℤ (pos k))
 over-nearest s n zero x p v w = ap (toBits binary64) (quotient s n 0 x p v w ∙ ap (λ (z : ℕ). round binary64 s z 1) (sym (mul-one n))) ∙ sym (nearest-is s n (pos 0))
 over-nearest s n (suc k) x p v w = ap (toBits binary64) (quotient s n (suc k) x p v w ∙ ap (λ (z : ℕ). round binary64 s n (10 ^ z)) (sym (add-one k))) ∙ sym (nearest-is s n (negsuc k))
-
--- ---- the float of a literal
-
--- A sign, a number and a power in their ranges are exact.
-exact : (low : Bool) (n k : ℕ) → n ≤ maxInt → k ≤ maxPower → isExact n (signed low k) ≡ true
-exact low n k h l = rw (size-of low k, le-leb n maxInt h, le-leb k maxPower l) refl
-
--- The definition's bits are those of the nearest float.
-scaled : (s : Bool) (n : ℕ) (e : ℤ) (r : ℕ) → isExact n e ≡ true → r ≡ nearest s n e → Scaled s n e r
-scaled s n e r t h = record { is = h; near = subst (λ (z : ℕ). Rounded (ofBits binary64 z) s (above n e) (below e)) (sym h) (nearest-rounded s n e t) }
-
-module _ (s : Bool) (n k : ℕ) (x p : Float) (h : n ≤ maxInt) (l : k ≤ maxPower) (v : HasValue x s n 1) (w : HasValue p false (10 ^ k) 1) where
-  -- N times ten to k, and to -k.
-  pub times-scaled : Scaled s n (signed false k) (toBits binary64 (mul binary64 x p))
-  times-scaled = scaled s n (pos k) (toBits binary64 (mul binary64 x p)) (exact false n k h l) (times-nearest s n k x p v w)
-
-  pub over-scaled : Scaled s n (signed true k) (toBits binary64 (div binary64 x p))
-  over-scaled = scaled s n (negℤ (pos k)) (toBits binary64 (div binary64 x p)) (exact true n k h l) (over-nearest s n k x p v w)

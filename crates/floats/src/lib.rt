@@ -1,14 +1,26 @@
-// The float of a number literal: N as a float, which is exact, times or over an exact power of ten, which rounds once.
-ghost use mathlib.Core.Bool.{false};
-ghost use Prim.Native.Nat.{_^_, _≤_};
+// The float of a number literal. Where N and a power of ten are floats, their product or quotient rounds once; everywhere else the crate `number_nearest` finds the bits.
+ghost use mathlib.Core.Path.{_≡_};
+ghost use mathlib.Core.Bool.{true, false};
+ghost use Prim.Native.Nat.{_+_, _^_, _≤_};
 ghost use lib.Ieee.Exact.{HasValue};
-ghost use Rattle.definition.specs.Limits.{maxInt, maxPower};
+ghost use Rattle.definition.specs.Limits.{maxInt};
+ghost use Rattle.definition.specs.Literals.{nearest, exponentRight};
 ghost use Rattle.integers.specs.Signed.{signed};
-ghost use Rattle.floats.specs.Scaled.{Scaled};
+ghost use Rattle.rounding.specs.Bits.{infinity, signBit};
+ghost use Rattle.floats.specs.Scaled.{Scaled, onePower};
+
+// 2^53-1, the largest whole number of which every smaller one is a float too.
+const MAX_INT: u64 = 9007199254740991;
+// The largest power of ten that is a float.
+const ONE_POWER: usize = 22;
+// The place of ten to 0 among the powers of `number_nearest`.
+const LEAST: usize = 342;
+// 2^63, the bit of the sign.
+const SIGN: u64 = 9223372036854775808;
 
 // Ten to the power of k, by k products. A float holds every one of them exactly, so none of them rounds.
 fn power(k: usize) -> f64
-    requires { ⌜ k ≤ maxPower ⌝ }
+    requires { ⌜ k ≤ onePower ⌝ }
     ensures { λ r. ⌜ HasValue r false (10 ^ k) 1 ⌝ }
 {
     let mut x = 1.0;
@@ -32,10 +44,10 @@ fn whole(negative: bool, n: u64) -> f64
     x
 }
 
-// The bits of the float nearest to n times ten to k, or to -k where `low`, with the sign.
-pub fn nearest(negative: bool, n: u64, low: bool, k: usize) -> u64
-    requires { ⌜ (n ≤ maxInt) × (k ≤ maxPower) ⌝ }
-    ensures { λ r. ⌜ Scaled negative n (signed low k) r ⌝ }
+// The bits of the float nearest to n times ten to k, or to -k where `low`, with the sign: one operation on floats.
+fn once(negative: bool, n: u64, low: bool, k: usize) -> u64
+    requires { ⌜ (n ≤ maxInt) × (k ≤ onePower) ⌝ }
+    ensures { λ r. ⌜ r ≡ nearest negative n (signed low k) ⌝ }
 {
     let x = whole(negative, n);
     let p = power(k);
@@ -43,4 +55,34 @@ pub fn nearest(negative: bool, n: u64, low: bool, k: usize) -> u64
         return f64::to_bits(x / p);
     }
     f64::to_bits(x * p)
+}
+
+// The bits of a magnitude, with the sign.
+fn with_sign(negative: bool, bits: u64) -> u64
+    requires { ⌜ bits ≤ infinity ⌝ }
+    ensures { λ r. ⌜ r ≡ signBit negative + bits ⌝ }
+{
+    if negative {
+        return SIGN + bits;
+    }
+    bits
+}
+
+// The bits of the float nearest to n times ten to k, or to -k where `low`, with the sign; an infinity's past the largest float.
+pub fn nearest(negative: bool, n: u64, low: bool, k: usize) -> u64
+    requires { ⌜ exponentRight (signed low k) ≡ true ⌝ }
+    ensures { λ r. ⌜ Scaled negative n (signed low k) r ⌝ }
+{
+    if n <= MAX_INT {
+        if k <= ONE_POWER {
+            return once(negative, n, low, k);
+        }
+    }
+    if n == 0 {
+        return once(negative, 0, false, 0);
+    }
+    if low {
+        return with_sign(negative, number_nearest::nearest(n, LEAST - k));
+    }
+    with_sign(negative, number_nearest::nearest(n, LEAST + k))
 }

@@ -7,9 +7,8 @@ use mathlib.Core.List.{List, [], _∷_, _++_}
 use mathlib.Core.Bool.{Bool, true, false, cond, _&&_, _||_, and-eq-true-iff, true≢false}
 use lib.Dec.{eqb, leb, ltb, lit<}
 use lib.IntN.{ℤ, pos, negℤ}
-use lib.Ieee.{Float, binary64, ones, hid, top, round, ofBits, ofFields}
+use lib.Ieee.{binary64, round}
 use lib.Ieee.Bits.{toBits-lt}
-use lib.Ieee.Exact.{HasValue}
 use lib.Ieee.Fits.{round-fits}
 use borrow.Author.Tests.{ltb-true, ltb-false, leb-false, eqb-true, eqb-false, lt-ltb}
 use Rattle.definition.specs.Bytes.{every, within}
@@ -20,14 +19,15 @@ use Rattle.definition.specs.Lexical.Exponent.{noExponent, exponent}
 use Rattle.definition.specs.Lexical.Escape.{short, unicode, pair}
 use Rattle.definition.specs.Lexical.Char.{plain, otherQuote, ownQuote, escape}
 use Rattle.definition.specs.Lexical.Quote.{double, single}
-use Rattle.definition.specs.Literals.{shortValue, escapeValue, charBytes, charsBytes, textBytes, Numeral, nearest, isExact, floatBy, floatNumeral, wholeNumeral, numeralOf, numeral}
+use Rattle.definition.specs.Literals.{shortValue, escapeValue, charBytes, charsBytes, textBytes, Numeral, nearest, exponentRight, isInside, floatBy, floatNumeral, wholeNumeral, numeralOf, numeral}
+use Rattle.definition.specs.Limits.{literalLimit}
 use Rattle.definition.specs.Tables.{isFinite}
 use Rattle.definition.specs.QueryForms.{insideI64}
 use Rattle.utf8.specs.Bytes.{by-test, inside, inside-low, inside-high}
 use Rattle.utf8.specs.Encode.{utf8-ascii, utf8-encode, encodeAll-utf8}
 use Rattle.utf8.specs.Decode.{range-scalar}
 use Rattle.utf8.specs.Names.{name-scalar, unescaped-scalar, first-char}
-use Rattle.rounding.specs.Decimal.{above, below, nearest-is, nearest-rounded}
+use Rattle.rounding.specs.Decimal.{above, below, nearest-is}
 use Rattle.keeps.specs.Bools.{and-true, either-true, or-left, or-right}
 
 -- ---- names
@@ -133,30 +133,13 @@ text-utf8 t = chars-utf8 (t .quote) (t .chars)
 
 -- ---- floats
 
--- what has a value has no field of ones
-field-finite : (g s : Bool) (x t X c : ℕ) → x ≤ ones binary64 → HasValue (ofFields binary64 g x t) s X c → ltb x (ones binary64) ≡ true
-unfolding ofFields
-field-finite g s zero t X c l h = refl
-field-finite g s (suc x) t X c l h = by (eqb (suc x) (ones binary64)) (eqb t 0) refl h
-  where
-    by : (a b : Bool) → eqb (suc x) (ones binary64) ≡ a
-        → HasValue (cond a (cond b (Float.inf g) Float.nan) (lib.Ieee.odd 53 g (hid binary64 + t) x (lib.Ieee.low binary64))) s X c → ltb (suc x) (ones binary64) ≡ true
-    by true true e k = absurd k
-    by true false e k = absurd k
-    by false b e k = lt-ltb (suc x) (ones binary64) (omega (arith, eqb-false (suc x) (ones binary64) e))
-
--- so its bits are finite
-bits-finite : (b : ℕ) (s : Bool) (X c : ℕ) → HasValue (ofBits binary64 b) s X c → isFinite b ≡ true
-unfolding isFinite ofBits
-bits-finite b s X c h = field-finite (leb (top binary64) b) s (b % top binary64 / hid binary64) (b % hid binary64) X c (omega arith) h
-
--- a float within the exact range is finite and has 64 bits
-pub float-right : (s : Bool) (n : ℕ) (e : ℤ) → isExact n e ≡ true → (ltb (nearest s n e) (2 ^ 64) && isFinite (nearest s n e)) ≡ true
+-- a float within the range of literals is finite and has 64 bits
+pub float-right : (s : Bool) (n : ℕ) (e : ℤ) → isInside s n e ≡ true → (ltb (nearest s n e) (2 ^ 64) && isFinite (nearest s n e)) ≡ true
+unfolding isInside
 float-right s n e t =
-    let r = nearest-rounded s n e t in
     and-true (ltb (nearest s n e) (2 ^ 64)) (isFinite (nearest s n e))
     (lt-ltb (nearest s n e) (2 ^ 64) (subst (λ (b : ℕ). b < 2 ^ 64) (sym (nearest-is s n e)) (toBits-lt binary64 (round binary64 s (above n e) (below e)) (round-fits binary64 s (above n e) (below e)))))
-    (bits-finite (nearest s n e) s (r .X) (2 ^ 1074) (r .value))
+    (and-eq-true-iff (ltb n literalLimit && exponentRight e) (isFinite (nearest s n e)) .0 t .1)
 
 -- ---- number literals
 
@@ -169,9 +152,9 @@ RightNumeral Numeral.beyond = Unit {0}
 -- a literal with a point or an exponent, and a whole number outside i64
 float-numeral : (s : Bool) (n : ℕ) (e : ℤ) → RightNumeral (floatNumeral s n e)
 unfolding floatNumeral floatBy
-float-numeral s n e = by (isExact n e) refl
+float-numeral s n e = by (isInside s n e) refl
   where
-    by : (b : Bool) → isExact n e ≡ b → RightNumeral (floatBy b s n e)
+    by : (b : Bool) → isInside s n e ≡ b → RightNumeral (floatBy b s n e)
     by true t = float-right s n e t
     by false t = tt
 

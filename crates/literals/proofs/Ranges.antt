@@ -1,4 +1,4 @@
--- What is beyond the exact range, and that a number kept at the limit is beyond it as the number itself is. Assumes nothing.
+-- What is beyond the range of literals, and that a number kept at the limit is beyond it as the number itself is. Assumes nothing.
 use mathlib.Core.Path.{_≡_, refl, sym, ap, _∙_}
 use mathlib.Core.Bool.{Bool, true, false, cond, _&&_, _||_, true≢false}
 use mathlib.Core.Logic.{_⊎_, inl, inr, ⊎-elim}
@@ -6,40 +6,71 @@ use Prim.Native.Nat.{ℕ, zero, suc, _+_, _-_, _^_, _≤_, _<_, min}
 use native.Mathlib.Omega.{arith}
 use borrow.Author.Tests.{le-leb, lt-leb, lt-ltb, le-ltb, leb-true, leb-false}
 use lib.Dec.{leb, ltb, lit<}
-use lib.IntN.{ℤ, pos, natAbs, _-ℤ_}
+use lib.IntN.{ℤ, pos, _-ℤ_}
 use mir.Syntax.{w64}
 use mir.Val.{SFits}
-use Rattle.definition.specs.Limits.{maxInt, maxPower}
-use Rattle.definition.specs.Literals.{integer, float, beyond, floatBy, floatNumeral, wholeNumeral, nearest}
-use Rattle.integers.specs.Signed.{signed, size-of}
+use Rattle.definition.specs.Limits.{literalLimit, minExponent, maxExponent}
+use Rattle.definition.specs.Tables.{isFinite}
+use Rattle.definition.specs.Literals.{integer, float, beyond, exponentRight, isInside, floatBy, floatNumeral, wholeNumeral, nearest}
+use Rattle.integers.specs.Signed.{signed}
 use Rattle.digits.specs.Runs.{limit}
 use Rattle.literals.specs.Values.{numeralBy}
 use Rattle.literals.proofs.Exponents.{down-less, up-less}
 
 -- ---- floats
 
--- An N past the largest is beyond.
-pub wide-beyond : (s : Bool) (n : ℕ) (e : ℤ) → maxInt < n → floatNumeral s n e ≡ beyond
-unfolding floatNumeral floatBy
-wide-beyond s n e h = rw (lt-leb n maxInt h) refl
+-- An N that is not below the limit is beyond.
+pub wide-beyond : (s : Bool) (n : ℕ) (e : ℤ) → literalLimit ≤ n → floatNumeral s n e ≡ beyond
+unfolding floatNumeral floatBy isInside
+wide-beyond s n e h = rw (le-ltb n literalLimit h) refl
 
--- An E past the largest, either way, is beyond.
-pub far-beyond : (s : Bool) (n : ℕ) (e : ℤ) → maxPower < natAbs e → floatNumeral s n e ≡ beyond
-unfolding floatNumeral floatBy
-far-beyond s n e h = rw (lt-leb (natAbs e) maxPower h) (go (leb n maxInt))
+-- An E outside its range is beyond.
+pub far-beyond : (s : Bool) (n : ℕ) (e : ℤ) → exponentRight e ≡ false → floatNumeral s n e ≡ beyond
+unfolding floatNumeral floatBy isInside
+far-beyond s n e h = go (ltb n literalLimit) (exponentRight e) h
   where
-    go : (t : Bool) → floatBy (t && false) s n e ≡ beyond
-    go true = refl
-    go false = refl
+    go : (t u : Bool) → u ≡ false → floatBy (t && u && isFinite (nearest s n e)) s n e ≡ beyond
+    go true true h = absurd (true≢false h)
+    go true false h = refl
+    go false u h = refl
 
--- Between them stands the nearest float.
-pub in-float : (s : Bool) (n : ℕ) (e : ℤ) → n ≤ maxInt → natAbs e ≤ maxPower → floatNumeral s n e ≡ float (nearest s n e)
-unfolding floatNumeral floatBy
-in-float s n e h k = rw (le-leb n maxInt h, le-leb (natAbs e) maxPower k) refl
+-- What rounds past the largest float is beyond.
+pub past-beyond : (s : Bool) (n : ℕ) (e : ℤ) → isFinite (nearest s n e) ≡ false → floatNumeral s n e ≡ beyond
+unfolding floatNumeral floatBy isInside
+past-beyond s n e h = go (ltb n literalLimit && exponentRight e) (isFinite (nearest s n e)) h
+  where
+    go : (t u : Bool) → u ≡ false → floatBy (t && u) s n e ≡ beyond
+    go true true h = absurd (true≢false h)
+    go true false h = refl
+    go false u h = refl
+
+-- Everything else is the nearest float.
+pub in-float : (s : Bool) (n : ℕ) (e : ℤ) → n < literalLimit → exponentRight e ≡ true → isFinite (nearest s n e) ≡ true → floatNumeral s n e ≡ float (nearest s n e)
+unfolding floatNumeral floatBy isInside
+in-float s n e h k f = go (ltb n literalLimit) (exponentRight e) (isFinite (nearest s n e)) (lt-ltb n literalLimit h) k f
+  where
+    go : (t u v : Bool) → t ≡ true → u ≡ true → v ≡ true → floatBy (t && u && v) s n e ≡ float (nearest s n e)
+    go true true true h k f = refl
+    go true true false h k f = absurd (true≢false (sym f))
+    go true false v h k f = absurd (true≢false (sym k))
+    go false u v h k f = absurd (true≢false (sym h))
+
+-- ---- exponents
+
+-- a minus and a magnitude up to 342, or none and one up to 308
+pub low-exponent : (k : ℕ) → exponentRight (signed true k) ≡ leb k minExponent
+low-exponent zero = refl
+low-exponent (suc k) = refl
+
+low-wrong : (k : ℕ) → minExponent < k → exponentRight (signed true k) ≡ false
+low-wrong k h = low-exponent k ∙ lt-leb k minExponent h
+
+high-wrong : (k : ℕ) → maxExponent < k → exponentRight (signed false k) ≡ false
+high-wrong k h = lt-leb k maxExponent h
 
 -- An exponent with a minus is beyond where it or the count of fraction digits is too large.
-pub low-beyond : (s : Bool) (n p x : ℕ) (low : Bool) → low ≡ true → maxPower < x + p → floatNumeral s n (signed low x -ℤ pos p) ≡ beyond
-low-beyond s n p x true e h = far-beyond s n (signed true x -ℤ pos p) (rw (down-less x p, size-of true (x + p)) h)
+pub low-beyond : (s : Bool) (n p x : ℕ) (low : Bool) → low ≡ true → minExponent < x + p → floatNumeral s n (signed low x -ℤ pos p) ≡ beyond
+low-beyond s n p x true e h = far-beyond s n (signed true x -ℤ pos p) (ap exponentRight (down-less x p) ∙ low-wrong (x + p) h)
 low-beyond s n p x false e h = absurd (true≢false (sym e))
 
 -- ---- whole numbers
@@ -60,15 +91,15 @@ minus-fits (suc k) h = record { sfits = h }
 pub plus-fits : (n : ℕ) → n < 2 ^ 63 → SFits w64 (signed false n)
 plus-fits n h = record { sfits = h }
 
--- A whole number past an i64 is past the largest N too.
-pub whole-least : (n : ℕ) → 2 ^ 63 ≤ n → wholeNumeral false n ≡ beyond
+-- A whole number past an i64 is a float.
+pub whole-least : (n : ℕ) → 2 ^ 63 ≤ n → wholeNumeral false n ≡ floatNumeral false n (pos 0)
 unfolding wholeNumeral
-whole-least n h = rw (le-ltb n (2 ^ 63) h) (wide-beyond false n (pos 0) (omega arith))
+whole-least n h = rw (le-ltb n (2 ^ 63) h) refl
 
-pub whole-beyond : (s : Bool) (n : ℕ) → 2 ^ 63 < n → wholeNumeral s n ≡ beyond
+pub whole-past : (s : Bool) (n : ℕ) → 2 ^ 63 < n → wholeNumeral s n ≡ floatNumeral s n (pos 0)
 unfolding wholeNumeral
-whole-beyond false n h = whole-least n (omega arith)
-whole-beyond true n h = rw (lt-leb n (2 ^ 63) h) (wide-beyond true n (pos 0) (omega arith))
+whole-past false n h = whole-least n (omega arith)
+whole-past true n h = rw (lt-leb n (2 ^ 63) h) refl
 
 -- ---- numbers that are kept at the limit
 
@@ -83,19 +114,22 @@ kept n = go (leb n limit) refl
 pub whole-kept : (s : Bool) (n : ℕ) → wholeNumeral s (min limit n) ≡ wholeNumeral s n
 whole-kept s n =
     ⊎-elim (λ (e : min limit n ≡ n). ap (wholeNumeral s) e)
-    (λ (h : (limit ≤ min limit n) × (limit ≤ n)). whole-beyond s (min limit n) (omega arith) ∙ sym (whole-beyond s n (omega arith)))
+    (λ (h : (limit ≤ min limit n) × (limit ≤ n)). past (min limit n) (h .0) ∙ sym (past n (h .1)))
     (kept n)
+  where
+    past : (m : ℕ) → limit ≤ m → wholeNumeral s m ≡ beyond
+    past m h = whole-past s m (omega arith) ∙ wide-beyond s m (pos 0) h
 
 pub digits-kept : (s : Bool) (n : ℕ) (e : ℤ) → floatNumeral s (min limit n) e ≡ floatNumeral s n e
 digits-kept s n e =
     ⊎-elim (λ (h : min limit n ≡ n). ap (λ (z : ℕ). floatNumeral s z e) h)
-    (λ (h : (limit ≤ min limit n) × (limit ≤ n)). wide-beyond s (min limit n) e (omega arith) ∙ sym (wide-beyond s n e (omega arith)))
+    (λ (h : (limit ≤ min limit n) × (limit ≤ n)). wide-beyond s (min limit n) e (h .0) ∙ sym (wide-beyond s n e (h .1)))
     (kept n)
 
 -- An exponent past the limit is far beyond every power, whatever the count of fraction digits.
-far : (low : Bool) (x p : ℕ) → limit ≤ x → p < 2 ^ 63 → maxPower < natAbs (signed low x -ℤ pos p)
-far true x p h l = rw (down-less x p, size-of true (x + p)) (omega arith)
-far false x p h l = rw (up-less x p (omega arith)) (omega arith)
+far : (low : Bool) (x p : ℕ) → limit ≤ x → p < 2 ^ 63 → exponentRight (signed low x -ℤ pos p) ≡ false
+far true x p h l = ap exponentRight (down-less x p) ∙ low-wrong (x + p) (omega arith)
+far false x p h l = ap exponentRight (up-less x p (omega arith)) ∙ high-wrong (x - p) (omega arith)
 
 pub exponent-kept : (s : Bool) (n p : ℕ) (low : Bool) (x : ℕ) → p < 2 ^ 63 → floatNumeral s n (signed low (min limit x) -ℤ pos p) ≡ floatNumeral s n (signed low x -ℤ pos p)
 exponent-kept s n p low x l =

@@ -16,7 +16,7 @@ use lib.Ieee.Order.{drop, kept}
 use lib.Ieee.Scale.{grid, overflow}
 use borrow.Author.Tests.{ltb-true, ltb-false}
 use Rattle.rounding.specs.Near.{Nearest}
-use Rattle.rounding.specs.Round.{kept-le, grid-nearest}
+use Rattle.rounding.specs.Round.{kept-le, full, grid-nearest}
 use Rattle.rounding.specs.Unique.{Magnitude, carry, next, exponents, one-nearest, bitsOf, bits-are}
 use Rattle.rounding.specs.Decided.{Best}
 
@@ -39,6 +39,10 @@ pub kept-steps : (a b c k : ℕ) → 0 < b → Best a b c k → c * 2 ^ k ≡ gr
 kept-steps a b c k B r =
     let n = a * 2 ^ low binary64 in
     one-nearest a b B (c * 2 ^ k) (grid binary64 a b) (capped c k (r .fit)) (capped (kept 53 n b) (drop 53 n b) (kept-le 53 n b (omega arith) B)) (r .nearest) (grid-nearest a b B)
+
+-- What `round` keeps is itself a nearest number of steps.
+pub kept-best : (a b : ℕ) → 0 < b → Best a b (kept 53 (a * 2 ^ low binary64) b) (drop 53 (a * 2 ^ low binary64) b)
+kept-best a b B = let n = a * 2 ^ low binary64 in record { fit = kept-le 53 n b (omega arith) B; full = full 53 n b (omega arith) B; nearest = grid-nearest a b B }
 
 -- ---- the bits of a number of steps
 
@@ -107,7 +111,7 @@ past : (s : Bool) (q k : ℕ) → overflow binary64 ≤ q * 2 ^ k → toBits bin
 unfolding units toBits
 past s q k h = rw (borrow.Author.Tests.le-ltb (q * 2 ^ k) (overflow binary64) h) refl
 
-round-past : (s : Bool) (a b : ℕ) → overflow binary64 ≤ grid binary64 a b → toBits binary64 (round binary64 s a b) ≡ signBit s + infinity
+pub round-past : (s : Bool) (a b : ℕ) → overflow binary64 ≤ grid binary64 a b → toBits binary64 (round binary64 s a b) ≡ signBit s + infinity
 round-past s a b h = let n = a * 2 ^ low binary64 in ap (toBits binary64) (round-is binary64 s a b) ∙ past s (kept 53 n b) (drop 53 n b) h
 
 round-within : (s : Bool) (a b : ℕ) → grid binary64 a b < overflow binary64 → toBits binary64 (round binary64 s a b) ≡ bitsOf s (grid binary64 a b)

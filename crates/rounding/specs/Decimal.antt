@@ -1,26 +1,27 @@
--- The float of a literal: for N at most 2^53-1 and E in -22..22 the definition's `nearest` is the float nearest to N times ten to E, ties to even
--- (document 01: "the value is the float nearest to N times ten to E, ties to even, with the written sign"), and no other bits are. Assumes nothing.
+-- The float of a literal: the definition's `nearest` is the float nearest to N times ten to E, ties to even, with no upper limit, and an infinity
+-- exactly where that is past the largest float (document 01: "the value is the float nearest to N times ten to E, ties to even, with the written sign";
+-- document 02, W7: "what rounds past the largest float stays refused"). No other bits are the nearest float's. Assumes nothing.
 use mathlib.Core.Path.{_≡_, refl, sym, ap, _∙_, subst}
-use mathlib.Core.Bool.{Bool, true, not}
-use Prim.Native.Nat.{ℕ, _+_, _-_, _*_, _/_, _^_, _≤_, _<_}
-use native.Mathlib.Nat.{lt-of-le-of-lt, lt-of-lt-of-le, mul-le-mul, mul-le-mul-left, mul-lt-mul-of-pos-right, div-lt-iff-lt-mul, one-le-pow, pow-le-pow-right}
+use mathlib.Core.Bool.{Bool, true, false, not, true≢false}
+use Prim.Native.Nat.{ℕ, _+_, _*_, _/_, _%_, _^_, _≤_, _<_, min}
+use native.Mathlib.Nat.{le-trans, le-of-eq, lt-of-le-of-lt, lt-of-lt-of-le, not-le-of-lt, one-le-pow}
 use native.Mathlib.Omega.{arith}
-use borrow.Author.Tests.{leb-true}
-use lib.Dec.{T, leb, lit<}
-use lib.IntN.{ℤ, pos, negsuc, natAbs}
-use lib.Pow.{pow-pos, pow-mono}
-use lib.Ieee.{Float, nan, inf, fin, binary64, size, round, toBits, ofBits, isNan}
+use borrow.Author.Tests.{lt-ltb}
+use lib.Dec.{T, leb, leb→le, nleb→lt}
+use lib.IntN.{ℤ, pos, negsuc}
+use lib.Ieee.{Float, nan, inf, fin, binary64, low, round, toBits, ofBits, isNan}
 use lib.Ieee.Bits.{ofBits-toBits, ofBits-fits, toBits-ofBits}
-use lib.Ieee.Digits.{size-le}
 use lib.Ieee.Exact.{HasValue}
 use lib.Ieee.Fits.{round-fits}
-use lib.Ieee.Scale.{grid, overflow}
-use Rattle.integers.specs.Tests.{both}
-use Rattle.definition.specs.Limits.{maxInt, maxPower}
-use Rattle.definition.specs.Literals.{nearest, isExact}
-use Rattle.rounding.specs.Near.{Rounded}
-use Rattle.rounding.specs.Round.{kept-le, round-nearest}
-use Rattle.rounding.specs.Unique.{same-bits}
+use lib.Ieee.Order.{drop, kept}
+use lib.Ieee.Scale.{grid, overflow, round-same}
+use Rattle.definition.specs.Tables.{isFinite}
+use Rattle.definition.specs.Literals.{nearest}
+use Rattle.rounding.specs.Near.{Nearest, Rounded}
+use Rattle.rounding.specs.Round.{grid-nearest, round-nearest}
+use Rattle.rounding.specs.Unique.{Magnitude, magnitude, no-overflow, one-nearest, same-bits}
+use Rattle.rounding.specs.Decided.{Best}
+use Rattle.rounding.specs.Bits.{infinity, signBit, capped, kept-best, under, round-past, round-bits, NearestBits, bits-of-round}
 
 -- N times ten to E is the fraction above / below
 abbrev pub above : ℕ → ℤ → ℕ
@@ -44,44 +45,79 @@ pub below-pos : (e : ℤ) → 0 < below e
 below-pos (pos e) = omega arith
 below-pos (negsuc e) = ten-pos (e + 1)
 
--- ---- no literal overflows
+-- The bits of the nearest float, with the bit of the sign.
+pub nearest-bits : (s : Bool) (n : ℕ) (e : ℤ) (r : ℕ) → NearestBits (above n e) (below e) r → nearest s n e ≡ signBit s + r
+nearest-bits s n e r b = nearest-is s n e ∙ bits-of-round s (above n e) (below e) r (below-pos e) b
 
--- what `isExact` says
-pub exact : (n : ℕ) (e : ℤ) → isExact n e ≡ true → (n ≤ maxInt) × (natAbs e ≤ maxPower)
-exact n e t =
-    let b = both (leb n maxInt) (leb (natAbs e) maxPower) t in
-    (leb-true n maxInt (b .0), leb-true (natAbs e) maxPower (b .1))
+-- Nothing times a power of ten is nothing, whatever the power.
+pub nearest-zero : (s : Bool) (d e : ℤ) → nearest s 0 d ≡ nearest s 0 e
+nearest-zero s d e =
+    nearest-is s 0 d ∙ ap (toBits binary64) (round-same binary64 s (above 0 d) (below d) (above 0 e) (below e) (below-pos d) (below-pos e) (nothing d e)) ∙ sym (nearest-is s 0 e)
+  where
+    zero-above : (d : ℤ) → above 0 d ≡ 0
+    zero-above (pos d) = native.Mathlib.Nat.zero-mul (10 ^ d)
+    zero-above (negsuc d) = refl
 
--- the numerator of an exact literal is small
-small : (n : ℕ) (e : ℤ) → n ≤ maxInt → natAbs e ≤ maxPower → above n e < 2 ^ 128
-small n (pos e) h k = lt-of-le-of-lt (mul-le-mul h (pow-le-pow-right (omega arith) k)) (lit< {m = maxInt * 10 ^ maxPower} {n = 2 ^ 128} tt)
-small n (negsuc e) h k = lt-of-le-of-lt h (lit< tt)
+    nothing : (d e : ℤ) → above 0 d * below e ≡ above 0 e * below d
+    nothing d e =
+        ap (λ (z : ℕ). z * below e) (zero-above d) ∙ native.Mathlib.Nat.zero-mul (below e) ∙ sym (ap (λ (z : ℕ). z * below d) (zero-above e) ∙ native.Mathlib.Nat.zero-mul (below d))
 
-few : (z : ℕ) → z ≤ 1202 → z - 53 ≤ 1149
-few z h = omega arith
+-- ---- an overflow shows in the bits
 
--- nothing below 2 ^ 128 rounds to an overflow
-in-range : (a b : ℕ) → 0 < b → a < 2 ^ 128 → grid binary64 a b < overflow binary64
-in-range a b B h =
-    let n = a * 2 ^ 1074 in
-    let w : n < 2 ^ 1202 * b = lt-of-lt-of-le (mul-lt-mul-of-pos-right h (pow-pos 1074)) (mul-le-mul-left (2 ^ 1202) B) in
-    let z : size (n / b) ≤ 1202 = size-le (n / b) 1202 (div-lt-iff-lt-mul B .1 w) in
-    lt-of-le-of-lt (mul-le-mul (kept-le 53 n b (omega arith) B) (pow-mono (few (size (n / b)) z))) (lit< tt)
+finite-bits : (s : Bool) (r : ℕ) → r < infinity → isFinite (signBit s + r) ≡ true
+unfolding isFinite
+finite-bits true r h = lt-ltb ((2 ^ 63 + r) % 2 ^ 63 / 2 ^ 52) 2047 (omega arith)
+finite-bits false r h = lt-ltb ((0 + r) % 2 ^ 63 / 2 ^ 52) 2047 (omega arith)
 
--- ---- the theorem
+infinite-bits : (s : Bool) → isFinite (signBit s + infinity) ≡ false
+unfolding isFinite
+infinite-bits true = refl
+infinite-bits false = refl
 
-rounded : (s : Bool) (n : ℕ) (e : ℤ) → isExact n e ≡ true → Rounded (round binary64 s (above n e) (below e)) s (above n e) (below e)
-rounded s n e t =
-    let b = exact n e t in
-    round-nearest s (above n e) (below e) (below-pos e) (in-range (above n e) (below e) (below-pos e) (small n e (b .0) (b .1)))
+module _ (s : Bool) (n : ℕ) (e : ℤ) where
+  -- Finite bits are no overflow,
+  finite-within : isFinite (nearest s n e) ≡ true → grid binary64 (above n e) (below e) < overflow binary64
+  finite-within f = let g = grid binary64 (above n e) (below e) in go g (leb (overflow binary64) g) (leb→le (overflow binary64) g) (nleb→lt (overflow binary64) g) (λ h. round-past s (above n e) (below e) h)
+    where
+      go : (g : ℕ) (t : Bool) → (T t → overflow binary64 ≤ g) → (T (not t) → g < overflow binary64)
+          → (overflow binary64 ≤ g → toBits binary64 (round binary64 s (above n e) (below e)) ≡ signBit s + infinity) → g < overflow binary64
+      go g true h k p = absurd (true≢false (sym f ∙ ap isFinite (nearest-is s n e ∙ p (h tt)) ∙ infinite-bits s))
+      go g false h k p = k tt
 
--- the float that the definition's bits stand for
-read-back : (s : Bool) (n : ℕ) (e : ℤ) → ofBits binary64 (nearest s n e) ≡ round binary64 s (above n e) (below e)
-read-back s n e = ap (ofBits binary64) (nearest-is s n e) ∙ ofBits-toBits binary64 (round binary64 s (above n e) (below e)) (round-fits binary64 s (above n e) (below e))
+  -- and what is no overflow has finite bits.
+  within-finite : grid binary64 (above n e) (below e) < overflow binary64 → isFinite (nearest s n e) ≡ true
+  within-finite h =
+      let a = above n e * 2 ^ low binary64 in
+      let c = kept 53 a (below e) in
+      let k = drop 53 a (below e) in
+      let b = kept-best (above n e) (below e) (below-pos e) in
+      ap isFinite (nearest-is s n e ∙ round-bits s (above n e) (below e) c k (below-pos e) b) ∙ finite-bits s (min (k * 2 ^ 52 + c) infinity) (least (k * 2 ^ 52 + c) (under c k (b .fit) (b .full) h))
+    where
+      least : (x : ℕ) → x < infinity → min x infinity < infinity
+      least x h = omega arith
 
--- The definition's float is nearest to N times ten to E, ties to even.
-pub nearest-rounded : (s : Bool) (n : ℕ) (e : ℤ) → isExact n e ≡ true → Rounded (ofBits binary64 (nearest s n e)) s (above n e) (below e)
-nearest-rounded s n e t = subst (λ (z : Float). Rounded z s (above n e) (below e)) (sym (read-back s n e)) (rounded s n e t)
+  -- So the bits are finite exactly where the nearest magnitude, of all that there are with no upper limit, is below the least overflow.
+  pub past-largest : (X : ℕ) → Magnitude X → Nearest (above n e) (below e) X → (isFinite (nearest s n e) ≡ true → X < overflow binary64) × (X < overflow binary64 → isFinite (nearest s n e) ≡ true)
+  past-largest X m r =
+      let a = above n e * 2 ^ low binary64 in
+      let b = kept-best (above n e) (below e) (below-pos e) in
+      let q : X ≡ grid binary64 (above n e) (below e) =
+      one-nearest (above n e) (below e) (below-pos e) X (grid binary64 (above n e) (below e)) m (capped (kept 53 a (below e)) (drop 53 a (below e)) (b .fit)) r (grid-nearest (above n e) (below e) (below-pos e))
+      in
+      (λ f. lt-of-le-of-lt (le-of-eq q) (finite-within f), λ h. within-finite (lt-of-le-of-lt (le-of-eq (sym q)) h))
+
+  -- ---- the theorem
+
+  rounded : grid binary64 (above n e) (below e) < overflow binary64 → Rounded (round binary64 s (above n e) (below e)) s (above n e) (below e)
+  rounded h = round-nearest s (above n e) (below e) (below-pos e) h
+
+  -- the float that the definition's bits stand for
+  read-back : ofBits binary64 (nearest s n e) ≡ round binary64 s (above n e) (below e)
+  read-back = ap (ofBits binary64) (nearest-is s n e) ∙ ofBits-toBits binary64 (round binary64 s (above n e) (below e)) (round-fits binary64 s (above n e) (below e))
+
+  -- The definition's float, where it is one, is nearest to N times ten to E, ties to even.
+  pub nearest-rounded : isFinite (nearest s n e) ≡ true → Rounded (ofBits binary64 (nearest s n e)) s (above n e) (below e)
+  nearest-rounded f = subst (λ (z : Float). Rounded z s (above n e) (below e)) (sym read-back) (rounded (finite-within f))
 
 -- what has a value is no NaN
 value-number : (x : Float) (s : Bool) (a c : ℕ) → HasValue x s a c → T (not (isNan x))
@@ -91,8 +127,11 @@ value-number (inf t) s a c h = tt
 value-number (fin t m e) s a c h = tt
 
 -- And its bits are the only ones.
-pub nearest-only : (s : Bool) (n : ℕ) (e : ℤ) → isExact n e ≡ true → (c : ℕ) → c < 2 ^ 64 → Rounded (ofBits binary64 c) s (above n e) (below e) → c ≡ nearest s n e
-nearest-only s n e t c h r =
-    sym (toBits-ofBits binary64 c h (value-number (ofBits binary64 c) s (r .X) (2 ^ 1074) (r .value)))
-    ∙ same-bits (ofBits binary64 c) (round binary64 s (above n e) (below e)) s (above n e) (below e) (below-pos e) (ofBits-fits binary64 c) (round-fits binary64 s (above n e) (below e)) r (rounded s n e t)
+pub nearest-only : (s : Bool) (n : ℕ) (e : ℤ) (c : ℕ) → c < 2 ^ 64 → Rounded (ofBits binary64 c) s (above n e) (below e) → c ≡ nearest s n e
+nearest-only s n e c h r =
+    let f = ofBits-fits binary64 c in
+    let x = ofBits binary64 c in
+    let l : isFinite (nearest s n e) ≡ true = past-largest s n e (r .X) (magnitude x s (r .X) f (r .value)) (r .nearest) .1 (no-overflow x s (r .X) f (r .value)) in
+    sym (toBits-ofBits binary64 c h (value-number x s (r .X) (2 ^ 1074) (r .value)))
+    ∙ same-bits x (round binary64 s (above n e) (below e)) s (above n e) (below e) (below-pos e) f (round-fits binary64 s (above n e) (below e)) r (rounded s n e (finite-within s n e l))
     ∙ sym (nearest-is s n e)

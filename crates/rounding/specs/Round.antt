@@ -142,7 +142,8 @@ module _ (p n b : ℕ) (P : 0 < p) (B : 0 < b) where
 
 -- ---- the theorem, at binary64
 
-full : (p n b : ℕ) → 0 < p → 0 < b → (drop p n b ≡ 0) ⊎ (2 ^ (p - 1) ≤ kept p n b)
+-- All p digits are in use where some are dropped.
+pub full : (p n b : ℕ) → 0 < p → 0 < b → (drop p n b ≡ 0) ⊎ (2 ^ (p - 1) ≤ kept p n b)
 full p n b P B = go (drop p n b) refl
   where
     go : (k : ℕ) → drop p n b ≡ k → (drop p n b ≡ 0) ⊎ (2 ^ (p - 1) ≤ kept p n b)

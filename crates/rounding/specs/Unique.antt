@@ -169,6 +169,12 @@ bounded s m e t =
     let u = and-l (odd && few && low) (ltb (suc m * up e) (2 ^ 1024 * down e)) t in
     (ltb→lt (suc m) (2 ^ 53) (and-r odd few (and-l (odd && few) low u)), leb→le (down e) (2 ^ 1074) (and-r (odd && few) low u))
 
+-- and its magnitude is no overflow
+below-top : (s : Bool) (m : ℕ) (e : ℤ) → T (fits binary64 (fin s (suc m) e)) → suc m * up e < 2 ^ 1024 * down e
+unfolding fits
+below-top s m e t =
+    ltb→lt (suc m * up e) (2 ^ 1024 * down e) (and-r (eqb (suc m % 2) 1 && ltb (suc m) (2 ^ 53) && leb (down e) (2 ^ 1074)) (ltb (suc m * up e) (2 ^ 1024 * down e)) t)
+
 -- 2 ^ j is at most 2 ^ l only if j is at most l
 pub exponents : (j l : ℕ) → 2 ^ j ≤ 2 ^ l → j ≤ l
 exponents j l h = go (leb j l) (leb→le j l) (nleb→lt j l)
@@ -197,6 +203,16 @@ magnitude (fin t (suc m) (pos k)) s X f h = record { q = suc m; k = k + 1074; is
 magnitude (fin t (suc m) (negsuc k)) s X f h =
     let b = bounded t m (negsuc k) f in
     record { q = suc m; k = 1074 - suc k; is = scaled-down (suc m) (suc k) 1074 X (exponents (suc k) 1074 (b .1)) (h .1); fit = b .0 }
+
+-- A float's magnitude is below the least overflow.
+pub no-overflow : (x : Float) (s : Bool) (X : ℕ) → T (fits binary64 x) → HasValue x s X (2 ^ 1074) → X < 2 ^ 2098
+no-overflow nan s X f h = absurd h
+no-overflow (inf t) s X f h = absurd h
+no-overflow (fin t zero e) s X f h =
+    lt-of-le-of-lt (le-of-eq (no-units X (2 ^ 1074) (down e) (down-pos e) (ap (λ (z : ℕ). z * 2 ^ 1074) (sym (zero-mul (up e))) ∙ h .1))) (pow-pos 2098)
+no-overflow (fin t (suc m) e) s X f h =
+    lt-of-mul-lt-mul-right (down e)
+    (lt-of-le-of-lt (le-of-eq (sym (h .1))) (lt-of-lt-of-le (mul-lt-mul-of-pos-right (below-top t m e f) (pow-pos 1074)) (le-of-eq (mul-right-comm (2 ^ 1024) (down e) (2 ^ 1074)))))
 
 -- ---- the float of a magnitude
 
