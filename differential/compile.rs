@@ -85,7 +85,7 @@ pub fn too_deep(query: &[u8]) -> bool {
     false
 }
 
-// Whether a float literal of an accepted query is beyond the exact range. Numbers, names and quoted texts are told apart by their first bytes.
+// Whether a float literal of an accepted query is beyond the range of literals, as it is written, or its nearest float is infinite. Numbers, names and quoted texts are told apart by their first bytes.
 pub fn beyond(query: &[u8]) -> bool {
     let digits = |mut i: usize| {
         while i < query.len() && query[i].is_ascii_digit() {
@@ -125,7 +125,10 @@ pub fn beyond(query: &[u8]) -> bool {
             }
             let number: String = query[start..written].iter().filter(|b| b.is_ascii_digit()).map(|&b| b as char).collect();
             let e = exponent - fraction as i64;
-            if !number.parse::<u128>().is_ok_and(|n| n < 1 << 53) && number.trim_start_matches('0').len() > 0 || !(-22..=22).contains(&e) {
+            if !number.parse::<u128>().is_ok_and(|n| n < 10u128.pow(19)) && number.trim_start_matches('0').len() > 0
+                || !(-342..=308).contains(&e)
+                || !text.parse::<f64>().is_ok_and(f64::is_finite)
+            {
                 return true;
             }
         } else if name(b) {
@@ -390,9 +393,9 @@ const INTS: &[&str] = &[
     "0", "1", "2", "9", "10", "-1", "-2", "-10", "123", "9007199254740990", "9007199254740991", "9007199254740992", "-9007199254740991", "-9007199254740992", "9223372036854775807",
     "9223372036854775808", "-9223372036854775808", "-9223372036854775809", "18446744073709551616", "100000000000000000000000000", "-0", "00", "01", "-01", "+1", "1.0", "1e2", "- 1", "",
 ];
-const WHOLES: &[&str] = &["0", "1", "-0", "5", "-7", "10", "9007199254740991", "9007199254740992", "-9007199254740991", "900719925474099", "9223372036854775807", "9223372036854775808", "-9223372036854775808", "-9223372036854775809", "123456789012345678901234567890"];
+const WHOLES: &[&str] = &["0", "1", "-0", "5", "-7", "10", "9007199254740991", "9007199254740992", "-9007199254740991", "900719925474099", "9223372036854775807", "9223372036854775808", "-9223372036854775808", "-9223372036854775809", "123456789012345678901234567890", "9999999999999999999", "10000000000000000000", "1797693134862315807", "1797693134862315808"];
 const FRACTIONS: &[&str] = &["0", "1", "5", "25", "00", "10", "9", "0000000000000000000000", "00000000000000000000001", "1234567890123456789012"];
-const EXPONENTS: &[&str] = &["0", "1", "2", "5", "21", "22", "23", "44", "45", "0022", "00", "400", "99999999999999999999", "-1", "-21", "-22", "-23", "-0", "+5", "+22", "+23"];
+const EXPONENTS: &[&str] = &["0", "1", "2", "5", "21", "22", "23", "44", "45", "0022", "00", "400", "99999999999999999999", "-1", "-21", "-22", "-23", "-0", "+5", "+22", "+23", "290", "308", "309", "-308", "-324", "-342", "-343"];
 const BAD_NUMBERS: &[&str] = &["00", "01", "-", "1.", ".5", "1e", "1e+", "+1", "1.e5", "0x10", "1_000", "--1", "-00", "1.5.5", "1e5e5", "Infinity", "NaN"];
 const FUNCTIONS: &[&str] = &["count", "count", "length", "length", "value", "value", "match", "search", "foo", "counts", "a_1", "true", "null", "Count", "1a", "_f", "key"];
 const OPERATORS: &[&str] = &["==", "!=", "<", "<=", ">", ">=", "==", "==", "=", "===", "<>", "in", "contains", "=~"];

@@ -3,7 +3,7 @@
 The grammar is read by its rules in RFC 9535; the walk follows document 01's "Query walk and typing"; evaluation goes over the table as a tree. It is
 written to be plain and not to be fast.
 """
-import re, struct
+import math, re, struct
 import plans, tables
 
 MAX_QUERY, MAX_BRACKETS, MAX_INT = 4096, 32, 2**53 - 1
@@ -376,11 +376,13 @@ class Walk:
         return e[0] in ("integer", "float", "text", "constant") or e[0] == "call" and FUNCTIONS[e[1]][1]
 
 
-def exact(digits):
-    """Whether a float literal is in the exact range."""
+def inside(digits):
+    """Whether a float literal is in the range of literals, as it is written, and its nearest float is finite."""
     mantissa, _, exponent = digits.lower().lstrip("-").partition("e")
     whole, _, fraction = mantissa.partition(".")
-    return int(whole + fraction) <= MAX_INT and -22 <= int(exponent or "0") - len(fraction) <= 22
+    if int(whole + fraction) >= 10**19 or not -342 <= int(exponent or "0") - len(fraction) <= 308:
+        return False
+    return math.isfinite(float(digits))
 
 
 # ---- the form of a typed expression
@@ -424,7 +426,7 @@ def form(query):
     tree, walk = Grammar(query.decode()).whole(), Walk()
     typed = walk.query(tree)
     need(not walk.calls_regex, 7)
-    need(all(map(exact, walk.floats)), 8)
+    need(all(map(inside, walk.floats)), 8)
     return query_form(typed)
 
 

@@ -407,7 +407,7 @@ def order_lines():
         for query in (b"$..*", b"$.x", b"$"):
             say(b"select", hexed(query), t, x, length, start)
         say(b"run", plan, pool, t, x, length, start)
-    for query in (b"$", b"$[", b"$[?foo()]", b"$[?count(@)]", b"$[?match('a','b')]", b"$[?@==1e23]", b"[" * 33, b"\xff", b"a" * 4097):
+    for query in (b"$", b"$[", b"$[?foo()]", b"$[?count(@)]", b"$[?match('a','b')]", b"$[?@==1e309]", b"[" * 33, b"\xff", b"a" * 4097):
         for these in (t, bad, wrong, b"-"):
             for length, start in ((0, 0), (3, 1), (3, 4)):
                 say(b"select", hexed(query), these, x, length, start)
