@@ -9,7 +9,7 @@
 # WORK   is a scratch directory; results.tsv in it keeps every figure of every pass.
 # DOCS   is the folder of PERFORMANCE.md and of the plot, docs unless given.
 # PASSES is 3 unless set; a pass takes some three minutes. Nothing else should run meanwhile. Every program is held to the last processor.
-# NATIVE_ARCHIVE names a tool that compiles a proved library for this machine, as for bench/run.sh; on x86-64 it need not be set.
+# The archives are those of bin/archive, for the machine at hand.
 set -euo pipefail
 : "${PEERS:?names the folder of the programs of the peers}"
 [ $# -ge 1 ] || { sed -n '2,12p' "$0" >&2; exit 2; }
@@ -20,14 +20,8 @@ docs=$(cd "${2:-$(dirname "$0")/../docs}" && pwd)
 cd "$(dirname "$0")/.."
 sizes='16 166 1666 10833' # rows; a table has 2 + 6 * rows nodes
 
-for crate in exports measured; do
-    if [ -n "${NATIVE_ARCHIVE:-}" ]; then
-        "$NATIVE_ARCHIVE" $crate "$work/lib$crate.a"
-    else
-        rt staticlib $crate
-        cp target/staticlib/lib$crate.a "$work/"
-    fi
-done
+bin/archive "$work"
+bin/archive --crate measured "$work"
 mkdir -p "$work/docs" "$work/rust/docs"
 python3 "$peers/gen.py" "$work/docs" $sizes
 # The Rust text: its own build, with the peers' program in place of its bench.
@@ -38,7 +32,7 @@ chmod -R u+w "$work/rust"
 cp "$peers/peers.rs" "$work/rust/rust-oracle/src/bench.rs"
 "$work/rust/rust-oracle/build" "$work/rust/build" >"$work/rust/log" 2>&1 || { cat "$work/rust/log"; exit 1; }
 gcc -O3 -o "$work/flat" "$peers/flat.c"
-cc -O2 -Wall -o "$work/peers" bench/peers.c "$work/libexports.a" "$work/libmeasured.a"
+cc -O2 -Wall -o "$work/peers" bench/peers.c "$work/libstewpebble.a" "$work/libmeasured.a"
 
 load() { cut -d' ' -f1-3 /proc/loadavg; }
 {

@@ -1,18 +1,10 @@
 #!/usr/bin/env bash
 # Measures the table check, the stack of the deepest runs and the growth of hostile queries and, where ORACLE names the folder in which cargo built the given
-# Rust text (as for differential/run.sh), compile beside that text's parse. NATIVE_ARCHIVE names a tool that compiles a proved library for this machine
-# (called as: NATIVE_ARCHIVE CRATE OUT.a, from the repository's root); on x86-64 the archive of
-# `rt staticlib exports` serves, and nothing need be set.
+# Rust text (as for differential/run.sh), compile beside that text's parse. The archive is that of bin/archive, for the machine at hand.
 set -euo pipefail
 cd "$(dirname "$0")/.."
 mkdir -p target/bench
-archive=target/bench/libexports.a
-if [ -n "${NATIVE_ARCHIVE:-}" ]; then
-    "$NATIVE_ARCHIVE" exports "$archive"
-else
-    rt staticlib exports
-    cp target/staticlib/libexports.a "$archive"
-fi
+archive=$(bin/archive)
 cc -O2 -Wall -o target/bench/table_check bench/table_check.c "$archive"
 target/bench/table_check
 cc -O2 -Wall -pthread -o target/bench/stack bench/stack.c "$archive"

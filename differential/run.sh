@@ -1,26 +1,22 @@
 #!/usr/bin/env bash
 # Calls every function of the C boundary, and compares compile, select and run with the given Rust text on random queries and documents.
 #
+#   differential/run.sh calls                                 the calls of the C boundary alone
 #   ORACLE=DIR differential/run.sh [COUNT [SEED]]             compile, on random and damaged queries; COUNT is 1000000 and SEED is 1 where they are not given
 #   ORACLE=DIR differential/run.sh select [COUNT [SEED]]      select and run, on random documents; the same for COUNT and SEED
 #   ORACLE=DIR differential/run.sh vectors                    some of the queries with their refusals, as crates/compile_vectors reads them
 #   ORACLE=DIR differential/run.sh select-vectors             some of the queries on small documents with their nodes, as crates/select_vectors reads them
 #
 # ORACLE names the folder in which cargo built the given Rust text as the library `rustoracle` (docs/DIFFERENCES.md, "How the Rust column was obtained").
-# NATIVE_ARCHIVE names a tool that compiles a proved library for this machine, as for bench/run.sh; on x86-64 it need not be set.
+# The archive is that of bin/archive, for the machine at hand.
 set -euo pipefail
 cd "$(dirname "$0")/.."
-: "${ORACLE:?names the folder of the built Rust text}"
+[ "${1:-}" = calls ] || : "${ORACLE:?names the folder of the built Rust text}"
 mkdir -p target/differential
-archive=target/differential/libexports.a
-if [ -n "${NATIVE_ARCHIVE:-}" ]; then
-    "$NATIVE_ARCHIVE" exports "$archive" >&2
-else
-    rt staticlib exports >&2
-    cp target/staticlib/libexports.a "$archive"
-fi
-cc -O2 -Wall -o target/differential/calls differential/calls.c "$archive"
+archive=$(bin/archive)
+cc -O2 -Wall -Wextra -Werror -o target/differential/calls differential/calls.c "$archive"
 target/differential/calls >&2
+[ "${1:-}" != calls ] || exit 0
 built=$ORACLE/target/release
 if [ "${1:-}" = select ] || [ "${1:-}" = select-vectors ]; then
     rustc -O --edition 2021 --crate-type rlib --crate-name stewpebble --out-dir target/differential rust/src/lib.rs

@@ -3,22 +3,13 @@
 #
 #   fuzz/run.sh [ROUNDS [SEED]]      ROUNDS is 1000000 and SEED is 1 where they are not given
 #
-# ARCHIVE names a built libexports.a. Where it is not set, NATIVE_ARCHIVE names a tool that compiles the proved library for this machine, as for
-# bench/run.sh; where that is not set either, `rt staticlib exports` makes the archive, for x86-64.
+# ARCHIVE names a built archive of the library. Where it is not set, bin/archive makes it, for the machine at hand.
 # Valgrind and Python are used where they are installed.
 set -euo pipefail
 cd "$(dirname "$0")/.."
 rounds=${1:-1000000} seed=${2:-1}
 mkdir -p target/fuzz
-archive=target/fuzz/libexports.a
-if [ -n "${ARCHIVE:-}" ]; then
-    cp "$ARCHIVE" "$archive"
-elif [ -n "${NATIVE_ARCHIVE:-}" ]; then
-    "$NATIVE_ARCHIVE" exports "$archive"
-else
-    rt staticlib exports
-    cp target/staticlib/libexports.a "$archive"
-fi
+archive=${ARCHIVE:-$(bin/archive)}
 flags="-O2 -g -Wall -Wextra -pthread"
 fuzz=target/fuzz/fuzz
 cc $flags -o $fuzz fuzz/fuzz.c "$archive"
