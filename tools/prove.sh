@@ -7,6 +7,7 @@
 # It writes to standard error alone. What the prover prints is kept in target/prove.log. A program among the crates is built, and run on its stored input.
 set -euo pipefail
 cd "$(dirname "$0")/.."
+source tools/progress.sh
 [ $# -gt 0 ] || { sed -n '2,8p' "$0" >&2; exit 2; }
 
 # The named crates and the crates of this repository that they need, one to a line.
@@ -34,12 +35,6 @@ mkdir -p target/log target/stamp
 log=target/prove.log
 mark=target/prove.mark
 
-# Only one prover works in a repository at a time.
-if command -v flock >/dev/null; then
-    exec 9>target/prove.lock
-    flock -n 9 || { echo "Another command is proving here; waiting for it." >&2; flock 9; }
-fi
-
 crates=$(needed "$@")
 total=$(wc -l <<<"$crates")
 missing=0
@@ -49,49 +44,29 @@ if [ "$missing" -gt 0 ]; then
     echo "The prover's log is $log." >&2
 fi
 
-minutes() { printf '%d:%02d' $(($1 / 60)) $(($1 % 60)); }
-
-# Writes the line over the one before, on a terminal; elsewhere a line of its own, now and then.
-shown=-30
-line() {
-    if [ -t 2 ]; then
-        local width
-        width=$(stty size <&2 2>/dev/null | cut -d' ' -f2) || width=
-        case $width in '' | 0) width=80 ;; esac
-        printf '\r%.*s\033[K' $((width - 1)) "$1" >&2
-    elif [ $((SECONDS - shown)) -ge 30 ]; then
-        shown=$SECONDS
-        printf '%s\n' "$1" >&2
+# A crate's file target/log/NAME.out is begun when its turn comes, and stays empty until its proof has ended. It has a stamp once it is proved and, if it is a
+# program, was run.
+progress() {
+    local crate ended=0 proving='' running=''
+    for crate in $crates; do
+        [ "target/log/$crate.out" -nt "$mark" ] || continue
+        if [ -s "target/log/$crate.out" ]; then
+            ended=$((ended + 1))
+            [ -f "target/stamp/$crate" ] || running="$running $crate"
+        else
+            [ -f "target/stamp/$crate" ] || proving="$proving $crate"
+        fi
+    done
+    if [ -n "$proving" ]; then
+        line "$ended of $total crates, $(minutes $SECONDS), proving$proving"
+    elif [ $ended -eq "$total" ] && [ -n "$running" ]; then
+        line "$ended of $total crates, $(minutes $SECONDS), running$running on stored input"
     fi
 }
 
-# A crate's file target/log/NAME.out is begun with its proof, and holds the prover's verdict once that has ended.
-progress() {
-    local files finished doing what
-    files=$(for crate in $crates; do [ ! "target/log/$crate.out" -nt "$mark" ] || echo "target/log/$crate.out"; done)
-    [ -n "$files" ] || return 0
-    finished=$(grep -l '^rt: ' $files | wc -l) || true
-    doing=$(grep -L '^rt: ' $files | sed 's,.*/,,; s,\.out$,,' | paste -sd' ') || true
-    what="proving $doing"
-    [ -n "$doing" ] || what=checking
-    [ "$finished" -lt "$total" ] || what="running the programs on their stored input"
-    line "$finished of $total crates, $(minutes $SECONDS), $what"
-}
-
 touch "$mark"
-SECONDS=0
-set -m
-rt check "$@" >"$log" 2>&1 </dev/null 9>&- &
-job=$!
-set +m
-trap 'kill -- -$job 2>/dev/null; [ ! -t 2 ] || echo >&2; echo "Stopped. What is proved so far is kept." >&2; exit 130' INT TERM HUP
-while kill -0 $job 2>/dev/null; do
-    [ $SECONDS -lt 2 ] || progress
-    sleep 0.5
-done
 status=0
-wait $job || status=$?
-[ ! -t 2 ] || printf '\r\033[K' >&2
+watched "$log" rt check "$@" || status=$?
 if [ $status -ne 0 ]; then
     grep -E '^rt: .*(NOT PROVED|FAILED)|: error' "$log" | head -n 10 >&2 || tail -n 5 "$log" >&2
     echo "Not proved. The whole log is $log." >&2
