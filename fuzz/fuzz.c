@@ -184,7 +184,7 @@ static Answer compile(Bytes q, size_t n, size_t plan_room, size_t pool_room) {
     if (was.refusal == 12) CHECK(was.first > plan_room || was.second > pool_room);
     else if (was.refusal) CHECK(was.first == 0 && was.second == 0);
     if (!was.refusal) CHECK(was.first >= 2);
-    CHECK(was.first <= 15 * n && was.second <= n);
+    CHECK(was.first <= STEWPEBBLE_PLAN_ROOM(n) && was.second <= n);
     return was;
 }
 
@@ -648,7 +648,7 @@ static void one_round(void) {
     }
     Bytes q = query.at;
     size_t n = query.n, spare = below(3);
-    Answer c = compile(q, n, n <= 4096 ? 15 * n + spare : 50, n + spare);
+    Answer c = compile(q, n, n <= 4096 ? STEWPEBBLE_PLAN_ROOM(n) + spare : 50, n + spare);
     CHECK(c.refusal != 12);
     if (c.refusal) {
         Answer again = compile(q, n, below(3), below(3));
@@ -709,21 +709,21 @@ static void edges(void) {
     // lengths of a query
     query.n = 0, say("$.");
     while (query.n < 4097) say("a");
-    CHECK(compile(query.at, 4096, 15 * 4096, 4096).refusal == 0);
-    CHECK(compile(query.at, 4097, 15 * 4096, 4096).refusal == 1);
+    CHECK(compile(query.at, 4096, STEWPEBBLE_PLAN_ROOM(4096), 4096).refusal == 0);
+    CHECK(compile(query.at, 4097, STEWPEBBLE_PLAN_ROOM(4096), 4096).refusal == 1);
     // the longest plans that compile
     query.n = 0, say("$[:");
     while (query.n < 4095) say(",:");
     query.n = 4095, say("]");
-    Answer c = compile(query.at, query.n, 15 * query.n, query.n);
-    if (c.refusal) query.at[4094] = ' ', c = compile(query.at, query.n, 15 * query.n, query.n);
+    Answer c = compile(query.at, query.n, STEWPEBBLE_PLAN_ROOM(query.n), query.n);
+    if (c.refusal) query.at[4094] = ' ', c = compile(query.at, query.n, STEWPEBBLE_PLAN_ROOM(query.n), query.n);
     CHECK(c.refusal == 0 && check_plan(plan_kept, c.first, pool_kept, c.second) == 0);
     // brackets, and the deepest form that compiles
     for (int n = 32; n <= 33; n++) {
         query.n = 0, say("$");
         for (int i = 0; i < n; i++) say("[?@||@&&!@");
         for (int i = 0; i < n; i++) say("]");
-        c = compile(query.at, query.n, 15 * query.n, query.n);
+        c = compile(query.at, query.n, STEWPEBBLE_PLAN_ROOM(query.n), query.n);
         CHECK(c.refusal == (n == 32 ? 0 : 3));
         if (n == 32) CHECK(check_plan(plan_kept, c.first, pool_kept, c.second) == 0);
     }
@@ -743,7 +743,7 @@ static void edges(void) {
             else if (i < 31) say("[?");
         }
         for (int i = 0; i < 31; i++) say("]");
-        c = compile(query.at, query.n, 15 * query.n, query.n);
+        c = compile(query.at, query.n, STEWPEBBLE_PLAN_ROOM(query.n), query.n);
         CHECK(c.refusal == 0);
         set(&plan, plan_kept, c.first);
         r = run(0, 0, plan.at, plan.n, pool.at, 0, table.at, table.n, text.at, 0, 4, 0);
@@ -809,7 +809,7 @@ static void short_queries(size_t longest, int print) {
         for (size_t code = 0; code < all; code++) {
             size_t rest = code;
             for (size_t i = 0; i < n; i++, rest /= 12) query.at[i] = (uint8_t)letters[rest % 12];
-            Answer r = compile(query.at, n, 15 * n, n);
+            Answer r = compile(query.at, n, STEWPEBBLE_PLAN_ROOM(n), n);
             CHECK(r.refusal == 0 || r.refusal == 4);
             accepted += !r.refusal;
             if (!print) { if (!r.refusal) CHECK(check_plan(plan_kept, r.first, pool_kept, r.second) == 0); continue; }
@@ -838,7 +838,7 @@ static void changed_plans(size_t many, int print) {
     size_t tried = 0, accepted = 0;
     for (size_t k = 0; k < many;) {
         make_query();
-        Answer r = compile(query.at, query.n, 15 * query.n, query.n);
+        Answer r = compile(query.at, query.n, STEWPEBBLE_PLAN_ROOM(query.n), query.n);
         if (r.refusal || r.first < 6 || r.first > 90) continue;
         k++, set(&plan, plan_kept, r.first), set(&pool, pool_kept, r.second);
         for (size_t i = 0; i < plan.n + pool.n; i++) {
