@@ -10,7 +10,7 @@
 //
 // Memory: every input and every lent room or number lies right before an inaccessible page, and in a second call with the same input right behind one.
 // Inputs are handed over through a mapping that can only be read. A lent room is filled with one byte, in the second call with its complement, and
-// looked at byte for byte afterwards. The calls are made on a thread with a stack of 1 MiB.
+// looked at byte for byte afterwards. The calls are made on a thread with STEWPEBBLE_QUERY_STACK bytes of stack.
 #define _GNU_SOURCE
 #include "../include/stewpebble.h"
 #include <pthread.h>
@@ -22,7 +22,7 @@
 #include <unistd.h>
 
 typedef const uint8_t *Bytes;
-enum { GUARD = 1 << 20, SLACK = 64, STACK = 1 << 20, MOST_NODES = 65535, MOST_TEXT = 16777216, PLACES = 4096 };
+enum { GUARD = 1 << 20, SLACK = 64, STACK = STEWPEBBLE_QUERY_STACK, MOST_NODES = 65535, MOST_TEXT = 16777216, PLACES = 4096 };
 enum { COMPILE, PLAN, TALLY, TABLE, RUN, SELECT, TEXT, KEY, OPERATIONS };
 static const char *names[] = {"compile", "plan check", "tally", "table check", "run", "select", "text of a node", "key of a node"};
 static unsigned long long counts[OPERATIONS][22], round_number, wrongs;
@@ -751,11 +751,11 @@ static void edges(void) {
         r = run(query.at, query.n, 0, 0, 0, 0, table.at, table.n, text.at, 0, 4, 0);
         CHECK(r.refusal == 0 && r.first == 1);
     }
-    // the deepest plan, on a stack of 1 MiB, and one that is too deep
+    // the deepest plan, on a thread with STEWPEBBLE_PLAN_STACK bytes of stack, and one that is too deep
     nested(&deep_plan, 128);
     pthread_attr_t attributes;
     pthread_t thread;
-    pthread_attr_init(&attributes), pthread_attr_setstacksize(&attributes, 1 << 20);
+    pthread_attr_init(&attributes), pthread_attr_setstacksize(&attributes, STEWPEBBLE_PLAN_STACK);
     if (pthread_create(&thread, &attributes, deepest, 0) == 0) pthread_join(thread, 0);
     nested(&deep_plan, 129);
     CHECK(check_plan(deep_plan.at, deep_plan.n, pool.at, 0) == 11);

@@ -119,6 +119,8 @@ struct stewpebble_record {
     } value;
 };
 
+typedef char stewpebble_record_has_24_bytes[sizeof(struct stewpebble_record) == 24 ? 1 : -1];
+
 // The bytes of records, as the functions take them.
 static inline const uint8_t *stewpebble_records(const struct stewpebble_record *records) { return (const uint8_t *)records; }
 
