@@ -68,7 +68,7 @@ touch "$mark"
 status=0
 watched "$log" rt check "$@" || status=$?
 if [ $status -ne 0 ]; then
-    grep -E '^rt: .*(NOT PROVED|FAILED)|: error' "$log" | head -n 10 >&2 || tail -n 5 "$log" >&2
+    grep -E '^rt: .*(NOT PROVED|FAILED)|: error' "$log" | awk 'NR <= 10 { print substr($0, 1, 240) }' >&2 || tail -n 5 "$log" >&2
     echo "Not proved. The whole log is $log." >&2
 elif [ $SECONDS -ge 5 ]; then
     echo "$total crates are proved, in $(minutes $SECONDS)." >&2
