@@ -1,20 +1,24 @@
-//! Links the archive of the proved library. `STEWPEBBLE_ARCHIVE` names it; without it, the archive that
-//! `rt staticlib exports` writes into the repository's `target/staticlib` is taken.
-use std::path::{Path, PathBuf};
+//! Says where the archive of the proved library is. `STEWPEBBLE_LIB_DIR` names the folder that holds `libstewpebble.a`;
+//! without it the folder is the one that `bin/archive` of the repository fills for the processor that is compiled for.
+//! Only linking needs the archive: `cargo check`, `cargo clippy` and `cargo doc` work without it.
+use std::env::var;
+use std::path::PathBuf;
+
+/// The folder that `bin/archive` fills. The package is somewhere below the repository, which the header marks.
+fn filled_by_the_repository() -> PathBuf {
+    let package = PathBuf::from(var("CARGO_MANIFEST_DIR").unwrap_or_default());
+    let root = package.ancestors().find(|folder| folder.join("include/stewpebble.h").is_file()).unwrap_or(&package);
+    root.join("target/native").join(var("CARGO_CFG_TARGET_ARCH").unwrap_or_default())
+}
 
 fn main() {
-    println!("cargo:rerun-if-env-changed=STEWPEBBLE_ARCHIVE");
-    let here = PathBuf::from(std::env::var("CARGO_MANIFEST_DIR").unwrap());
-    let archive = match std::env::var("STEWPEBBLE_ARCHIVE") {
-        Ok(given) => PathBuf::from(given),
-        Err(_) => here.join("../target/staticlib/libexports.a"),
-    };
+    println!("cargo:rerun-if-env-changed=STEWPEBBLE_LIB_DIR");
+    let folder = var("STEWPEBBLE_LIB_DIR").map_or_else(|_| filled_by_the_repository(), PathBuf::from);
+    let archive = folder.join("libstewpebble.a");
     println!("cargo:rerun-if-changed={}", archive.display());
     if !archive.is_file() {
-        panic!("{} is not there: run `rt staticlib exports` in the repository, or name an archive by STEWPEBBLE_ARCHIVE", archive.display());
+        println!("cargo:warning={} is not there, so nothing can be linked: run bin/archive in the repository, or name the folder of libstewpebble.a by STEWPEBBLE_LIB_DIR", archive.display());
     }
-    let name = archive.file_name().unwrap().to_string_lossy().into_owned();
-    let folder = archive.parent().unwrap_or(Path::new("."));
     println!("cargo:rustc-link-search=native={}", folder.display());
-    println!("cargo:rustc-link-lib=static={}", name.trim_start_matches("lib").trim_end_matches(".a"));
+    println!("cargo:rustc-link-lib=static=stewpebble");
 }

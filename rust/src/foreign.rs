@@ -1,7 +1,11 @@
-//! The functions of the library, each called with slices that live for the call. This is the only module with unsafe code.
-//! The library takes a slice as a pointer and a length; a Rust slice's pointer is never null. Memory that is lent to be
-//! written is borrowed mutably, so it is lent nowhere else in that call.
-use crate::Refusal;
+//! The functions of the proved library, each called with slices that live for the call. This is the only module with unsafe
+//! code. What holds for each call, and is said once here:
+//!
+//! - A slice goes over as its pointer and its length. The pointer of a Rust slice is never null and is aligned, also where
+//!   the length is 0, and the slice is borrowed until the call ends.
+//! - What is lent to be written is borrowed mutably, so nothing else sees it during the call.
+//! - The library reads and writes within the lengths only, keeps no pointer and calls nothing back: its functions are
+//!   proved over slices, and the declarations below are those of `include/stewpebble.h`.
 
 extern "C" {
     fn stewpebble_compile(query: *const u8, query_length: usize, plan: *mut u8, plan_room: usize, pool: *mut u8, pool_room: usize, plan_length: *mut u64, pool_length: *mut u64) -> u32;
@@ -14,54 +18,78 @@ extern "C" {
     fn stewpebble_key_of_node(table: *const u8, table_length: usize, text: *const u8, text_length: usize, node: usize, start: *mut u64, length: *mut u64) -> u32;
 }
 
+/// A refusal as the library gives it: its number, and the numbers that it sets.
+pub struct Refused {
+    pub number: u32,
+    pub first: u64,
+    pub second: u64,
+}
+
 /// The answer of a call: its result, or the refusal with its numbers.
-fn answer<T>(number: u32, a: u64, b: u64, result: T) -> Result<T, Refusal> {
-    match Refusal::from_number(number, a, b) {
-        None => Ok(result),
-        Some(refusal) => Err(refusal),
+fn answer<T>(number: u32, first: u64, second: u64, result: T) -> Result<T, Refused> {
+    match number {
+        0 => Ok(result),
+        _ => Err(Refused { number, first, second }),
     }
 }
 
-pub fn compile(query: &[u8], plan: &mut [u8], pool: &mut [u8]) -> Result<(usize, usize), Refusal> {
+/// The lengths of the plan and of the pool that were written.
+pub fn compile(query: &[u8], plan: &mut [u8], pool: &mut [u8]) -> Result<(usize, usize), Refused> {
     let (mut a, mut b) = (0, 0);
+    // SAFETY: the slices and the two numbers are borrowed for the call, as the module says.
     let number = unsafe { stewpebble_compile(query.as_ptr(), query.len(), plan.as_mut_ptr(), plan.len(), pool.as_mut_ptr(), pool.len(), &mut a, &mut b) };
     answer(number, a, b, (a as usize, b as usize))
 }
 
-pub fn check_plan(plan: &[u8], pool: &[u8]) -> Result<(), Refusal> {
+pub fn check_plan(plan: &[u8], pool: &[u8]) -> Result<(), Refused> {
+    // SAFETY: the slices are borrowed for the call, as the module says.
     answer(unsafe { stewpebble_check_plan(plan.as_ptr(), plan.len(), pool.as_ptr(), pool.len()) }, 0, 0, ())
 }
 
-pub fn tally(plan: &[u8], pool: &[u8], counts: &mut [u64; 256], plans: &mut u64) -> Result<(), Refusal> {
+pub fn tally(plan: &[u8], pool: &[u8], counts: &mut [u64; 256], plans: &mut u64) -> Result<(), Refused> {
+    // SAFETY: the slices, the 256 counts and the number of plans are borrowed for the call, as the module says.
     answer(unsafe { stewpebble_tally(plan.as_ptr(), plan.len(), pool.as_ptr(), pool.len(), counts.as_mut_ptr(), plans) }, 0, 0, ())
 }
 
-pub fn check_table(table: &[u8], text: &[u8]) -> Result<(), Refusal> {
+pub fn check_table(table: &[u8], text: &[u8]) -> Result<(), Refused> {
     let mut node = 0;
+    // SAFETY: the slices and the number are borrowed for the call, as the module says.
     let number = unsafe { stewpebble_check_table(table.as_ptr(), table.len(), text.as_ptr(), text.len(), &mut node) };
     answer(number, node, 0, ())
 }
 
-pub fn run(plan: &[u8], pool: &[u8], table: &[u8], text: &[u8], list: &mut [u32], start: usize) -> Result<usize, Refusal> {
+/// The number of nodes that were written into the list from the start position on.
+pub fn run(plan: &[u8], pool: &[u8], table: &[u8], text: &[u8], list: &mut [u32], start: usize) -> Result<usize, Refused> {
     let (mut count, mut node) = (0, 0);
+    // SAFETY: the slices and the two numbers are borrowed for the call, as the module says.
     let number = unsafe {
         stewpebble_run(plan.as_ptr(), plan.len(), pool.as_ptr(), pool.len(), table.as_ptr(), table.len(), text.as_ptr(), text.len(), list.as_mut_ptr(), list.len(), start, &mut count, &mut node)
     };
     answer(number, node, 0, count as usize)
 }
 
-pub fn select(query: &[u8], table: &[u8], text: &[u8], list: &mut [u32], start: usize) -> Result<usize, Refusal> {
+/// The number of nodes that were written into the list from the start position on.
+pub fn select(query: &[u8], table: &[u8], text: &[u8], list: &mut [u32], start: usize) -> Result<usize, Refused> {
     let (mut count, mut node) = (0, 0);
+    // SAFETY: the slices and the two numbers are borrowed for the call, as the module says.
     let number = unsafe {
         stewpebble_select(query.as_ptr(), query.len(), table.as_ptr(), table.len(), text.as_ptr(), text.len(), list.as_mut_ptr(), list.len(), start, &mut count, &mut node)
     };
     answer(number, node, 0, count as usize)
 }
 
-/// Where the text of a node, or its key, stands in the texts.
-pub fn part_of_node(key: bool, table: &[u8], text: &[u8], node: u32) -> Result<(usize, usize), Refusal> {
+/// Where the text of a node stands in the texts, and its length.
+pub fn text_of_node(table: &[u8], text: &[u8], node: u32) -> Result<(usize, usize), Refused> {
     let (mut start, mut length) = (0, 0);
-    let call = if key { stewpebble_key_of_node } else { stewpebble_text_of_node };
-    let number = unsafe { call(table.as_ptr(), table.len(), text.as_ptr(), text.len(), node as usize, &mut start, &mut length) };
+    // SAFETY: the slices and the two numbers are borrowed for the call, as the module says.
+    let number = unsafe { stewpebble_text_of_node(table.as_ptr(), table.len(), text.as_ptr(), text.len(), node as usize, &mut start, &mut length) };
+    answer(number, 0, 0, (start as usize, length as usize))
+}
+
+/// Where the key of a node stands in the texts, and its length.
+pub fn key_of_node(table: &[u8], text: &[u8], node: u32) -> Result<(usize, usize), Refused> {
+    let (mut start, mut length) = (0, 0);
+    // SAFETY: the slices and the two numbers are borrowed for the call, as the module says.
+    let number = unsafe { stewpebble_key_of_node(table.as_ptr(), table.len(), text.as_ptr(), text.len(), node as usize, &mut start, &mut length) };
     answer(number, 0, 0, (start as usize, length as usize))
 }

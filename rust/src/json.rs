@@ -1,49 +1,57 @@
-//! JSON values, and their text (RFC 8259).
-use std::fmt;
+//! JSON texts (RFC 8259), read into values.
+use crate::limits::{MAX_DEPTH, MAX_MEMBERS};
+use crate::Value;
+use alloc::string::String;
+use alloc::vec::Vec;
+use core::fmt;
+use core::str::FromStr;
 
-/// A JSON value. Numbers without fraction and exponent that fit are integers, all others floats.
-#[derive(Clone, Debug, PartialEq)]
-pub enum Value {
-    /// `null`
-    Null,
-    /// `true` or `false`
-    Bool(bool),
-    /// A whole number.
-    Int(i64),
-    /// A number with a fraction or an exponent, or beyond the whole numbers.
-    Float(f64),
-    /// A string.
-    Text(String),
-    /// An array.
-    List(Vec<Value>),
-    /// An object, with its members in their order.
-    Map(Vec<(String, Value)>),
-}
-
-/// Where a text is not JSON, and what was expected there.
+/// Where a text is not JSON, or is JSON that no table holds, and what is wrong there.
+///
+/// ```
+/// use stewpebble::Value;
+///
+/// let error = Value::from_json("[1,\n 02]").unwrap_err();
+/// assert_eq!((error.at, error.line, error.column), (6, 2, 3));
+/// assert_eq!(error.to_string(), "line 2, column 3: no digit may follow a leading zero");
+/// ```
 #[derive(Clone, Debug, PartialEq, Eq)]
+#[non_exhaustive]
 pub struct JsonError {
-    /// The byte at which reading stopped.
+    /// The byte at which reading stopped, from 0.
     pub at: usize,
+    /// The line of that byte, from 1.
+    pub line: usize,
+    /// The character of that byte in its line, from 1.
+    pub column: usize,
     /// What is wrong there.
     pub wrong: &'static str,
 }
 
 impl fmt::Display for JsonError {
     fn fmt(&self, f: &mut fmt::Formatter<'_>) -> fmt::Result {
-        write!(f, "{} at byte {}", self.wrong, self.at)
+        write!(f, "line {}, column {}: {}", self.line, self.column, self.wrong)
     }
 }
 
+#[cfg(feature = "std")]
 impl std::error::Error for JsonError {}
 
-// A table holds values of depth 63 at most; what nests deeper is refused while it is read.
-const MAX_DEPTH: usize = 64;
-
 impl Value {
-    /// The value of a JSON text.
+    /// The value of a JSON text. Integers that 64 bits hold are [`Value::Int`], all other numbers the nearest float. A byte
+    /// order mark before the text is passed over. What RFC 8259 allows and no table holds is refused: a number beyond the
+    /// floats, two members of one name in a map, more than 1,024 members, and values that nest more than 63 deep.
+    ///
+    /// ```
+    /// use stewpebble::Value;
+    ///
+    /// assert_eq!(Value::from_json(r#""\u00e9\ud83d\ude00""#), Ok(Value::from("é😀")));
+    /// assert_eq!(Value::from_json("9223372036854775808"), Ok(Value::Float(9223372036854775808.0)));
+    /// assert_eq!(Value::from_json("1e999").unwrap_err().wrong, "the number is too large for a float");
+    /// ```
     pub fn from_json(text: &str) -> Result<Value, JsonError> {
-        let mut reader = Reader { text, bytes: text.as_bytes(), at: 0 };
+        let at = if text.starts_with('\u{FEFF}') { '\u{FEFF}'.len_utf8() } else { 0 };
+        let mut reader = Reader { text, bytes: text.as_bytes(), at };
         let value = reader.value(0)?;
         reader.blanks();
         if reader.at < reader.bytes.len() {
@@ -53,6 +61,15 @@ impl Value {
     }
 }
 
+impl FromStr for Value {
+    type Err = JsonError;
+
+    fn from_str(json: &str) -> Result<Value, JsonError> {
+        Value::from_json(json)
+    }
+}
+
+/// Reads a text from left to right. `at` is always at the beginning of a character.
 struct Reader<'a> {
     text: &'a str,
     bytes: &'a [u8],
@@ -61,7 +78,18 @@ struct Reader<'a> {
 
 impl Reader<'_> {
     fn wrong<T>(&self, wrong: &'static str) -> Result<T, JsonError> {
-        Err(JsonError { at: self.at, wrong })
+        let before = self.text.get(..self.at).unwrap_or(self.text);
+        let line = before.rsplit('\n').next().unwrap_or_default().trim_start_matches('\u{FEFF}');
+        Err(JsonError { at: self.at, line: 1 + before.matches('\n').count(), column: 1 + line.chars().count(), wrong })
+    }
+
+    /// The text from a place on.
+    fn since(&self, start: usize) -> &str {
+        self.text.get(start..self.at).unwrap_or_default()
+    }
+
+    fn starts_with(&self, word: &str) -> bool {
+        self.bytes.get(self.at..).map_or(false, |rest| rest.starts_with(word.as_bytes()))
     }
 
     fn peek(&self) -> Option<u8> {
@@ -82,10 +110,10 @@ impl Reader<'_> {
         Ok(())
     }
 
-    fn value(&mut self, depth: usize) -> Result<Value, JsonError> {
+    fn value(&mut self, depth: u8) -> Result<Value, JsonError> {
         self.blanks();
         if depth > MAX_DEPTH {
-            return self.wrong("the value nests too deep");
+            return self.wrong("the value nests more than 63 deep");
         }
         match self.peek() {
             Some(b'{') => self.map(depth),
@@ -98,7 +126,7 @@ impl Reader<'_> {
 
     fn word(&mut self) -> Result<Value, JsonError> {
         for (word, value) in [("null", Value::Null), ("true", Value::Bool(true)), ("false", Value::Bool(false))] {
-            if self.bytes[self.at..].starts_with(word.as_bytes()) {
+            if self.starts_with(word) {
                 self.at += word.len();
                 return Ok(value);
             }
@@ -106,7 +134,7 @@ impl Reader<'_> {
         self.wrong("a value is expected")
     }
 
-    fn list(&mut self, depth: usize) -> Result<Value, JsonError> {
+    fn list(&mut self, depth: u8) -> Result<Value, JsonError> {
         self.at += 1;
         let mut items = Vec::new();
         self.blanks();
@@ -125,9 +153,10 @@ impl Reader<'_> {
         }
     }
 
-    fn map(&mut self, depth: usize) -> Result<Value, JsonError> {
+    fn map(&mut self, depth: u8) -> Result<Value, JsonError> {
         self.at += 1;
         let mut members = Vec::new();
+        let mut order = Vec::new();
         self.blanks();
         if self.peek() == Some(b'}') {
             self.at += 1;
@@ -138,7 +167,7 @@ impl Reader<'_> {
             if self.peek() != Some(b'"') {
                 return self.wrong("a member's name is expected");
             }
-            let name = self.string()?;
+            let name = self.name(&members, &mut order)?;
             self.blanks();
             self.take(b':', "a colon is expected")?;
             members.push((name, self.value(depth + 1)?));
@@ -149,6 +178,23 @@ impl Reader<'_> {
             }
             self.take(b',', "a comma or a closing brace is expected")?;
         }
+    }
+
+    /// The name of one more member. `order` has the places of the members before, in the order of their names.
+    fn name(&mut self, members: &[(String, Value)], order: &mut Vec<usize>) -> Result<String, JsonError> {
+        let start = self.at;
+        let name = self.string()?;
+        let same = |&place: &usize| members.get(place).map_or("", |(other, _)| other.as_str()).cmp(name.as_str());
+        let wrong = match order.binary_search_by(same) {
+            Ok(_) => "the map has two members of this name",
+            Err(_) if members.len() == MAX_MEMBERS => "the map has more than 1,024 members",
+            Err(place) => {
+                order.insert(place, members.len());
+                return Ok(name);
+            }
+        };
+        self.at = start;
+        self.wrong(wrong)
     }
 
     fn digits(&mut self) -> Result<(), JsonError> {
@@ -168,6 +214,9 @@ impl Reader<'_> {
         }
         if self.peek() == Some(b'0') {
             self.at += 1;
+            if matches!(self.peek(), Some(b'0'..=b'9')) {
+                return self.wrong("no digit may follow a leading zero");
+            }
         } else {
             self.digits()?;
         }
@@ -185,7 +234,7 @@ impl Reader<'_> {
             }
             self.digits()?;
         }
-        let text = &self.text[start..self.at];
+        let text = self.since(start);
         if whole {
             if let Ok(n) = text.parse::<i64>() {
                 return Ok(Value::Int(n));
@@ -195,7 +244,7 @@ impl Reader<'_> {
             Ok(x) if x.is_finite() => Ok(Value::Float(x)),
             _ => {
                 self.at = start;
-                self.wrong("the number is too large")
+                self.wrong("the number is too large for a float")
             }
         }
     }
@@ -208,7 +257,7 @@ impl Reader<'_> {
             while !matches!(self.peek(), None | Some(b'"' | b'\\' | 0..=0x1F)) {
                 self.at += 1;
             }
-            out.push_str(&self.text[start..self.at]);
+            out.push_str(self.since(start));
             match self.peek() {
                 Some(b'"') => {
                     self.at += 1;
@@ -242,34 +291,37 @@ impl Reader<'_> {
 
     fn hex(&mut self) -> Result<u32, JsonError> {
         let wrong = "four hexadecimal digits are expected";
-        let Some(digits) = self.bytes.get(self.at..self.at + 4) else {
-            return self.wrong(wrong);
-        };
         let mut n = 0;
-        for d in digits {
-            match (*d as char).to_digit(16) {
-                Some(v) => n = n * 16 + v,
+        for _ in 0..4 {
+            match self.peek().and_then(|digit| char::from(digit).to_digit(16)) {
+                Some(digit) => n = n * 16 + digit,
                 None => return self.wrong(wrong),
             }
+            self.at += 1;
         }
-        self.at += 4;
         Ok(n)
     }
 
+    /// One character of one `\uXXXX`, or of two that are a pair of surrogates.
     fn unicode(&mut self) -> Result<char, JsonError> {
+        let start = self.at;
         let first = self.hex()?;
-        if !(0xD800..0xE000).contains(&first) {
-            return Ok(char::from_u32(first).expect("no surrogate"));
+        if let Some(c) = char::from_u32(first) {
+            return Ok(c);
         }
-        let pair = "a pair of surrogates is expected";
-        if first >= 0xDC00 || !self.bytes[self.at..].starts_with(b"\\u") {
-            return self.wrong(pair);
+        if first < LOW_SURROGATES && self.starts_with("\\u") {
+            self.at += 2;
+            let second = self.hex()?;
+            let low = second.checked_sub(LOW_SURROGATES).filter(|low| *low < 0x400);
+            if let Some(c) = low.and_then(|low| char::from_u32(0x10000 + ((first - HIGH_SURROGATES) << 10) + low)) {
+                return Ok(c);
+            }
         }
-        self.at += 2;
-        let second = self.hex()?;
-        if !(0xDC00..0xE000).contains(&second) {
-            return self.wrong(pair);
-        }
-        Ok(char::from_u32(0x10000 + ((first - 0xD800) << 10) + (second - 0xDC00)).expect("a scalar value"))
+        self.at = start;
+        self.wrong("a surrogate stands for a character only as one of a pair")
     }
 }
+
+/// The first of the high and of the low surrogates.
+const HIGH_SURROGATES: u32 = 0xD800;
+const LOW_SURROGATES: u32 = 0xDC00;

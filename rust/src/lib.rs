@@ -1,109 +1,80 @@
-//! JSONPath (RFC 9535) over flat tables of JSON values, for engines that run the same query at each recalculation.
+//! JSONPath over flat tables of JSON values, for engines that run the same query at each recalculation.
 //!
-//! Every operation here is thin over a function of the proved library: what a query means, when each refusal is given
-//! and what is written where are stated in the repository's crate `definition` and proved of the code.
+//! A query is compiled once into a [`Plan`], values are laid out once in a [`Table`], and [`Plan::run`] hands out the
+//! [`Node`]s that the query selects. Every operation is thin over a function of the proved library: what a query means,
+//! when each refusal is given and what is written where are stated in the repository and proved of the code. What is Rust
+//! here, and tested instead, is said where it is: reading and writing JSON, laying out a table, reading a part of it, and
+//! changing one node of it.
 //!
 //! ```
-//! use stewpebble::{compile, Table, Value};
+//! use stewpebble::{Plan, Table};
 //!
-//! let value = Value::from_json(r#"{"rows":[{"name":"x","qty":3},{"name":"y","qty":7}]}"#).unwrap();
-//! let table = Table::from_value(&value).unwrap();
-//! let plan = compile("$.rows[?@.qty > 5].name").unwrap();
-//! let nodes = plan.run(&table).unwrap();
-//! assert_eq!(nodes.len(), 1);
-//! assert_eq!(table.text(nodes[0]).unwrap(), "y");
+//! let mut table: Table = r#"{"rows":[{"name":"x","qty":3},{"name":"y","qty":7}]}"#.parse()?;
+//! let plan: Plan = "$.rows[?@.qty > 5].name".parse()?;
+//! let names: Vec<&str> = plan.run(&table)?.filter_map(|node| node.text()).collect();
+//! assert_eq!(names, ["y"]);
+//!
+//! // A recalculation: one value changes in place, and the same plan runs again.
+//! let quantity = stewpebble::select("$.rows[0].qty", &table)?.next().unwrap().number();
+//! table.set_number(quantity, 6)?;
+//! assert_eq!(plan.run(&table)?.len(), 2);
+//! # Ok::<(), stewpebble::Error>(())
 //! ```
-#![warn(missing_docs)]
+//!
+//! In the repository, `docs/REFERENCE.md` has the exact rules, and `docs/RFC9535.md` every difference from RFC 9535,
+//! which defines JSONPath.
+//!
+//! # Hostile queries and values
+//!
+//! No query, no JSON text and no stored plan or table makes safe code of this crate panic. A run hands out at most
+//! [`DEFAULT_LIMIT`] nodes, or as many as the caller says ([`Plan::run_up_to`]). The limit bounds memory and not time: a
+//! query may visit many nodes and select few. Threads of Rust have stack enough for every call; `include/stewpebble.h` in
+//! the repository says how much that is.
+//!
+//! # Features
+//!
+//! `std`, on by default, makes the errors `std::error::Error`s. Without it the crate needs only `alloc`.
+//! Conversions to and from `serde_json` come with the feature `serde_json`, which has a manifest of its own,
+//! `rust/with-serde-json/Cargo.toml`: Cargo asks a registry for each dependency that a manifest names, even for one that is
+//! switched off, and this crate builds where there is no registry.
+#![cfg_attr(not(feature = "std"), no_std)]
+#![deny(missing_docs)]
+#![deny(unsafe_code)]
+// The feature serde_json is named by the other manifest alone.
+#![allow(unknown_lints, unexpected_cfgs)]
 
+extern crate alloc;
+
+mod builder;
+mod edit;
+mod error;
+#[allow(unsafe_code)]
 mod foreign;
+mod item;
 mod json;
+mod limits;
+mod node;
+mod plan;
 mod refusal;
+#[cfg(feature = "serde_json")]
+mod serde;
 mod table;
 mod tally;
+mod value;
 
-pub use json::{JsonError, Value};
+pub use builder::TableError;
+pub use edit::{EditError, Number};
+pub use error::Error;
+pub use item::{Item, Items};
+pub use json::JsonError;
+pub use node::{Kind, Node, Nodes};
+pub use plan::{compile, compile_bytes, select, select_into, select_up_to, Plan, DEFAULT_LIMIT};
 pub use refusal::Refusal;
-pub use table::{Table, TableError};
+pub use table::{check_table, key_of_node, text_of_node, Table};
 pub use tally::Tally;
+pub use value::Value;
 
-/// A compiled query: a plan and a pool of texts. No table is in it, so one plan serves every table, also after values
-/// have changed kind.
-#[derive(Clone, Debug, PartialEq, Eq)]
-pub struct Plan {
-    plan: Vec<u8>,
-    pool: Vec<u8>,
-}
-
-/// Compiles a query.
-pub fn compile(query: &str) -> Result<Plan, Refusal> {
-    compile_bytes(query.as_bytes())
-}
-
-/// Compiles a query given as bytes, which need not be UTF-8.
-pub fn compile_bytes(query: &[u8]) -> Result<Plan, Refusal> {
-    // 13 bytes of plan and one of pool for each byte are enough for every query.
-    let mut plan = vec![0; 16 + 15 * query.len().min(4096)];
-    let mut pool = vec![0; query.len().min(4096)];
-    let (used, texts) = foreign::compile(query, &mut plan, &mut pool)?;
-    plan.truncate(used);
-    pool.truncate(texts);
-    Ok(Plan { plan, pool })
-}
-
-/// Selects without a plan of one's own: the nodes of a table that a query selects.
-pub fn select(query: &str, table: &Table) -> Result<Vec<u32>, Refusal> {
-    all_nodes(|list| foreign::select(query.as_bytes(), table.records(), table.texts(), list, 0))
-}
-
-/// Selects into places that the caller lends, from the start position on; the number of nodes.
-/// With [`Refusal::ListFull`] every place from the start position holds the first nodes.
-pub fn select_into(query: &str, table: &Table, list: &mut [u32], start: usize) -> Result<usize, Refusal> {
-    foreign::select(query.as_bytes(), table.records(), table.texts(), list, start)
-}
-
-/// Checks a table of values: records of 24 bytes, and their texts.
-pub fn check_table(records: &[u8], texts: &[u8]) -> Result<(), Refusal> {
-    foreign::check_table(records, texts)
-}
-
-impl Plan {
-    /// A plan and a pool as they were stored. Bytes that no query form translates to are refused.
-    pub fn from_bytes(plan: Vec<u8>, pool: Vec<u8>) -> Result<Plan, Refusal> {
-        foreign::check_plan(&plan, &pool)?;
-        Ok(Plan { plan, pool })
-    }
-
-    /// The bytes of the plan and of the pool, for storing.
-    pub fn bytes(&self) -> (&[u8], &[u8]) {
-        (&self.plan, &self.pool)
-    }
-
-    /// The nodes of a table that the query selects, in its order, with repeats.
-    pub fn run(&self, table: &Table) -> Result<Vec<u32>, Refusal> {
-        all_nodes(|list| foreign::run(&self.plan, &self.pool, table.records(), table.texts(), list, 0))
-    }
-
-    /// The same into places that the caller lends, from the start position on; the number of nodes.
-    /// With [`Refusal::ListFull`] every place from the start position holds the first nodes.
-    pub fn run_into(&self, table: &Table, list: &mut [u32], start: usize) -> Result<usize, Refusal> {
-        foreign::run(&self.plan, &self.pool, table.records(), table.texts(), list, start)
-    }
-}
-
-/// Runs into a list that grows until all nodes have a place.
-fn all_nodes(mut run: impl FnMut(&mut [u32]) -> Result<usize, Refusal>) -> Result<Vec<u32>, Refusal> {
-    let mut list = vec![0; 256];
-    loop {
-        match run(&mut list) {
-            Ok(count) => {
-                list.truncate(count);
-                return Ok(list);
-            }
-            Err(Refusal::ListFull) => {
-                let more = list.len().saturating_mul(4);
-                list.resize(more, 0);
-            }
-            Err(other) => return Err(other),
-        }
-    }
-}
+/// The examples of the page are tried with the others.
+#[cfg(doctest)]
+#[doc = include_str!("../README.md")]
+struct Page;

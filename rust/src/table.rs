@@ -1,213 +1,348 @@
 //! Tables of values: 24-byte records in the order in which the children of all nodes follow each other, and their texts.
-use crate::{check_table, foreign, Refusal, Value};
-use std::collections::{HashSet, VecDeque};
-use std::fmt;
+//!
+//! A `Table` was accepted by the library, or made of a value by the rules that the library checks. So a part of it is read
+//! from its record alone; the library's own operations, which check a whole table at each call, are functions beside it.
+use crate::foreign::{self, Refused};
+use crate::limits::RECORD;
+use crate::refusal::Given;
+use crate::{Error, Kind, Node, Refusal, Value};
+use alloc::vec;
+use alloc::vec::Vec;
+use core::fmt;
+use core::ops::Range;
+use core::str::FromStr;
 
-/// A table that the library has accepted.
-#[derive(Clone, Debug, PartialEq, Eq)]
+/// A table of values that the library accepts. `Display` writes the whole as JSON.
+///
+/// ```
+/// use stewpebble::Table;
+///
+/// let table: Table = r#"{"a":[10,20.0,30],"b":"é"}"#.parse()?;
+/// assert_eq!(table.nodes().len(), 6);
+/// assert_eq!(table.key(2)?, "b");
+/// assert_eq!(table.text(2)?, "é");
+/// assert_eq!(table.to_string(), r#"{"a":[10,20.0,30],"b":"é"}"#);
+/// # Ok::<(), stewpebble::Error>(())
+/// ```
+#[derive(Clone, PartialEq, Eq)]
 pub struct Table {
-    records: Vec<u8>,
-    texts: Vec<u8>,
+    pub(crate) records: Vec<u8>,
+    pub(crate) texts: Vec<u8>,
+    /// The parent of each node, and 0 for the root. A table has fewer nodes than 16 bits count, and a change of a node
+    /// keeps the shape.
+    parents: Vec<u16>,
 }
 
-/// Why a value has no table.
-#[derive(Clone, Debug, PartialEq, Eq)]
-#[non_exhaustive]
-pub enum TableError {
-    /// It has more than 65,535 nodes.
-    TooManyNodes,
-    /// It nests more than 63 deep.
-    TooDeep,
-    /// A map has more than 1,024 members.
-    TooManyMembers,
-    /// A map has two members of one name.
-    RepeatedName(String),
-    /// A float is infinite or no number.
-    NotFinite,
-    /// The texts have more than 16,777,216 bytes.
-    TooMuchText,
+/// Checks a table of values: records of 24 bytes, and their texts.
+///
+/// ```
+/// use stewpebble::{check_table, Refusal};
+///
+/// let null = [0; 24];
+/// assert_eq!(check_table(&null, &[]), Ok(()));
+/// assert_eq!(check_table(&null[1..], &[]), Err(Refusal::TableSize { records: 23, texts: 0 }));
+/// assert_eq!(check_table(&[9; 24], &[]), Err(Refusal::TableRule { node: 0 }));
+/// ```
+pub fn check_table(records: &[u8], texts: &[u8]) -> Result<(), Refusal> {
+    foreign::check_table(records, texts).map_err(|refused| Refusal::new(refused, given(records, texts)))
 }
 
-impl fmt::Display for TableError {
-    fn fmt(&self, f: &mut fmt::Formatter<'_>) -> fmt::Result {
-        match self {
-            TableError::TooManyNodes => write!(f, "the value has more than 65,535 nodes"),
-            TableError::TooDeep => write!(f, "the value nests more than 63 deep"),
-            TableError::TooManyMembers => write!(f, "a map has more than 1,024 members"),
-            TableError::RepeatedName(name) => write!(f, "a map has two members named {name:?}"),
-            TableError::NotFinite => write!(f, "a float is infinite or not a number"),
-            TableError::TooMuchText => write!(f, "the texts are longer than 16,777,216 bytes"),
-        }
+/// The text of a node of a table that is lent, which is checked as a whole at each call; [`Table::text`] is the same of a
+/// table that was accepted before.
+///
+/// ```
+/// use stewpebble::{text_of_node, Refusal, Table};
+///
+/// let table: Table = r#"["x"]"#.parse()?;
+/// assert_eq!(text_of_node(table.records(), table.texts(), 1)?, "x");
+/// assert_eq!(text_of_node(table.records(), table.texts(), 0), Err(Refusal::NoText { node: 0 }));
+/// # Ok::<(), stewpebble::Error>(())
+/// ```
+pub fn text_of_node<'a>(records: &[u8], texts: &'a [u8], node: u32) -> Result<&'a str, Refusal> {
+    part_of_node(records, texts, foreign::text_of_node(records, texts, node), node, Refusal::NoText { node })
+}
+
+/// The key of a node of a table that is lent, which is checked as a whole at each call; [`Table::key`] is the same of a
+/// table that was accepted before.
+///
+/// ```
+/// use stewpebble::{key_of_node, Refusal, Table};
+///
+/// let table: Table = r#"{"a":null}"#.parse()?;
+/// assert_eq!(key_of_node(table.records(), table.texts(), 1)?, "a");
+/// assert_eq!(key_of_node(table.records(), table.texts(), 7), Err(Refusal::NoSuchNode { node: 7, nodes: 2 }));
+/// # Ok::<(), stewpebble::Error>(())
+/// ```
+pub fn key_of_node<'a>(records: &[u8], texts: &'a [u8], node: u32) -> Result<&'a str, Refusal> {
+    part_of_node(records, texts, foreign::key_of_node(records, texts, node), node, Refusal::NoKey { node })
+}
+
+/// The part that the library's operation found. Its refusals of the table itself come with the numbers of the check.
+fn part_of_node<'a>(records: &[u8], texts: &'a [u8], found: Result<(usize, usize), Refused>, node: u32, none: Refusal) -> Result<&'a str, Refusal> {
+    match found {
+        Ok((start, length)) => part(texts, start, length).ok_or(none),
+        Err(refused) if refused.number == 15 => Err(absent(node, records.len() / RECORD, none)),
+        Err(refused) => Err(check_table(records, texts).err().unwrap_or_else(|| Refusal::new(refused, given(records, texts)))),
     }
 }
 
-impl std::error::Error for TableError {}
-
-const MAX_NODES: usize = 65535;
-const MAX_DEPTH: u8 = 63;
-const MAX_MEMBERS: usize = 1024;
-const MAX_TEXT: usize = 16777216;
-
-/// What is to be written for one node.
-struct Pending<'a> {
-    value: &'a Value,
-    depth: u8,
-    key: Option<&'a str>,
+/// Refusal 15 as it is known: there is no such node, or it has no such part.
+fn absent(node: u32, nodes: usize, none: Refusal) -> Refusal {
+    if (node as usize) < nodes {
+        none
+    } else {
+        Refusal::NoSuchNode { node, nodes }
+    }
 }
 
-/// Builds the records node by node; the children of a node are queued behind all that are queued already.
-struct Builder<'a> {
-    records: Vec<u8>,
-    texts: Vec<u8>,
-    queue: VecDeque<Pending<'a>>,
-    next_child: usize,
+fn part(texts: &[u8], start: usize, length: usize) -> Option<&str> {
+    core::str::from_utf8(texts.get(start..)?.get(..length)?).ok()
 }
 
-impl<'a> Builder<'a> {
-    fn place(&mut self, text: &str) -> Result<(u32, u32), TableError> {
-        let start = self.texts.len();
-        if MAX_TEXT - start < text.len() {
-            return Err(TableError::TooMuchText);
-        }
-        self.texts.extend_from_slice(text.as_bytes());
-        Ok((start as u32, text.len() as u32))
-    }
-
-    fn children(&mut self, depth: u8, members: impl ExactSizeIterator<Item = (Option<&'a str>, &'a Value)>) -> Result<(u32, u32), TableError> {
-        let count = members.len();
-        if count == 0 {
-            return Ok((0, 0));
-        }
-        if depth == MAX_DEPTH {
-            return Err(TableError::TooDeep);
-        }
-        let first = self.next_child;
-        if MAX_NODES - first < count {
-            return Err(TableError::TooManyNodes);
-        }
-        self.next_child += count;
-        self.queue.extend(members.map(|(key, value)| Pending { value, depth: depth + 1, key }));
-        Ok((first as u32, count as u32))
-    }
-
-    fn payload(&mut self, node: &Pending<'a>) -> Result<(u8, u64), TableError> {
-        let pair = |(low, high): (u32, u32)| u64::from(low) | u64::from(high) << 32;
-        Ok(match node.value {
-            Value::Null => (0, 0),
-            Value::Bool(b) => (1 + u8::from(*b), 0),
-            Value::Int(n) => (3, *n as u64),
-            Value::Float(x) if x.is_finite() => (4, x.to_bits()),
-            Value::Float(_) => return Err(TableError::NotFinite),
-            Value::Text(s) => (5, pair(self.place(s)?)),
-            Value::List(items) => (6, pair(self.children(node.depth, items.iter().map(|v| (None, v)))?)),
-            Value::Map(members) => {
-                if MAX_MEMBERS < members.len() {
-                    return Err(TableError::TooManyMembers);
-                }
-                let mut names = HashSet::new();
-                if let Some((name, _)) = members.iter().find(|(name, _)| !names.insert(name.as_str())) {
-                    return Err(TableError::RepeatedName(name.clone()));
-                }
-                (7, pair(self.children(node.depth, members.iter().map(|(k, v)| (Some(k.as_str()), v)))?))
-            }
-        })
-    }
-
-    fn record(&mut self, node: Pending<'a>) -> Result<(), TableError> {
-        let key = match node.key {
-            Some(key) => self.place(key)?,
-            None => (0, 0),
-        };
-        let (kind, payload) = self.payload(&node)?;
-        self.records.extend_from_slice(&[kind, node.depth, 0, 0]);
-        self.records.extend_from_slice(&key.0.to_le_bytes());
-        self.records.extend_from_slice(&key.1.to_le_bytes());
-        self.records.extend_from_slice(&[0; 4]);
-        self.records.extend_from_slice(&payload.to_le_bytes());
-        Ok(())
-    }
+fn given(records: &[u8], texts: &[u8]) -> Given<'static> {
+    Given { records: records.len(), texts: texts.len(), ..Given::default() }
 }
 
 impl Table {
     /// The table of a value.
-    pub fn from_value(value: &Value) -> Result<Table, TableError> {
-        let mut builder = Builder { records: Vec::new(), texts: Vec::new(), queue: VecDeque::new(), next_child: 1 };
-        builder.queue.push_back(Pending { value, depth: 0, key: None });
-        while let Some(node) = builder.queue.pop_front() {
-            builder.record(node)?;
-        }
-        Ok(Table { records: builder.records, texts: builder.texts })
+    ///
+    /// ```
+    /// use stewpebble::{Table, TableError, Value};
+    ///
+    /// let value = Value::List(vec![Value::Int(1), Value::from("x")]);
+    /// let table = Table::from_value(&value).unwrap();
+    /// assert_eq!(table.root().value(), value);
+    /// assert_eq!(Table::from_value(&Value::Float(f64::NAN)), Err(TableError::NotFinite));
+    /// ```
+    pub fn from_value(value: &Value) -> Result<Table, crate::TableError> {
+        let (records, texts) = crate::builder::build(value)?;
+        Ok(Table::accepted(records, texts))
+    }
+
+    /// The table of a JSON text.
+    ///
+    /// ```
+    /// use stewpebble::Table;
+    ///
+    /// assert_eq!(Table::from_json("[1, 2]").unwrap().nodes().len(), 3);
+    /// assert_eq!(Table::from_json("[1, 2").unwrap_err().to_string(), "line 1, column 6: a comma or a closing bracket is expected");
+    /// ```
+    pub fn from_json(text: &str) -> Result<Table, Error> {
+        Ok(Table::from_value(&Value::from_json(text)?)?)
     }
 
     /// A table that was made elsewhere, checked.
+    ///
+    /// ```
+    /// use stewpebble::{Refusal, Table};
+    ///
+    /// let table = Table::from_bytes(vec![0; 24], vec![]).unwrap();
+    /// assert_eq!(table.to_string(), "null");
+    /// assert_eq!(Table::from_bytes(vec![], vec![]), Err(Refusal::TableSize { records: 0, texts: 0 }));
+    /// ```
     pub fn from_bytes(records: Vec<u8>, texts: Vec<u8>) -> Result<Table, Refusal> {
         check_table(&records, &texts)?;
-        Ok(Table { records, texts })
+        Ok(Table::accepted(records, texts))
+    }
+
+    /// A table that keeps to the rules. Its nodes learn their parents.
+    fn accepted(records: Vec<u8>, texts: Vec<u8>) -> Table {
+        let nodes = records.len() / RECORD;
+        let mut table = Table { records, texts, parents: vec![0; nodes] };
+        for node in 0..nodes as u32 {
+            let Range { start, end } = table.children_of(node);
+            if let Some(parents) = table.parents.get_mut(start as usize..end as usize) {
+                parents.fill(node as u16);
+            }
+        }
+        table
     }
 
     /// The records, 24 bytes for each node.
+    ///
+    /// ```
+    /// let table: stewpebble::Table = "7".parse().unwrap();
+    /// assert_eq!(table.records().len(), 24);
+    /// assert_eq!((table.records()[0], table.records()[16]), (3, 7));
+    /// ```
+    #[must_use]
     pub fn records(&self) -> &[u8] {
         &self.records
     }
 
-    /// The texts of all nodes.
+    /// The texts and the keys of all nodes.
+    ///
+    /// ```
+    /// let table: stewpebble::Table = r#"{"a":"x"}"#.parse().unwrap();
+    /// assert_eq!(table.texts(), b"ax");
+    /// ```
+    #[must_use]
     pub fn texts(&self) -> &[u8] {
         &self.texts
     }
 
-    /// How many nodes there are.
-    pub fn nodes(&self) -> usize {
-        self.records.len() / 24
+    /// The records and the texts, for storing.
+    ///
+    /// ```
+    /// use stewpebble::Table;
+    ///
+    /// let table: Table = r#"{"a":"x"}"#.parse().unwrap();
+    /// let (records, texts) = table.clone().into_bytes();
+    /// assert_eq!(Table::from_bytes(records, texts), Ok(table));
+    /// ```
+    #[must_use]
+    pub fn into_bytes(self) -> (Vec<u8>, Vec<u8>) {
+        (self.records, self.texts)
     }
 
-    /// The text of a text node.
+    /// All nodes, by their numbers.
+    ///
+    /// ```
+    /// let table: stewpebble::Table = "[1,[2]]".parse().unwrap();
+    /// let values: Vec<String> = table.nodes().map(|node| node.to_string()).collect();
+    /// assert_eq!(values, ["[1,[2]]", "1", "[2]", "2"]);
+    /// ```
+    pub fn nodes(&self) -> impl ExactSizeIterator<Item = Node<'_>> + DoubleEndedIterator + Clone + '_ {
+        (0..self.parents.len() as u32).map(move |number| Node::new(self, number))
+    }
+
+    /// The node of a number, if there is one.
+    ///
+    /// ```
+    /// let table: stewpebble::Table = "[true]".parse().unwrap();
+    /// assert_eq!(table.node(1).unwrap().as_bool(), Some(true));
+    /// assert!(table.node(2).is_none());
+    /// ```
+    #[must_use]
+    pub fn node(&self, number: u32) -> Option<Node<'_>> {
+        ((number as usize) < self.parents.len()).then(|| Node::new(self, number))
+    }
+
+    /// The node of the whole value.
+    ///
+    /// ```
+    /// let table: stewpebble::Table = "[1]".parse().unwrap();
+    /// assert_eq!(table.root().number(), 0);
+    /// ```
+    #[must_use]
+    pub fn root(&self) -> Node<'_> {
+        Node::new(self, 0)
+    }
+
+    /// The text of a text node, read from its record.
+    ///
+    /// ```
+    /// use stewpebble::{Refusal, Table};
+    ///
+    /// let table: Table = r#"["x"]"#.parse().unwrap();
+    /// assert_eq!(table.text(1), Ok("x"));
+    /// assert_eq!(table.text(0), Err(Refusal::NoText { node: 0 }));
+    /// assert_eq!(table.text(2), Err(Refusal::NoSuchNode { node: 2, nodes: 2 }));
+    /// ```
     pub fn text(&self, node: u32) -> Result<&str, Refusal> {
-        self.part(false, node)
+        let none = || absent(node, self.parents.len(), Refusal::NoText { node });
+        let record = self.record(node).filter(|record| record[0] == Kind::Text as u8).ok_or_else(none)?;
+        part(&self.texts, word(record, 16) as usize, word(record, 20) as usize).ok_or_else(none)
     }
 
-    /// The key of a map's member.
+    /// The key of a map's member, read from its record.
+    ///
+    /// ```
+    /// use stewpebble::{Refusal, Table};
+    ///
+    /// let table: Table = r#"{"a":[1]}"#.parse().unwrap();
+    /// assert_eq!(table.key(1), Ok("a"));
+    /// assert_eq!(table.key(2), Err(Refusal::NoKey { node: 2 }));
+    /// ```
     pub fn key(&self, node: u32) -> Result<&str, Refusal> {
-        self.part(true, node)
-    }
-
-    fn part(&self, key: bool, node: u32) -> Result<&str, Refusal> {
-        let (start, length) = foreign::part_of_node(key, &self.records, &self.texts, node)?;
-        Ok(std::str::from_utf8(&self.texts[start..start + length]).expect("the texts of an accepted table are UTF-8"))
+        let none = || absent(node, self.parents.len(), Refusal::NoKey { node });
+        let parent = self.parent_of(node).ok_or_else(none)?;
+        if self.kind_of(parent) != Kind::Map {
+            return Err(none());
+        }
+        let record = self.record(node).ok_or_else(none)?;
+        part(&self.texts, word(record, 4) as usize, word(record, 8) as usize).ok_or_else(none)
     }
 
     /// The value of a node, with all that is below it; none if there is no such node.
+    ///
+    /// ```
+    /// use stewpebble::{Table, Value};
+    ///
+    /// let table: Table = "[1]".parse().unwrap();
+    /// assert_eq!(table.value(1), Some(Value::Int(1)));
+    /// assert_eq!(table.value(2), None);
+    /// ```
+    #[must_use]
     pub fn value(&self, node: u32) -> Option<Value> {
-        let (kind, payload) = self.record(node)?;
-        let (first, count) = (payload as u32, (payload >> 32) as u32);
-        Some(match kind {
-            0 => Value::Null,
-            1 => Value::Bool(false),
-            2 => Value::Bool(true),
-            3 => Value::Int(payload as i64),
-            4 => Value::Float(f64::from_bits(payload)),
-            5 => Value::Text(self.slice(first, count)?),
-            6 => Value::List((first..first + count).map(|i| self.value(i)).collect::<Option<_>>()?),
-            _ => Value::Map((first..first + count).map(|i| Some((self.name(i)?, self.value(i)?))).collect::<Option<_>>()?),
-        })
+        Some(self.node(node)?.value())
     }
 
-    // The library's text and key check the whole table at each call. The table of a `Table` was right when it was made,
-    // so a value, which takes a text or a key for each of its nodes, reads them from the records.
-
-    fn record(&self, node: u32) -> Option<(u8, u64)> {
-        let at = (node as usize).checked_mul(24)?;
-        let record = self.records.get(at..at + 24)?;
-        Some((record[0], u64::from_le_bytes(record[16..24].try_into().ok()?)))
+    /// What an operation on this table is given.
+    pub(crate) fn given(&self) -> Given<'static> {
+        given(&self.records, &self.texts)
     }
 
-    fn name(&self, node: u32) -> Option<String> {
-        let at = (node as usize).checked_mul(24)?;
-        let record = self.records.get(at..at + 24)?;
-        self.slice(u32::from_le_bytes(record[4..8].try_into().ok()?), u32::from_le_bytes(record[8..12].try_into().ok()?))
+    fn record(&self, node: u32) -> Option<&[u8; RECORD]> {
+        let at = (node as usize).checked_mul(RECORD)?;
+        self.records.get(at..)?.get(..RECORD)?.try_into().ok()
     }
 
-    fn slice(&self, start: u32, length: u32) -> Option<String> {
-        let part = self.texts.get(start as usize..)?.get(..length as usize)?;
-        Some(std::str::from_utf8(part).ok()?.to_owned())
+    /// Null for a node that is not there.
+    pub(crate) fn kind_of(&self, node: u32) -> Kind {
+        self.record(node).map_or(Kind::Null, |record| Kind::of_byte(record[0]))
+    }
+
+    /// The last eight bytes of a record; 0 for a node that is not there.
+    pub(crate) fn payload_of(&self, node: u32) -> u64 {
+        self.record(node).map_or(0, |record| u64::from(word(record, 16)) | u64::from(word(record, 20)) << 32)
+    }
+
+    /// The numbers of a node's children, which are none for what is no list or map.
+    pub(crate) fn children_of(&self, node: u32) -> Range<u32> {
+        match self.record(node) {
+            Some(record) if record[0] >= Kind::List as u8 => word(record, 16)..word(record, 16).saturating_add(word(record, 20)),
+            _ => 0..0,
+        }
+    }
+
+    pub(crate) fn parent_of(&self, node: u32) -> Option<u32> {
+        match node {
+            0 => None,
+            _ => self.parents.get(node as usize).map(|&parent| u32::from(parent)),
+        }
+    }
+}
+
+/// Four bytes of a record, from a place that is at most 20.
+fn word(record: &[u8; RECORD], at: usize) -> u32 {
+    u32::from_le_bytes([record[at], record[at + 1], record[at + 2], record[at + 3]])
+}
+
+impl FromStr for Table {
+    type Err = Error;
+
+    fn from_str(json: &str) -> Result<Table, Error> {
+        Table::from_json(json)
+    }
+}
+
+impl TryFrom<&Value> for Table {
+    type Error = crate::TableError;
+
+    fn try_from(value: &Value) -> Result<Table, crate::TableError> {
+        Table::from_value(value)
+    }
+}
+
+impl fmt::Display for Table {
+    fn fmt(&self, f: &mut fmt::Formatter<'_>) -> fmt::Result {
+        self.root().fmt(f)
+    }
+}
+
+impl fmt::Debug for Table {
+    fn fmt(&self, f: &mut fmt::Formatter<'_>) -> fmt::Result {
+        f.debug_struct("Table").field("nodes", &self.parents.len()).field("texts", &self.texts.len()).finish_non_exhaustive()
     }
 }

@@ -1,8 +1,10 @@
-//! The crate from outside: document 01's sample rows, refusals, stored plans, lent places, tables from values and back.
-use stewpebble::{check_table, compile, compile_bytes, select, select_into, Plan, Refusal, Table, TableError, Tally, Value};
+//! Queries from outside: sample rows, refusals, limits, stored plans, lent places, plan items and counts.
+use stewpebble::{compile, compile_bytes, select, select_into, select_up_to, Plan, Refusal, Table, Tally, Value, DEFAULT_LIMIT};
+#[cfg(feature = "std")]
+use stewpebble::Error;
 
 fn sample() -> Table {
-    Table::from_value(&Value::from_json(r#"{"a":[10,20.0,30],"b":"é"}"#).unwrap()).unwrap()
+    r#"{"a":[10,20.0,30],"b":"é"}"#.parse().unwrap()
 }
 
 #[test]
@@ -17,8 +19,8 @@ fn sample_rows() {
         ("$[?@ == 'é']", &[2]),
         ("$..*", &[1, 2, 3, 4, 5]),
     ] {
-        assert_eq!(select(query, &table).unwrap(), nodes, "{query}");
-        assert_eq!(compile(query).unwrap().run(&table).unwrap(), nodes, "{query}");
+        assert_eq!(select(query, &table).unwrap().numbers(), nodes, "{query}");
+        assert_eq!(query.parse::<Plan>().unwrap().run(&table).unwrap().into_numbers(), nodes, "{query}");
     }
 }
 
@@ -26,31 +28,72 @@ fn sample_rows() {
 fn refusals_tell_why() {
     let long = format!("$.{}", "a".repeat(4096));
     let deep = format!("{}{}", "$[?@".repeat(40), "]".repeat(40));
-    for (query, number) in [
-        (long.as_str(), 1),
-        (deep.as_str(), 3),
-        ("$.a[", 4),
-        ("$[9007199254740992]", 4),
-        ("$[?count(1) == 1]", 5),
-        ("$[?f(@)]", 6),
-        ("$[?match(@.a, 'x')]", 7),
-        ("$[?@ == 1e99]", 8),
+    for (query, number, words) in [
+        (long.as_str(), 1, "the query has 4,098 bytes, and 4,096 are the most"),
+        (deep.as_str(), 3, "the query has more than 32 brackets open at once"),
+        ("", 4, "this is not a JSONPath query, or a number in it is out of range"),
+        ("$.a[", 4, "this is not a JSONPath query, or a number in it is out of range"),
+        ("$[9007199254740992]", 4, "this is not a JSONPath query, or a number in it is out of range"),
+        ("$[?count(1) == 1]", 5, "a function, a comparison or a test in the query has operands of the wrong type or number"),
+        ("$[?f(@)]", 6, "the query calls a function that does not exist"),
+        ("$[?match(@.a, 'x')]", 7, "the functions match and search are not supported"),
+        ("$[?@ == 1e99]", 8, "a number in the query has too many digits or too large an exponent to be read exactly"),
     ] {
         let refusal = compile(query).unwrap_err();
-        assert_eq!(refusal.number(), number, "{refusal}");
-        assert!(!refusal.to_string().is_empty());
+        assert_eq!((refusal.number(), refusal.to_string().as_str()), (number, words), "{query}");
+        assert_eq!(select(query, &sample()).unwrap_err(), refusal);
     }
-    assert_eq!(compile_bytes(b"$\xFF").unwrap_err(), Refusal::QueryNotUtf8);
-    assert_eq!(compile("").unwrap_err(), Refusal::Syntax);
+    let refusal = compile_bytes(b"$.a\xFF").unwrap_err();
+    assert_eq!((refusal.number(), refusal.to_string().as_str()), (2, "the query is not UTF-8 after its first 3 bytes"));
+}
+
+#[cfg(feature = "std")]
+#[test]
+fn errors_are_errors() {
+    let errors: [(Box<dyn std::error::Error>, &str); 4] = [
+        (Error::from(compile("$[?f(@)]").unwrap_err()).into(), "the query calls a function that does not exist"),
+        (Error::from(Value::from_json("x").unwrap_err()).into(), "line 1, column 1: a value is expected"),
+        (Error::from(Table::from_value(&Value::Float(f64::NAN)).unwrap_err()).into(), "a float is infinite or not a number"),
+        (Error::from(sample().set_number(0, 1).unwrap_err()).into(), "node 0 is a map with 2 children, which would be no one's; build the table anew"),
+    ];
+    for (error, words) in errors {
+        assert_eq!((error.to_string().as_str(), error.source().unwrap().to_string().as_str()), (words, words));
+    }
+}
+
+#[test]
+fn no_query_grows_beyond_the_limit() {
+    let table: Table = format!("{}1{}", "[".repeat(50), "]".repeat(50)).parse().unwrap();
+    let doubling = |times: usize| format!("${}", "[*,*]".repeat(times));
+    let plan = compile(&doubling(50)).unwrap();
+    assert_eq!(plan.run(&table).unwrap_err(), Refusal::LimitPassed { limit: DEFAULT_LIMIT });
+    assert_eq!(plan.run(&table).unwrap_err().to_string(), "more than 1,048,576 nodes are selected, which is the limit");
+    assert_eq!(select(&doubling(20), &table).unwrap().len(), DEFAULT_LIMIT);
+    assert_eq!(select(&doubling(21), &table).unwrap_err(), Refusal::LimitPassed { limit: DEFAULT_LIMIT });
+    for (times, limit, holds) in [(9, 512, true), (9, 511, false), (1, 0, false), (10, 1024, true), (10, 1023, false), (9, usize::MAX, true)] {
+        let selected = select_up_to(&doubling(times), &table, limit);
+        let ran = compile(&doubling(times)).unwrap().run_up_to(&table, limit);
+        assert_eq!(selected.map(|nodes| nodes.len()), if holds { Ok(1 << times) } else { Err(Refusal::LimitPassed { limit }) });
+        assert_eq!(ran.map(|nodes| nodes.len()), if holds { Ok(1 << times) } else { Err(Refusal::LimitPassed { limit }) });
+    }
+    assert_eq!(select_up_to("$.nothing", &table, 0).unwrap().len(), 0);
 }
 
 #[test]
 fn one_plan_serves_values_of_any_kind() {
     let plan = compile("$[?@ >= 20]").unwrap();
     for (json, nodes) in [("[10,20,30]", &[2, 3][..]), ("[10.0,20.0,\"30\"]", &[2]), ("[null,[],{}]", &[])] {
-        let table = Table::from_value(&Value::from_json(json).unwrap()).unwrap();
-        assert_eq!(plan.run(&table).unwrap(), nodes, "{json}");
+        let table: Table = json.parse().unwrap();
+        assert_eq!(plan.run(&table).unwrap().numbers(), nodes, "{json}");
     }
+}
+
+#[test]
+fn the_rooms_are_enough() {
+    let slices = format!("$[{}:]", ":,".repeat(2046));
+    assert_eq!(compile(&slices).unwrap().items().count(), 2050);
+    let names = format!("$['{}']", "a".repeat(4091));
+    assert_eq!(compile(&names).unwrap().bytes().1.len(), 4091);
 }
 
 #[test]
@@ -72,9 +115,10 @@ fn lent_places() {
     assert_eq!(plan.run_into(&table, &mut list, 2).unwrap(), 3);
     assert_eq!(list, [99, 99, 3, 4, 5, 99]);
     let mut list = [99; 3];
-    assert_eq!(plan.run_into(&table, &mut list, 1).unwrap_err(), Refusal::ListFull);
+    assert_eq!(plan.run_into(&table, &mut list, 1).unwrap_err(), Refusal::ListFull { places: 2 });
     assert_eq!(list, [99, 3, 4]);
-    assert_eq!(select_into("$.a[*]", &table, &mut list, 4).unwrap_err(), Refusal::StartBeyond);
+    assert_eq!(select_into("$.a[*]", &table, &mut list, 4).unwrap_err(), Refusal::StartBeyond { start: 4, places: 3 });
+    assert_eq!(plan.run_into(&table, &mut [], 1).unwrap_err().to_string(), "the start position 1 is beyond the 0 places of the list");
     assert_eq!(list, [99, 3, 4]);
 }
 
@@ -86,48 +130,64 @@ fn lists_grow() {
 }
 
 #[test]
-fn values_there_and_back() {
-    let json = r#" {"a":[1,-2.5,1e3,"x\u00e9\ud83d\ude00\n"],"":{},"l":[[],[null,true,false]]} "#;
-    let value = Value::from_json(json).unwrap();
-    let table = Table::from_value(&value).unwrap();
-    check_table(table.records(), table.texts()).unwrap();
-    assert_eq!(table.value(0).unwrap(), value);
-    assert_eq!(table.key(1).unwrap(), "a");
-    assert_eq!(table.key(0).unwrap_err(), Refusal::NoSuchText);
-    assert_eq!(table.text(1).unwrap_err(), Refusal::NoSuchText);
-    assert_eq!(table.value(table.nodes() as u32), None);
+fn nodes_are_an_iterator() {
+    let table = sample();
+    let mut nodes = select("$..*", &table).unwrap();
+    assert_eq!((nodes.len(), nodes.size_hint()), (5, (5, Some(5))));
+    assert_eq!(nodes.next_back().unwrap().number(), 5);
+    assert_eq!(nodes.nth(1).unwrap().key(), Some("b"));
+    assert_eq!(nodes.numbers(), [3, 4]);
+    let values: Vec<Value> = nodes.map(|node| node.value()).collect();
+    assert_eq!(values, [Value::Int(10), Value::Float(20.0)]);
 }
 
 #[test]
-fn large_values_there_and_back() {
-    let value = Value::List((0..20000).map(|i| Value::Map(vec![("k".to_owned(), Value::Text(i.to_string()))])).collect());
-    assert_eq!(Table::from_value(&value).unwrap().value(0).unwrap(), value);
-}
-
-#[test]
-fn values_without_a_table() {
-    let mut deep = Value::Null;
-    for _ in 0..64 {
-        deep = Value::List(vec![deep]);
+fn items_say_the_whole_plan() {
+    let words = |query: &str| compile(query).unwrap().items().map(|item| format!("{}{item}", "  ".repeat(item.level()))).collect::<Vec<_>>();
+    assert_eq!(
+        words("$..['a',-1,1:,::-2,*][?!(@.x == 'y' && count($[0]) >= 1.5) || length(value(@.*)) != null]"),
+        [
+            "query from $",
+            "  descendant, 5 selectors",
+            "    name \"a\"",
+            "    index -1",
+            "    slice 1::",
+            "    slice ::-2",
+            "    wildcard",
+            "  child, 1 selector",
+            "    filter, 62 bytes",
+            "      query from @",
+            "        child, 1 selector",
+            "          name \"x\"",
+            "      end of the query",
+            "      text \"y\"",
+            "      compare ==",
+            "      and, unless false, 26 bytes",
+            "        query from $",
+            "          child, 1 selector",
+            "            index 0",
+            "        end of the query",
+            "        count",
+            "        float 1.5",
+            "        compare >=",
+            "      not",
+            "      or, unless true, 12 bytes",
+            "        query from @",
+            "          child, 1 selector",
+            "            wildcard",
+            "        end of the query",
+            "        value",
+            "        length",
+            "        null",
+            "        compare !=",
+            "end of the query",
+        ]
+    );
+    for query in ["$", "$..*", "$[?@ == true]", "$[?!value(@[?@.a || @.b && false != 1])]"] {
+        let plan = compile(query).unwrap();
+        let bytes: Vec<u8> = plan.items().flat_map(|item| [&[item.kind()], item.body()].concat()).collect();
+        assert_eq!(bytes, plan.bytes().0, "{query}");
     }
-    assert_eq!(Table::from_value(&deep).unwrap_err(), TableError::TooDeep);
-    let members = (0..1025).map(|i| (i.to_string(), Value::Null)).collect();
-    assert_eq!(Table::from_value(&Value::Map(members)).unwrap_err(), TableError::TooManyMembers);
-    let twice = vec![("a".to_owned(), Value::Null), ("a".to_owned(), Value::Null)];
-    assert_eq!(Table::from_value(&Value::Map(twice)).unwrap_err(), TableError::RepeatedName("a".to_owned()));
-    assert_eq!(Table::from_value(&Value::Float(f64::NAN)).unwrap_err(), TableError::NotFinite);
-    let many = Value::List(vec![Value::Null; 65535]);
-    assert_eq!(Table::from_value(&many).unwrap_err(), TableError::TooManyNodes);
-    assert_eq!(Table::from_bytes(vec![0; 23], vec![]).unwrap_err(), Refusal::TableSize);
-    assert_eq!(Table::from_bytes(vec![9; 24], vec![]).unwrap_err(), Refusal::TableRule { node: 0 });
-}
-
-#[test]
-fn texts_that_are_not_json() {
-    for json in ["", "[1,]", "{\"a\"}", "01", "1.", "\"\\x\"", "\"\\ud800\"", "[1] 2", "nul", "\"a", "{a:1}", "1e999"] {
-        assert!(Value::from_json(json).is_err(), "{json}");
-    }
-    assert_eq!(Value::from_json("[1,]").unwrap_err().to_string(), "a value is expected at byte 3");
 }
 
 #[test]
