@@ -122,14 +122,16 @@ impl<'p> Item<'p> {
         core::str::from_utf8(part).unwrap_or_default()
     }
 
+    /// The parts that are given, with the colons that a query needs for them.
     fn slice(&self, f: &mut fmt::Formatter<'_>) -> fmt::Result {
         let given = self.number(0, 1);
         f.write_str("slice ")?;
         for part in 0..3 {
-            if part > 0 {
+            let is_given = given >> part & 1 == 1;
+            if part == 1 || part == 2 && is_given {
                 f.write_str(":")?;
             }
-            if given >> part & 1 == 1 {
+            if is_given {
                 write!(f, "{}", self.number(1 + 8 * part, 8) as i64)?;
             }
         }

@@ -151,7 +151,7 @@ fn items_say_the_whole_plan() {
             "  descendant, 5 selectors",
             "    name \"a\"",
             "    index -1",
-            "    slice 1::",
+            "    slice 1:",
             "    slice ::-2",
             "    wildcard",
             "  child, 1 selector",
@@ -183,6 +183,9 @@ fn items_say_the_whole_plan() {
             "end of the query",
         ]
     );
+    for slice in ["1:2", ":", "1:", ":2", "::3", "1:2:3", ":-2:0", "-1::-3"] {
+        assert_eq!(words(&format!("$[{slice}]"))[2], format!("    slice {slice}"));
+    }
     for query in ["$", "$..*", "$[?@ == true]", "$[?!value(@[?@.a || @.b && false != 1])]"] {
         let plan = compile(query).unwrap();
         let bytes: Vec<u8> = plan.items().flat_map(|item| [&[item.kind()], item.body()].concat()).collect();
