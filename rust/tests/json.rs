@@ -68,6 +68,7 @@ fn texts_that_are_not_json() {
         ("\"\\u12", "line 1, column 6: four hexadecimal digits are expected"),
         ("\"\\ud800\"", "line 1, column 4: a surrogate stands for a character only as one of a pair"),
         ("\"\\udc00\\ud800\"", "line 1, column 4: a surrogate stands for a character only as one of a pair"),
+        ("\"\\udc00\\udc00\"", "line 1, column 4: a surrogate stands for a character only as one of a pair"),
         ("\"\\ud800\\u0041\"", "line 1, column 4: a surrogate stands for a character only as one of a pair"),
         ("\"\\ud800\\ue000\"", "line 1, column 4: a surrogate stands for a character only as one of a pair"),
         ("[1e400]", "line 1, column 2: the number is too large for a float"),
