@@ -1,7 +1,7 @@
 // Measures the stack that the deepest runs take: the least stack, to 16 KiB, on which each of them ends.
-//   plan    128 nested filters, each a query from `$` of 62 wildcards and the next filter, on a table of depth 63: the deepest plan that plan check takes
-//   query   32 queries from `$` inside each other, with descendants and a comparison in front of each: compiled, then run
-//   select  the same by select
+//   plans    up to 128 filters inside each other, each behind 62 segments from `$` that select all of a level, on a table of depth 63: the deepest that plan check takes
+//   queries  32 queries from `$` inside each other: descendants and a comparison in front of each, or 38 descendant wildcards
+//            each compiled and run, and by select
 // Each try runs in a process of its own, on a thread with a stack of the given size. A run that needs more than the header says is enough fails.
 #define _GNU_SOURCE
 #include <pthread.h>
@@ -33,13 +33,13 @@ static void make_table(void) {
     }
 }
 
-// The code of a query from `$` that nests n filters, written at p; where it ends.
-static uint8_t *code(uint8_t *p, int n) {
+// The code of a query from `$` that nests n filters, each behind many segments, written at p; where it ends.
+static uint8_t *code(uint8_t *p, int n, const uint8_t *segment, size_t size, int many) {
     *p++ = 1;
-    for (int i = 0; i < WILD; i++) { memcpy(p, "\3\1\0\10", 4); p += 4; }
+    for (int i = 0; i < many; i++) { memcpy(p, segment, size); p += size; }
     if (n > 0) {
         memcpy(p, "\3\1\0\11", 4);
-        uint8_t *length = p + 4, *q = code(p + 6, n - 1);
+        uint8_t *length = p + 4, *q = code(p + 6, n - 1, segment, size, many);
         *q++ = 0x18;
         size_t m = (size_t)(q - length - 2);
         length[0] = (uint8_t)m;
@@ -50,14 +50,21 @@ static uint8_t *code(uint8_t *p, int n) {
     return p;
 }
 
-static void make_plan(int n) { plan_length = (size_t)(code(plan, n) - plan); pool_length = 0; }
+static void make_plan(int n, const char *segment, size_t size) {
+    plan_length = (size_t)(code(plan, n, (const uint8_t *)segment, size, WILD) - plan);
+    pool_length = 0;
+}
 
-// `$`, 31 times `..[?@==1&&$`, then `..[?@==1&&$==$]` and the brackets that are open.
-static void make_query(void) {
+// `$` and 31 times a segment's text so often and a filter that begins as told, then the last of them and the brackets that are open.
+static void make_query(const char *segment, int often, const char *opens, const char *last) {
     char *p = (char *)query;
     *p++ = '$';
-    for (int i = 0; i < 31; i++) p = stpcpy(p, "..[?@==1&&$");
-    p = stpcpy(p, "..[?@==1&&$==$]");
+    for (int i = 0; i < 31; i++) {
+        for (int j = 0; j < often; j++) p = stpcpy(p, segment);
+        p = stpcpy(p, opens);
+    }
+    for (int j = 0; j < often; j++) p = stpcpy(p, segment);
+    p = stpcpy(p, last);
     for (int i = 0; i < 31; i++) *p++ = ']';
     query_length = (size_t)(p - (char *)query);
 }
@@ -110,16 +117,30 @@ static void measure(const char *name, size_t promised) {
     printf("%-8s ends on a stack of %zu KiB, and %zu KiB are promised to be enough\n", name, high >> 10, promised >> 10);
 }
 
+static void measure_plan(const char *name, int n, const char *segment, size_t size) {
+    compiling = selecting = 0;
+    make_plan(n, segment, size);
+    printf("plan of %zu bytes: ", plan_length);
+    measure(name, STEWPEBBLE_PLAN_STACK);
+}
+
+static void measure_query(const char *name, const char *segment, int often, const char *opens, const char *last) {
+    make_query(segment, often, opens, last);
+    printf("query of %zu bytes: ", query_length);
+    compiling = 1, selecting = 0;
+    measure(name, STEWPEBBLE_QUERY_STACK);
+    selecting = 1;
+    printf("the same by select: ");
+    measure(name, STEWPEBBLE_QUERY_STACK);
+}
+
 int main(void) {
     make_table();
-    make_plan(128);
-    printf("plan of %zu bytes\n", plan_length);
-    measure("plan", STEWPEBBLE_PLAN_STACK);
-    make_query();
-    printf("query of %zu bytes\n", query_length);
-    compiling = 1;
-    measure("query", STEWPEBBLE_QUERY_STACK);
-    selecting = 1;
-    measure("select", STEWPEBBLE_QUERY_STACK);
+    measure_plan("[*]", 128, "\3\1\0\10", 4);
+    measure_plan("[?@]", 113, "\3\1\0\11\3\0\2\12\30", 9);
+    measure_plan("..[?@,?@]", 68, "\4\2\0\11\3\0\2\12\30\11\3\0\2\12\30", 15);
+    measure_plan("..[*,*]", 128, "\4\2\0\10\10", 5);
+    measure_query("..[?@==1", "", 0, "..[?@==1&&$", "..[?@==1&&$==$]");
+    measure_query("..*", "..*", 38, "[?$", "[?$]");
     return over != 0;
 }

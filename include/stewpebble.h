@@ -50,7 +50,7 @@ enum stewpebble_refusal {
     STEWPEBBLE_REFUSED_TYPE = 5,             // a function, a comparison or a test has operands of the wrong type or number
     STEWPEBBLE_REFUSED_UNKNOWN_FUNCTION = 6,
     STEWPEBBLE_REFUSED_REGEX = 7,            // match or search is called
-    STEWPEBBLE_REFUSED_NUMBER_BEYOND = 8,    // a float literal has too many digits or too large an exponent to be read exactly
+    STEWPEBBLE_REFUSED_NUMBER_BEYOND = 8,    // a number literal has N of ten to the 19 or more, E outside -342..308, or is past the largest float
     STEWPEBBLE_REFUSED_TABLE_SIZE = 9,       // no whole number of records, none, or over 65,535; or over 16,777,216 bytes of text
     STEWPEBBLE_REFUSED_TABLE_RULE = 10,      // a rule of tables fails; the least such node is set
     STEWPEBBLE_REFUSED_PLAN = 11,            // the plan and the pool are those of no query
@@ -72,7 +72,7 @@ static inline const char *stewpebble_refusal_words(uint32_t refusal) {
     case STEWPEBBLE_REFUSED_TYPE: return "a function, a comparison or a test in the query has operands of the wrong type or number";
     case STEWPEBBLE_REFUSED_UNKNOWN_FUNCTION: return "the query calls a function that does not exist";
     case STEWPEBBLE_REFUSED_REGEX: return "the functions match and search are not supported";
-    case STEWPEBBLE_REFUSED_NUMBER_BEYOND: return "a number in the query has too many digits or too large an exponent to be read exactly";
+    case STEWPEBBLE_REFUSED_NUMBER_BEYOND: return "a number in the query has more than 19 digits, too large or small an exponent, or is too large for a float";
     case STEWPEBBLE_REFUSED_TABLE_SIZE: return "the table is empty, too large or cut off, or its texts are too large";
     case STEWPEBBLE_REFUSED_TABLE_RULE: return "a record of the table breaks a rule";
     case STEWPEBBLE_REFUSED_PLAN: return "the plan is damaged";

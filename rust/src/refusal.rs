@@ -37,7 +37,7 @@ pub enum Refusal {
     UnknownFunction,
     /// 7: the query calls match or search, which are not run.
     Regex,
-    /// 8: a number is beyond those that are read exactly.
+    /// 8: a number has over 19 digits, an exponent outside -342..308, or is past the largest float.
     NumberBeyond,
     /// 9: the table is empty or too large, or its size is no multiple of 24, or its texts are too large.
     TableSize {
@@ -188,7 +188,7 @@ impl fmt::Display for Refusal {
             Refusal::Type => write!(f, "a function, a comparison or a test in the query has operands of the wrong type or number"),
             Refusal::UnknownFunction => write!(f, "the query calls a function that does not exist"),
             Refusal::Regex => write!(f, "the functions match and search are not supported"),
-            Refusal::NumberBeyond => write!(f, "a number in the query has too many digits or too large an exponent to be read exactly"),
+            Refusal::NumberBeyond => write!(f, "a number in the query has more than 19 digits, too large or small an exponent, or is too large for a float"),
             Refusal::TableSize { records, texts } => table_size(f, records, texts),
             Refusal::TableRule { node } => write!(f, "the table breaks a rule of tables, first at node {node}"),
             Refusal::Plan => write!(f, "the plan is damaged"),

@@ -37,7 +37,7 @@ fn refusals_tell_why() {
         ("$[?count(1) == 1]", 5, "a function, a comparison or a test in the query has operands of the wrong type or number"),
         ("$[?f(@)]", 6, "the query calls a function that does not exist"),
         ("$[?match(@.a, 'x')]", 7, "the functions match and search are not supported"),
-        ("$[?@ == 1e99]", 8, "a number in the query has too many digits or too large an exponent to be read exactly"),
+        ("$[?@ == 1e999]", 8, "a number in the query has more than 19 digits, too large or small an exponent, or is too large for a float"),
     ] {
         let refusal = compile(query).unwrap_err();
         assert_eq!((refusal.number(), refusal.to_string().as_str()), (number, words), "{query}");
