@@ -183,4 +183,5 @@ def main():
     print(f"{len(given.splitlines())} lines, {len(given)} bytes")
 
 
-main()
+if __name__ == "__main__":
+    main()
