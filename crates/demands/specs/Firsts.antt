@@ -106,7 +106,7 @@ calls-reads : {s : List ℕ} → early s ≡ 0 → CallsMatch s → Reads s (ref
 unfolding judge
 calls-reads {s} h (t, g, b, q, w) = subst (Reads s) (ap judge w) (hasTree h t g)
 
--- with a literal beyond the exact range, 7 still comes before 8
+-- with a literal beyond the range of literals, 7 still comes before 8
 beyond-reads : {s : List ℕ} → early s ≡ 0 → BeyondExact s → Reads s (refused 7) ⊎ Reads s (refused 8)
 unfolding judge
 beyond-reads {s} h (t, g, true, q, w) = inl (subst (Reads s) (ap judge w) (hasTree h t g))

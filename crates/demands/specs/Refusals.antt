@@ -61,7 +61,7 @@ UnknownFunction s = WalkFinds s 6
 abbrev pub CallsMatch : List ℕ → Type 0
 CallsMatch s = (t : G.Query) × (spell t ≡ s) × (b : Bool) × (q : Query) × (walk t ≡ walked true b q)
 
--- 8: "float literal beyond the exact range": a tree spells the query, and the walk over it meets such a literal
+-- 8: a float literal beyond the range that document 02, W7, names: a tree spells the query, and the walk over it meets such a literal
 abbrev pub BeyondExact : List ℕ → Type 0
 BeyondExact s = (t : G.Query) × (spell t ≡ s) × (c : Bool) × (q : Query) × (walk t ≡ walked c true q)
 

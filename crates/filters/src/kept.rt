@@ -1,5 +1,5 @@
 // The nodes of a range for which a test holds: a test of one member, or of two with `&&` or `||` between them, where nothing or one name follows, and the number of
-// all children compared with an integer, where nothing follows. Such a test is read from the plan once, and needs neither tasks nor registers.
+// all children compared with an integer, where nothing follows. Such a test is read from the plan once, and needs no registers.
 use crate::atoms;
 use crate::atoms::Atom;
 use crate::atoms::Held;

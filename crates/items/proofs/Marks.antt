@@ -1,4 +1,4 @@
--- The marks of a state as one number: what a verdict, a call of match or search and a literal beyond the exact range add to it. Assumes nothing.
+-- The marks of a state as one number: what a verdict, a call of match or search and a literal beyond the range of literals add to it. Assumes nothing.
 use mathlib.Core.Path.{_≡_, refl, ap, sym, _∙_}
 use mathlib.Core.Logic.{_≢_}
 use mathlib.Core.Bool.{Bool, true, false, or-false, _||_}
@@ -56,6 +56,6 @@ module _ (n k : ℕ) (x y : Bool) (e : n / 256 ≡ k) where
 pub says-calls : (k : ℕ) → k ≢ 0 → k ≢ 2 → callsAt k ≡ (callsAt k || true)
 says-calls k h g = by-test (eqb k 1) (λ t. rw t) (λ f. let d = eqb-false k 1 f in rw (f, le-leb 3 k (omega arith)))
 
--- every number but 0 and 1 says that a literal is beyond the exact range
+-- every number but 0 and 1 says that a literal is beyond the range of literals
 pub says-beyond : (k : ℕ) → k ≢ 0 → k ≢ 1 → beyondAt k ≡ (beyondAt k || true)
 says-beyond k h g = rw (le-leb 2 k (omega arith))

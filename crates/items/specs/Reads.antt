@@ -21,7 +21,7 @@ pub use Rattle.levels.specs.Leaves.{Dotted, spellDotted, writeDotted, dottedFla
 
 -- ---- the state
 
--- whether match or search is called, and whether a literal is beyond the exact range, by the number for both: 0 neither, 1 the first, 2 the second, 3 both
+-- whether match or search is called, and whether a literal is beyond the range of literals, by the number for both: 0 neither, 1 the first, 2 the second, 3 both
 abbrev pub callsAt : ℕ → Bool
 callsAt k = eqb k 1 || leb 3 k
 

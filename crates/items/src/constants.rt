@@ -17,7 +17,7 @@ ghost use Rattle.writing.specs.Effects.{joinMarks};
 ghost use Rattle.writing.specs.Writes.{writeNumeral};
 ghost use Rattle.items.specs.Reads.{Done, Room, marksOf};
 
-// The state with a literal beyond the exact range.
+// The state with a literal beyond the range of literals.
 fn beyond(st: State) -> State
     ensures place { λ r. ⌜ (r .at ≡ st .at) × (r .len ≡ st .len) × (r .pool ≡ st .pool) ⌝ }
     ensures marks { λ r. ⌜ marksOf r ≡ joinMarks (marksOf st) (record { verdict = 0; calls = false; beyond = true }) ⌝ }

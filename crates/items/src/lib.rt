@@ -30,7 +30,7 @@ use texts::write_text;
 
 // Where the reader stands: its place in the query, the lengths of plan and pool so far, and the marks of what was read. The marks are one number, so that
 // a state is four words and is copied as such: below 256 the first verdict of 4, 5 and 6, and 256 times 0 for nothing more, 1 for a call of match or search,
-// 2 for a literal beyond the exact range, 3 for both.
+// 2 for a literal beyond the range of literals, 3 for both.
 pub struct State {
     pub at: usize,
     pub len: usize,
@@ -38,7 +38,7 @@ pub struct State {
     pub marks: usize,
 }
 
-// What stands for a call of match or search among the marks, and for a literal beyond the exact range.
+// What stands for a call of match or search among the marks, and for a literal beyond the range of literals.
 pub const CALLS: usize = 256;
 
 pub const BEYOND: usize = 512;

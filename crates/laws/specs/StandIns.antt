@@ -1,4 +1,4 @@
--- What stands in for a part that has no form is in no form: the walk of a query that has one meets no literal beyond the exact range, no call of
+-- What stands in for a part that has no form is in no form: the walk of a query that has one meets no literal beyond the range of literals, no call of
 -- match or search, and no chain straight in an argument, in which a value function could be an operand. Assumes nothing.
 use mathlib.Core.Path.{_≡_, refl, sym, ap, subst, _∙_}
 use mathlib.Core.List.{List, [], _∷_}
