@@ -35,7 +35,7 @@ use Rattle.items.specs.Laws.{after-end, join-none}
 use Rattle.items.specs.declared.State.{State}
 use Rattle.items.specs.declared.Step.{Step}
 use Rattle.items.specs.declared.Step.the-variants as step
-use Rattle.readings.specs.Readings.{ReadsOnly, CompilesOnly, none-only, tree-only, early-only, compiles-only}
+use Rattle.readings.specs.Readings.{OneReading, OneCompile, none-only, tree-only, early-only, compiles-only}
 use Rattle.compile.specs.Steps.{outcome, Rooms, Parsed, ParsePost, whole, none, refusalOf, verdictOf}
 
 -- ---- lists
@@ -163,7 +163,7 @@ module _ {s P' L' : List ℕ} {b : State} (p : Parsed s P' L' b) where
   agreed : Agreed (walk (p .tree)) (writeQuery (p .tree) 0)
   agreed = agrees (p .tree)
 
-  pub reading : early s ≡ 0 → ReadsOnly s (judge (walk (p .tree)))
+  pub reading : early s ≡ 0 → OneReading s (judge (walk (p .tree)))
   reading h = tree-only h (p .tree) (p .spells) (p .only)
 
   verdict-is : marksOf b .verdict ≡ writeQuery (p .tree) 0 .marks .verdict
@@ -213,13 +213,13 @@ module _ {s P' L' : List ℕ} {b : State} (p : Parsed s P' L' b) where
 
   -- ---- the outcome
 
-  pub outcome-refused : {P L : List ℕ} {n : ℕ} → early s ≡ 0 → n ≡ verdictOf b → (n ≡ 0 → ⊥) → CompilesOnly s P L (record { refusal = n; planLength = 0; poolLength = 0; planRoom = P; poolRoom = L })
+  pub outcome-refused : {P L : List ℕ} {n : ℕ} → early s ≡ 0 → n ≡ verdictOf b → (n ≡ 0 → ⊥) → OneCompile s P L (record { refusal = n; planLength = 0; poolLength = 0; planRoom = P; poolRoom = L })
   unfolding compileBy
   outcome-refused {P} {L} {n} h e k =
       let j : judge (walk (p .tree)) ≡ refused n = judged (λ z. k (e ∙ z)) ∙ ap refused (sym e) in
-      compiles-only (subst (ReadsOnly s) j (reading h)) refl
+      compiles-only (subst (OneReading s) j (reading h)) refl
 
-  pub outcome-form : {P L : List ℕ} {n : ℕ} {o : CompileOutcome} → early s ≡ 0 → n ≡ verdictOf b → n ≡ 0 → o ≡ write (leb (b .len) (length P) && leb (b .pool) (length L)) (take (b .len) P') (take (b .pool) L') P L → CompilesOnly s P L o
+  pub outcome-form : {P L : List ℕ} {n : ℕ} {o : CompileOutcome} → early s ≡ 0 → n ≡ verdictOf b → n ≡ 0 → o ≡ write (leb (b .len) (length P) && leb (b .pool) (length L)) (take (b .len) P') (take (b .pool) L') P L → OneCompile s P L o
   unfolding compileBy
   outcome-form {P} {L} {n} {o} h e z w =
       let f = formed (sym e ∙ z) in
@@ -227,15 +227,15 @@ module _ {s P' L' : List ℕ} {b : State} (p : Parsed s P' L' b) where
       let y : take (b .pool) L' ≡ poolOf (f .query) = p .pool ∙ sym (f .pool) in
       let l : b .len ≡ length (planOf (f .query)) = sym (short P' (b .len) (p .len)) ∙ ap length x in
       let m : b .pool ≡ length (poolOf (f .query)) = sym (short L' (b .pool) (p .poolLen)) ∙ ap length y in
-      compiles-only (subst (ReadsOnly s) (f .is) (reading h)) (w ∙ (λ i. write (leb (l i) (length P) && leb (m i) (length L)) (x i) (y i) P L))
+      compiles-only (subst (OneReading s) (f .is) (reading h)) (w ∙ (λ i. write (leb (l i) (length P) && leb (m i) (length L)) (x i) (y i) P L))
 
 -- no tree
-pub outcome-none : {s P L : List ℕ} → early s ≡ 0 → ((t : G.Query) → spell t ≡ s → ⊥) → CompilesOnly s P L (record { refusal = 4; planLength = 0; poolLength = 0; planRoom = P; poolRoom = L })
+pub outcome-none : {s P L : List ℕ} → early s ≡ 0 → ((t : G.Query) → spell t ≡ s → ⊥) → OneCompile s P L (record { refusal = 4; planLength = 0; poolLength = 0; planRoom = P; poolRoom = L })
 unfolding compileBy
 outcome-none h f = compiles-only (none-only h f) refl
 
 -- a refusal before the grammar
-pub outcome-early : {s P L : List ℕ} {n : ℕ} → n ≡ early s → (n ≡ 0 → ⊥) → CompilesOnly s P L (record { refusal = n; planLength = 0; poolLength = 0; planRoom = P; poolRoom = L })
+pub outcome-early : {s P L : List ℕ} {n : ℕ} → n ≡ early s → (n ≡ 0 → ⊥) → OneCompile s P L (record { refusal = n; planLength = 0; poolLength = 0; planRoom = P; poolRoom = L })
 unfolding compileBy
 outcome-early {s} {P} {L} e k = compiles-only (early-only (λ z. k (e ∙ z))) (ap (λ (m : ℕ). record { refusal = m; planLength = 0; poolLength = 0; planRoom = P; poolRoom = L }) e)
 

@@ -14,7 +14,7 @@ ghost use mathlib.Core.List.{List};
 ghost use Prim.Native.Nat.{ℕ, _+_, _*_, _≤_, _<_};
 ghost use lib.ListN.{length};
 ghost use Rattle.definition.specs.Outcomes.{early};
-ghost use Rattle.readings.specs.Readings.{CompilesOnly};
+ghost use Rattle.readings.specs.Readings.{OneCompile};
 ghost use Rattle.compile.specs.Steps.{outcome, Rooms, ParsePost, verdictOf, Delivers};
 
 const MAX_QUERY: usize = 4096;
@@ -162,7 +162,7 @@ fn compile_in(
     pool: &mut [u8],
 ) -> Compiled
     requires { ⌜ Rooms (now query) (now room) (now texts) × (early (now query) ≡ 0) ⌝ }
-    ensures { λ r. ⌜ CompilesOnly (now (query .entry)) (now (plan .entry)) (now (pool .entry)) (outcome r (now (plan .exit)) (now (pool .exit))) ⌝ }
+    ensures { λ r. ⌜ OneCompile (now (query .entry)) (now (plan .entry)) (now (pool .entry)) (outcome r (now (plan .exit)) (now (pool .exit))) ⌝ }
 {
     match parse(&query[0..], room, texts) {
         Step::Stop(_) => Compiled {
@@ -186,7 +186,7 @@ fn compile_in(
 
 pub fn compile_tiny(query: &[u8], plan: &mut [u8], pool: &mut [u8]) -> Compiled
     requires { ⌜ (length (now query) ≤ 16) × (early (now query) ≡ 0) ⌝ }
-    ensures { λ r. ⌜ CompilesOnly (now (query .entry)) (now (plan .entry)) (now (pool .entry)) (outcome r (now (plan .exit)) (now (pool .exit))) ⌝ }
+    ensures { λ r. ⌜ OneCompile (now (query .entry)) (now (plan .entry)) (now (pool .entry)) (outcome r (now (plan .exit)) (now (pool .exit))) ⌝ }
 {
     let mut room = [0u8; TINY_PLAN_ROOM];
     let mut texts = [0u8; TINY_POOL_ROOM];
@@ -195,7 +195,7 @@ pub fn compile_tiny(query: &[u8], plan: &mut [u8], pool: &mut [u8]) -> Compiled
 
 pub fn compile_small(query: &[u8], plan: &mut [u8], pool: &mut [u8]) -> Compiled
     requires { ⌜ (length (now query) ≤ 32) × (early (now query) ≡ 0) ⌝ }
-    ensures { λ r. ⌜ CompilesOnly (now (query .entry)) (now (plan .entry)) (now (pool .entry)) (outcome r (now (plan .exit)) (now (pool .exit))) ⌝ }
+    ensures { λ r. ⌜ OneCompile (now (query .entry)) (now (plan .entry)) (now (pool .entry)) (outcome r (now (plan .exit)) (now (pool .exit))) ⌝ }
 {
     let mut room = [0u8; SMALL_PLAN_ROOM];
     let mut texts = [0u8; SMALL_POOL_ROOM];
@@ -204,7 +204,7 @@ pub fn compile_small(query: &[u8], plan: &mut [u8], pool: &mut [u8]) -> Compiled
 
 pub fn compile_brief(query: &[u8], plan: &mut [u8], pool: &mut [u8]) -> Compiled
     requires { ⌜ (length (now query) ≤ 64) × (early (now query) ≡ 0) ⌝ }
-    ensures { λ r. ⌜ CompilesOnly (now (query .entry)) (now (plan .entry)) (now (pool .entry)) (outcome r (now (plan .exit)) (now (pool .exit))) ⌝ }
+    ensures { λ r. ⌜ OneCompile (now (query .entry)) (now (plan .entry)) (now (pool .entry)) (outcome r (now (plan .exit)) (now (pool .exit))) ⌝ }
 {
     let mut room = [0u8; BRIEF_PLAN_ROOM];
     let mut texts = [0u8; BRIEF_POOL_ROOM];
@@ -213,7 +213,7 @@ pub fn compile_brief(query: &[u8], plan: &mut [u8], pool: &mut [u8]) -> Compiled
 
 pub fn compile_short(query: &[u8], plan: &mut [u8], pool: &mut [u8]) -> Compiled
     requires { ⌜ (length (now query) ≤ 256) × (early (now query) ≡ 0) ⌝ }
-    ensures { λ r. ⌜ CompilesOnly (now (query .entry)) (now (plan .entry)) (now (pool .entry)) (outcome r (now (plan .exit)) (now (pool .exit))) ⌝ }
+    ensures { λ r. ⌜ OneCompile (now (query .entry)) (now (plan .entry)) (now (pool .entry)) (outcome r (now (plan .exit)) (now (pool .exit))) ⌝ }
 {
     let mut room = [0u8; SHORT_PLAN_ROOM];
     let mut texts = [0u8; SHORT_POOL_ROOM];
@@ -225,7 +225,7 @@ pub fn compile_short(query: &[u8], plan: &mut [u8], pool: &mut [u8]) -> Compiled
 // changes nothing of the answer.
 pub fn compile_long(query: &[u8], plan: &mut [u8], pool: &mut [u8], again: u8) -> Compiled
     requires { ⌜ early (now query) ≡ 0 ⌝ }
-    ensures { λ r. ⌜ CompilesOnly (now (query .entry)) (now (plan .entry)) (now (pool .entry)) (outcome r (now (plan .exit)) (now (pool .exit))) ⌝ }
+    ensures { λ r. ⌜ OneCompile (now (query .entry)) (now (plan .entry)) (now (pool .entry)) (outcome r (now (plan .exit)) (now (pool .exit))) ⌝ }
 {
     if 0 < again {
         return compile_long(query, plan, pool, again - 1);

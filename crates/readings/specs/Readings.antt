@@ -61,12 +61,12 @@ same-walk {s} h t t' g g' e = by-verdict (w .marks .verdict) refl
 
 -- ---- what a text comes to, and nothing else
 
-pub record ReadsOnly (s : List ℕ) (x : Reading) : Type 0 where
+pub record OneReading (s : List ℕ) (x : Reading) : Type 0 where
   pub reads : Reads s x
   pub only : (y : Reading) → Reads s y → y ≡ x
 
 -- a refusal before the grammar
-pub early-only : {s : List ℕ} → (early s ≡ 0 → ⊥) → ReadsOnly s (refused (early s))
+pub early-only : {s : List ℕ} → (early s ≡ 0 → ⊥) → OneReading s (refused (early s))
 early-only {s} n = record { reads = tooEarly n; only = only }
   where
     only : (y : Reading) → Reads s y → y ≡ refused (early s)
@@ -75,7 +75,7 @@ early-only {s} n = record { reads = tooEarly n; only = only }
     only y (hasTree h t g) = absurd (n h)
 
 -- no tree spells it
-pub none-only : {s : List ℕ} → early s ≡ 0 → ((t : G.Query) → spell t ≡ s → ⊥) → ReadsOnly s (refused 4)
+pub none-only : {s : List ℕ} → early s ≡ 0 → ((t : G.Query) → spell t ≡ s → ⊥) → OneReading s (refused 4)
 none-only {s} h f = record { reads = noTree h f; only = only }
   where
     only : (y : Reading) → Reads s y → y ≡ refused 4
@@ -84,7 +84,7 @@ none-only {s} h f = record { reads = noTree h f; only = only }
     only y (hasTree k t g) = absurd (f t g)
 
 -- a tree spells it, and for every other tree that does the same is written
-pub tree-only : {s : List ℕ} → early s ≡ 0 → (t : G.Query) → spell t ≡ s → ((t' : G.Query) → spell t' ≡ s → writeQuery t' 0 ≡ writeQuery t 0) → ReadsOnly s (judge (walk t))
+pub tree-only : {s : List ℕ} → early s ≡ 0 → (t : G.Query) → spell t ≡ s → ((t' : G.Query) → spell t' ≡ s → writeQuery t' 0 ≡ writeQuery t 0) → OneReading s (judge (walk t))
 tree-only {s} h t g o = record { reads = hasTree h t g; only = only }
   where
     only : (y : Reading) → Reads s y → y ≡ judge (walk t)
@@ -95,22 +95,22 @@ tree-only {s} h t g o = record { reads = hasTree h t g; only = only }
 -- ---- one outcome for each input
 
 -- what compile answers and leaves in both rooms
-pub record CompilesOnly (s P L : List ℕ) (o : CompileOutcome) : Type 0 where
+pub record OneCompile (s P L : List ℕ) (o : CompileOutcome) : Type 0 where
   pub is : Compiles s P L o
   pub only : (o' : CompileOutcome) → Compiles s P L o' → o' ≡ o
 
-pub compiles-only : {s : List ℕ} {x : Reading} {P L : List ℕ} {o : CompileOutcome} → ReadsOnly s x → o ≡ compileBy x P L → CompilesOnly s P L o
+pub compiles-only : {s : List ℕ} {x : Reading} {P L : List ℕ} {o : CompileOutcome} → OneReading s x → o ≡ compileBy x P L → OneCompile s P L o
 compiles-only {x = x} {P = P} {L = L} r e = record {
   is = record { reading = x; reads = r .reads; is = e };
   only = λ o' c. c .is ∙ ap (λ (y : Reading). compileBy y P L) (r .only (c .reading) (c .reads)) ∙ sym e;
 }
 
 -- what select answers and leaves in the list
-pub record SelectsOnly (s T X L : List ℕ) (at : ℕ) (o : RunOutcome) : Type 0 where
+pub record OneSelect (s T X L : List ℕ) (at : ℕ) (o : RunOutcome) : Type 0 where
   pub is : Selects s T X L at o
   pub only : (o' : RunOutcome) → Selects s T X L at o' → o' ≡ o
 
-pub selects-only : {s : List ℕ} {x : Reading} {T X L : List ℕ} {at : ℕ} {o : RunOutcome} → ReadsOnly s x → o ≡ runBy x T X L at → SelectsOnly s T X L at o
+pub selects-only : {s : List ℕ} {x : Reading} {T X L : List ℕ} {at : ℕ} {o : RunOutcome} → OneReading s x → o ≡ runBy x T X L at → OneSelect s T X L at o
 selects-only {x = x} {T = T} {X = X} {L = L} {at = at} r e = record {
   is = record { reading = x; reads = r .reads; is = e };
   only = λ o' c. c .is ∙ ap (λ (y : Reading). runBy y T X L at) (r .only (c .reading) (c .reads)) ∙ sym e;

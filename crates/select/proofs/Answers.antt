@@ -11,7 +11,7 @@ use Rattle.definition.specs.Walk.{walk}
 use Rattle.definition.specs.Outcomes.{Translates, early, judge, runBy, refuseRun}
 use Rattle.definition.specs.Outcomes.Reading.{refused, form}
 use Rattle.keeps.specs.Keeps.{compiled-keeps}
-use Rattle.readings.specs.Readings.{ReadsOnly, SelectsOnly, none-only, early-only, selects-only}
+use Rattle.readings.specs.Readings.{OneReading, OneSelect, none-only, early-only, selects-only}
 use Rattle.items.specs.declared.State.{State}
 use Rattle.compile.specs.Steps.{Parsed, verdictOf}
 use Rattle.compile.proofs.Answers.{reading, judged, formed}
@@ -22,18 +22,18 @@ use Rattle.select.specs.declared.Selection.the-variants as selection
 
 module _ {s P' L' : List ℕ} {b : State} (p : Parsed s P' L' b) where
   -- a refusal of the walk
-  pub select-refused : {T X L : List ℕ} {at n : ℕ} → early s ≡ 0 → n ≡ verdictOf b → (n ≡ 0 → ⊥) → SelectsOnly s T X L at (selected (selection.Refused n) L)
+  pub select-refused : {T X L : List ℕ} {at n : ℕ} → early s ≡ 0 → n ≡ verdictOf b → (n ≡ 0 → ⊥) → OneSelect s T X L at (selected (selection.Refused n) L)
   unfolding runBy selected
   select-refused {n = n} h e k =
       let j : judge (walk (p .tree)) ≡ refused n = judged p (λ z. k (e ∙ z)) ∙ ap refused (sym e) in
-      selects-only (subst (ReadsOnly s) j (reading p h)) refl
+      selects-only (subst (OneReading s) j (reading p h)) refl
 
   module _ {n : ℕ} (h : early s ≡ 0) (e : n ≡ verdictOf b) (z : n ≡ 0) where
     -- the plan that was written is that of a query form
     translation : Translates (formed p (sym e ∙ z) .query) (take (b .len) P') (take (b .pool) L')
     translation =
         let f = formed p (sym e ∙ z) in
-        let r = subst (ReadsOnly s) (f .is) (reading p h) in
+        let r = subst (OneReading s) (f .is) (reading p h) in
         let t = compiled-keeps s (f .query) (r .reads) in
         let x : planOf (f .query) ≡ take (b .len) P' = f .plan ∙ sym (p .plan) in
         let y : poolOf (f .query) ≡ take (b .pool) L' = f .pool ∙ sym (p .pool) in
@@ -43,11 +43,11 @@ module _ {s P' L' : List ℕ} {b : State} (p : Parsed s P' L' b) where
     planned = record { q = formed p (sym e ∙ z) .query; translates = translation }
 
     -- what it gives is what the query gives
-    pub select-form : {T X L : List ℕ} (L₁ : List ℕ) {at : ℕ} (r : Ran) → RunsForm (take (b .len) P') (take (b .pool) L') T X L at (ran r L₁) → SelectsOnly s T X L at (selected (selection.Ran r) L₁)
+    pub select-form : {T X L : List ℕ} (L₁ : List ℕ) {at : ℕ} (r : Ran) → RunsForm (take (b .len) P') (take (b .pool) L') T X L at (ran r L₁) → OneSelect s T X L at (selected (selection.Ran r) L₁)
     unfolding selected
     select-form L₁ r g =
         let f = formed p (sym e ∙ z) in
-        selects-only (subst (ReadsOnly s) (f .is) (reading p h)) (g (f .query) translation)
+        selects-only (subst (OneReading s) (f .is) (reading p h)) (g (f .query) translation)
 
 -- the parts of the rooms that hold them have their lengths
 pub plan-part : {s P' L' : List ℕ} {b : State} → Parsed s P' L' b → b .len ≡ length (take (b .len) P')
@@ -57,11 +57,11 @@ pub pool-part : {s P' L' : List ℕ} {b : State} → Parsed s P' L' b → b .poo
 pool-part {L' = L'} {b = b} p = omega (arith, length-take (b .pool) L', p .poolLen)
 
 -- no tree
-pub select-none : {s T X L : List ℕ} {at : ℕ} → early s ≡ 0 → ((t : G.Query) → spell t ≡ s → ⊥) → SelectsOnly s T X L at (selected (selection.Refused 4) L)
+pub select-none : {s T X L : List ℕ} {at : ℕ} → early s ≡ 0 → ((t : G.Query) → spell t ≡ s → ⊥) → OneSelect s T X L at (selected (selection.Refused 4) L)
 unfolding runBy selected
 select-none h f = selects-only (none-only h f) refl
 
 -- a refusal before the grammar
-pub select-early : {s T X L : List ℕ} {at n : ℕ} → n ≡ early s → (n ≡ 0 → ⊥) → SelectsOnly s T X L at (selected (selection.Refused n) L)
+pub select-early : {s T X L : List ℕ} {at n : ℕ} → n ≡ early s → (n ≡ 0 → ⊥) → OneSelect s T X L at (selected (selection.Refused n) L)
 unfolding runBy selected
 select-early {L = L} e k = selects-only (early-only (λ z. k (e ∙ z))) (ap (λ (m : ℕ). refuseRun m 0 L) e)

@@ -5,7 +5,7 @@ ghost use Prim.Native.Nat.{_≤_};
 ghost use lib.ListN.{length};
 ghost use Rattle.definition.specs.Outcomes.{RunOutcome, Selects, early};
 ghost use Rattle.compile.specs.Steps.{Rooms};
-ghost use Rattle.readings.specs.Readings.{SelectsOnly};
+ghost use Rattle.readings.specs.Readings.{OneSelect};
 ghost use Rattle.select.specs.Selections.{selected};
 use compile::rooms::BRIEF;
 use compile::rooms::BRIEF_PLAN_ROOM;
@@ -48,7 +48,7 @@ fn select_in<'a>(
     start: usize,
 ) -> Selection
     requires { ⌜ Rooms (now query) (now room) (now texts) × (early (now query) ≡ 0) ⌝ }
-    ensures { λ r. ⌜ SelectsOnly (now (query .entry)) (now (table .entry)) (now (text .entry)) (now (list .entry)) start (selected r (now (list .exit))) ⌝ }
+    ensures { λ r. ⌜ OneSelect (now (query .entry)) (now (table .entry)) (now (text .entry)) (now (list .entry)) start (selected r (now (list .exit))) ⌝ }
 {
     match parse(query, room, texts) {
         Step::Stop(_) => Selection::Refused(4),
@@ -74,7 +74,7 @@ fn select_tiny<'a>(
     start: usize,
 ) -> Selection
     requires { ⌜ (length (now query) ≤ 16) × (early (now query) ≡ 0) ⌝ }
-    ensures { λ r. ⌜ SelectsOnly (now (query .entry)) (now (table .entry)) (now (text .entry)) (now (list .entry)) start (selected r (now (list .exit))) ⌝ }
+    ensures { λ r. ⌜ OneSelect (now (query .entry)) (now (table .entry)) (now (text .entry)) (now (list .entry)) start (selected r (now (list .exit))) ⌝ }
 {
     let mut room = [0u8; TINY_PLAN_ROOM];
     let mut texts = [0u8; TINY_POOL_ROOM];
@@ -89,7 +89,7 @@ fn select_small<'a>(
     start: usize,
 ) -> Selection
     requires { ⌜ (length (now query) ≤ 32) × (early (now query) ≡ 0) ⌝ }
-    ensures { λ r. ⌜ SelectsOnly (now (query .entry)) (now (table .entry)) (now (text .entry)) (now (list .entry)) start (selected r (now (list .exit))) ⌝ }
+    ensures { λ r. ⌜ OneSelect (now (query .entry)) (now (table .entry)) (now (text .entry)) (now (list .entry)) start (selected r (now (list .exit))) ⌝ }
 {
     let mut room = [0u8; SMALL_PLAN_ROOM];
     let mut texts = [0u8; SMALL_POOL_ROOM];
@@ -104,7 +104,7 @@ fn select_brief<'a>(
     start: usize,
 ) -> Selection
     requires { ⌜ (length (now query) ≤ 64) × (early (now query) ≡ 0) ⌝ }
-    ensures { λ r. ⌜ SelectsOnly (now (query .entry)) (now (table .entry)) (now (text .entry)) (now (list .entry)) start (selected r (now (list .exit))) ⌝ }
+    ensures { λ r. ⌜ OneSelect (now (query .entry)) (now (table .entry)) (now (text .entry)) (now (list .entry)) start (selected r (now (list .exit))) ⌝ }
 {
     let mut room = [0u8; BRIEF_PLAN_ROOM];
     let mut texts = [0u8; BRIEF_POOL_ROOM];
@@ -119,7 +119,7 @@ fn select_short<'a>(
     start: usize,
 ) -> Selection
     requires { ⌜ (length (now query) ≤ 256) × (early (now query) ≡ 0) ⌝ }
-    ensures { λ r. ⌜ SelectsOnly (now (query .entry)) (now (table .entry)) (now (text .entry)) (now (list .entry)) start (selected r (now (list .exit))) ⌝ }
+    ensures { λ r. ⌜ OneSelect (now (query .entry)) (now (table .entry)) (now (text .entry)) (now (list .entry)) start (selected r (now (list .exit))) ⌝ }
 {
     let mut room = [0u8; SHORT_PLAN_ROOM];
     let mut texts = [0u8; SHORT_POOL_ROOM];
@@ -136,7 +136,7 @@ fn select_long<'a>(
     again: u8,
 ) -> Selection
     requires { ⌜ early (now query) ≡ 0 ⌝ }
-    ensures { λ r. ⌜ SelectsOnly (now (query .entry)) (now (table .entry)) (now (text .entry)) (now (list .entry)) start (selected r (now (list .exit))) ⌝ }
+    ensures { λ r. ⌜ OneSelect (now (query .entry)) (now (table .entry)) (now (text .entry)) (now (list .entry)) start (selected r (now (list .exit))) ⌝ }
 {
     if 0 < again {
         return select_long(query, table, text, list, start, again - 1);

@@ -54,9 +54,9 @@ fn advice(refusal: &Refusal) -> &'static str {
         Refusal::UnknownFunction => "The functions are count, length and value, in small letters.",
         Refusal::Regex => "There are no regular expressions here. Select more, and look at the texts afterwards.",
         Refusal::NumberBeyond => {
-            "Whole numbers are read up to 9,223,372,036,854,775,807. A number with a fraction or an\n\
-             exponent may have 15 digits, and its exponent less the digits of its fraction may be from\n\
-             -22 to 22."
+            "Whole numbers up to 9,223,372,036,854,775,807 are read as integers. Every other number is\n\
+             read as the nearest float: it may have 19 digits, its exponent less the digits of its\n\
+             fraction may be from -342 to 308, and it may not pass the largest float, 1.8e308."
         }
         Refusal::LimitPassed { .. } => "Set another limit by --limit, or select less.",
         _ => "docs/REFERENCE.md of the repository has all refusals.",
