@@ -2,8 +2,12 @@
 ghost use Prim.Native.Nat.{_<_};
 ghost use Rattle.number_fives.specs.Rule.{Leading, powers};
 
-// The entry at i belongs to 5 ^ (i - 342).
-const FIVES: [u64; 651] = [
+// One table of 651 entries, of which the one at i belongs to 5 ^ (i - 342), in three parts: a part is stored whole where one of its entries is read.
+const MIDDLE_FROM: usize = 217;
+
+const HIGH_FROM: usize = 434;
+
+const LOW: [u64; 217] = [
     17218479456385750618,
     10761549660241094136,
     13451937075301367670,
@@ -221,6 +225,9 @@ const FIVES: [u64; 651] = [
     15983352577617880224,
     9989595361011175140,
     12486994201263968925,
+];
+
+const MIDDLE: [u64; 217] = [
     15608742751579961156,
     9755464219737475723,
     12194330274671844653,
@@ -438,6 +445,9 @@ const FIVES: [u64; 651] = [
     14489086526122739788,
     18111358157653424735,
     11319598848533390459,
+];
+
+const HIGH: [u64; 217] = [
     14149498560666738074,
     17686873200833422592,
     11054295750520889120,
@@ -662,5 +672,11 @@ pub fn five(i: usize) -> u64
     requires { ⌜ i < powers ⌝ }
     ensures { λ r. ⌜ Leading i r ⌝ }
 {
-    FIVES[i]
+    if i < MIDDLE_FROM {
+        return LOW[i];
+    }
+    if i < HIGH_FROM {
+        return MIDDLE[i - MIDDLE_FROM];
+    }
+    HIGH[i - HIGH_FROM]
 }

@@ -1,14 +1,18 @@
--- `number_fives::five` meets its contract: antt computes the test over the whole table. Assumes nothing.
-use mathlib.Core.List.{List, [], _∷_}
-use Prim.Native.Nat.{ℕ}
+-- `number_fives::five` meets its contract: antt computes the test over the whole table, once. Assumes nothing.
+use mathlib.Core.Path.{_≡_, refl}
+use mathlib.Core.List.{List, [], _∷_, _++_}
+use Prim.Native.Nat.{ℕ, _+_, _-_, _≤_, _<_}
+use native.Mathlib.Nat.{zero-add}
+use native.Mathlib.Omega.{arith}
+use lib.Dec.{T}
 use borrow.Author.Needs.{needs}
-use Rattle.number_fives.proofs.Table.{ruled}
+use Rattle.number_fives.proofs.Table.{every, right, ruled-part}
 use Rattle.number_fives.proofs.five.Statement.{statement}
 use Rattle.number_fives.proofs.five.Tie as tie
 
 -- the entries, as the code has them
-fives : List ℕ
-fives =
+low : List ℕ
+low =
     17218479456385750618 ∷
     10761549660241094136 ∷
     13451937075301367670 ∷
@@ -226,6 +230,10 @@ fives =
     15983352577617880224 ∷
     9989595361011175140 ∷
     12486994201263968925 ∷
+    []
+
+middle : List ℕ
+middle =
     15608742751579961156 ∷
     9755464219737475723 ∷
     12194330274671844653 ∷
@@ -443,6 +451,10 @@ fives =
     14489086526122739788 ∷
     18111358157653424735 ∷
     11319598848533390459 ∷
+    []
+
+high : List ℕ
+high =
     14149498560666738074 ∷
     17686873200833422592 ∷
     11054295750520889120 ∷
@@ -662,6 +674,21 @@ fives =
     10261342003245940623 ∷
     []
 
+-- the whole table
+fives : List ℕ
+fives = low ++ (middle ++ high)
+
+-- The test passes over it.
+tested : T (every right 0 fives)
+unfolding low middle high fives
+tested = tt
+
+behind : (b i : ℕ) → b ≤ i → b + (i - b) ≡ i
+behind b i h = omega arith
+
+within : (b n i : ℕ) → i < b + n → b ≤ i → i - b < n
+within b n i h l = omega arith
+
 mul-result : tie.Need-mul-result
 mul-result c = search needs
 
@@ -669,8 +696,43 @@ array-read-result : tie.Need-array-read-result
 array-read-result c = search needs
 
 returns : tie.Need-returns
-unfolding fives
-returns c = ruled fives tt (c .args .i) (c .pre)
+unfolding low middle high fives
+returns c = ruled-part fives [] low (middle ++ high) tested refl (c .before .args .i) (c .before .args .i) (zero-add _) (c .if1 .taken)
+
+mul-result-2 : tie.Need-mul-result-2
+mul-result-2 c = search needs
+
+array-read-result-2 : tie.Need-array-read-result-2
+array-read-result-2 c = search needs
+
+returns-2 : tie.Need-returns-2
+unfolding low middle high fives
+returns-2 c =
+    let i = c .before .before .args .i in
+    ruled-part fives low middle high tested refl i (i - 217) (behind 217 i (c .before .if1 .left)) (within 217 217 i (c .if2 .taken) (c .before .if1 .left))
+
+mul-result-3 : tie.Need-mul-result-3
+mul-result-3 c = search needs
+
+array-read-result-3 : tie.Need-array-read-result-3
+array-read-result-3 c = search needs
+
+returns-3 : tie.Need-returns-3
+unfolding low middle high fives
+returns-3 c =
+    let i = c .before .before .args .i in
+    ruled-part fives (low ++ middle) high [] tested refl i (i - 434) (behind 434 i (c .if2 .left)) (within 434 217 i (c .before .before .pre) (c .if2 .left))
 
 pub five-spec : {M : Type 1} → statement M
-five-spec = tie.close (tie.spec mul-result array-read-result returns)
+five-spec =
+    tie.close
+    (tie.spec
+    mul-result
+    array-read-result
+    returns
+    mul-result-2
+    array-read-result-2
+    returns-2
+    mul-result-3
+    array-read-result-3
+    returns-3)
