@@ -195,14 +195,37 @@ pub fn neighbours(query: &str) -> bool {
     query.as_bytes().windows(8).any(|w| &w[..2] == b"\\u" && &w[6..] == b"\\u")
 }
 
+// Whether `!` stands before a value function outside of quoted text: the Rust text takes it, and here it is 5 where the walk leaves it (row W12). What else
+// the Rust text refuses in such a query may stand before or behind it, so that only the queries that it accepts are compared.
+pub fn retired(query: &str) -> bool {
+    let (mut rest, mut quote) = (query, None);
+    while let Some(c) = rest.chars().next() {
+        rest = &rest[c.len_utf8()..];
+        match (quote, c) {
+            (Some(_), '\\') => rest = rest.get(rest.chars().next().map_or(0, char::len_utf8)..).unwrap_or(""),
+            (Some(q), _) if q == c => quote = None,
+            (None, '\'' | '"') => quote = Some(c),
+            (None, '!') => {
+                let name = rest.trim_start_matches([' ', '\t', '\n', '\r']);
+                if ["count(", "length(", "value("].iter().any(|f| name.starts_with(f)) {
+                    return true;
+                }
+            }
+            _ => {}
+        }
+    }
+    false
+}
+
 struct Expected {
     refusal: u32,
     row: &'static str,
     tree: Option<Query>,
 }
 
-fn expected(parser: &JSONPathParser, query: &[u8]) -> Expected {
-    let say = |refusal, row| Expected { refusal, row, tree: None };
+// What is expected of a query; none where it is left out.
+fn expected(parser: &JSONPathParser, query: &[u8]) -> Option<Expected> {
+    let say = |refusal, row| Some(Expected { refusal, row, tree: None });
     if query.len() > 4096 {
         return say(1, "R1");
     }
@@ -213,18 +236,24 @@ fn expected(parser: &JSONPathParser, query: &[u8]) -> Expected {
         return say(3, "R3");
     }
     let mut joined = neighbours(text);
+    let retired = retired(text);
     let tree = match rust(parser, text) {
+        Rust::Kind(..) if retired => return None,
         Rust::Kind(k, row) => return say(k, row),
         Rust::Ok(q) => q,
         Rust::Panic => {
             joined = true;
             match rust(parser, &without_escapes(text)) {
+                Rust::Kind(..) if retired => return None,
                 Rust::Kind(k, _) => return say(k, "S2"),
                 Rust::Ok(q) => q,
                 Rust::Panic => return say(99, "the Rust text panics"),
             }
         }
     };
+    if retired {
+        return say(5, "W12");
+    }
     if calls_in_segment(&tree.segments) {
         return say(7, "S3, S4");
     }
@@ -234,7 +263,7 @@ fn expected(parser: &JSONPathParser, query: &[u8]) -> Expected {
     if joined {
         return say(0, "S1, S2");
     }
-    Expected { refusal: 0, row: ALIKE, tree: Some(tree) }
+    Some(Expected { refusal: 0, row: ALIKE, tree: Some(tree) })
 }
 
 // ---- the plan of the Rust text's tree
@@ -867,13 +896,16 @@ fn run() -> bool {
     let mut seen = HashSet::new();
     let mut counts: BTreeMap<(u32, &str), usize> = BTreeMap::new();
     let mut kept: BTreeMap<(u32, &str), Vec<Vec<u8>>> = BTreeMap::new();
-    let (mut plans, mut differences, mut smallest) = (0, 0, None::<(Vec<u8>, String)>);
+    let (mut plans, mut left_out, mut differences, mut smallest) = (0, 0, 0, None::<(Vec<u8>, String)>);
     while seen.len() < count {
         let query = maker.any();
         if !seen.insert(query.clone()) {
             continue;
         }
-        let want = expected(&parser, &query);
+        let Some(want) = expected(&parser, &query) else {
+            left_out += 1;
+            continue;
+        };
         *counts.entry((want.refusal, want.row)).or_default() += 1;
         if sample > 0 && (query.len() <= 64 || want.refusal == 1 && query.len() == 4097) {
             kept.entry((want.refusal, want.row)).or_default().push(query.clone());
@@ -911,7 +943,7 @@ fn run() -> bool {
     for ((refusal, row), n) in &counts {
         println!("{:>8}  {} {}", n, if *refusal == 0 { "ok       ".into() } else { format!("refused {refusal}") }, row);
     }
-    println!("{} queries, {} plans and pools compared, {} answers that no row explains", seen.len(), plans, differences);
+    println!("{} queries, {} of them left out (W12), {} plans and pools compared, {} answers that no row explains", seen.len(), left_out, plans, differences);
     if let Some((query, what)) = smallest {
         println!("the smallest: {:?} answered {}", String::from_utf8_lossy(&query), what);
     }

@@ -17,7 +17,7 @@ mod sample;
 extern crate loro_common;
 extern crate stewpebble;
 
-use compile::{beyond, calls_in_segment, hex, neighbours, rust, too_deep, Maker, Random, Rust, Writer};
+use compile::{beyond, calls_in_segment, hex, neighbours, retired, rust, too_deep, Maker, Random, Rust, Writer};
 use loro_common::LoroValue;
 use rustoracle::handler::ValueOrHandler;
 use rustoracle::json;
@@ -1103,8 +1103,11 @@ struct Case {
 // plainly select nothing.
 fn case(parser: &JSONPathParser, random: &mut Random, doc: &Doc, query: &str, all: bool, counts: &mut Counts) -> Option<Result<Case, String>> {
     let bytes = query.as_bytes();
+    let retired = retired(query);
     let (refusal, why, tree) = match rust(parser, query) {
+        Rust::Kind(..) if retired => return None,
         Rust::Kind(k, _) => (k, "as the Rust text", None),
+        Rust::Ok(tree) if retired => (5, "W12", Some(tree)),
         Rust::Ok(tree) if calls_in_segment(&tree.segments) => (7, "S3, S4", Some(tree)),
         Rust::Ok(tree) if beyond(bytes) => (8, "R8", Some(tree)),
         Rust::Ok(tree) => (0, "", Some(tree)),
@@ -1118,9 +1121,21 @@ fn case(parser: &JSONPathParser, random: &mut Random, doc: &Doc, query: &str, al
         let how = format!("refused {refusal} {why}");
         add(&mut counts.cases, &how);
         let rows = if tree.is_some() { why.replace(' ', "") } else { "-".into() };
-        return Some(refused(&Call::Select(bytes), doc, refusal).map(|()| Case { refusal, nodes: Vec::new(), rows, how, tree }));
+        let stored = tree.as_ref().filter(|tree| retired && !calls_in_segment(&tree.segments) && !beyond(bytes));
+        let done = refused(&Call::Select(bytes), doc, refusal).and_then(|()| stored.map_or(Ok(()), |tree| still_runs(doc, tree)));
+        return Some(done.map(|()| Case { refusal, nodes: Vec::new(), rows, how, tree }));
     }
     evaluated(random, doc, &Compiled { query: bytes, plan, pool }, tree?, all, counts)
+}
+
+// The plan that a query with `!` before a value function had is accepted, and runs as it did.
+fn still_runs(doc: &Doc, tree: &Query) -> Result<(), String> {
+    let (plan, pool) = translation(tree);
+    let (want, walk) = Walk::of(doc, tree, false);
+    if walk.steps > MOST_STEPS {
+        return Ok(());
+    }
+    call(&Call::Run(&plan, &pool), doc, want.len(), 0, &want).map(|_| ())
 }
 
 // A query that passes, with its plan and its pool.

@@ -427,8 +427,9 @@ static void basic(int depth) {
         comparable(depth), blank(), say(ANY("==", "!=", "<", "<=", ">", ">=")), blank(), comparable(depth);
     } else if (k == 6 && depth > 0) {
         if (one_in(8)) { say(ANY("match(@,'a')", "!search(@.a, \"a\")", "foo()", "count()==1", "length(@.*)==0")); return; }
-        if (!one_in(20)) say("!"), blank();
-        function(depth - 1);
+        // a function alone is refused 5, with `!` before it or without
+        if (one_in(20)) { if (one_in(2)) say("!"), blank(); function(depth - 1); return; }
+        function(depth - 1), blank(), say(ANY("==", "!=", "<", "<=", ">", ">=")), blank(), comparable(depth);
     } else {
         if (one_in(4)) say("!"), blank();
         path(depth, 0);

@@ -47,7 +47,7 @@ enum stewpebble_refusal {
     STEWPEBBLE_REFUSED_QUERY_NOT_UTF8 = 2,
     STEWPEBBLE_REFUSED_QUERY_TOO_DEEP = 3,   // more than 32 brackets are open at once
     STEWPEBBLE_REFUSED_SYNTAX = 4,           // not in the grammar, or an index or a slice number is outside -(2^53-1)..2^53-1
-    STEWPEBBLE_REFUSED_TYPE = 5,             // a function, a comparison or a test has operands of the wrong type or number
+    STEWPEBBLE_REFUSED_TYPE = 5,             // a function, a comparison or a test has operands of the wrong type or number; or ! stands before a value function
     STEWPEBBLE_REFUSED_UNKNOWN_FUNCTION = 6,
     STEWPEBBLE_REFUSED_REGEX = 7,            // match or search is called
     STEWPEBBLE_REFUSED_NUMBER_BEYOND = 8,    // a number literal has N of ten to the 19 or more, E outside -342..308, or is past the largest float
@@ -69,7 +69,7 @@ static inline const char *stewpebble_refusal_words(uint32_t refusal) {
     case STEWPEBBLE_REFUSED_QUERY_NOT_UTF8: return "the query is not UTF-8";
     case STEWPEBBLE_REFUSED_QUERY_TOO_DEEP: return "the query has more than 32 brackets open at once";
     case STEWPEBBLE_REFUSED_SYNTAX: return "this is not a JSONPath query, or a number in it is out of range";
-    case STEWPEBBLE_REFUSED_TYPE: return "a function, a comparison or a test in the query has operands of the wrong type or number";
+    case STEWPEBBLE_REFUSED_TYPE: return "a function, a comparison or a test in the query has operands of the wrong type or number; in place of !count(@.*) write !@.* or count(@.*) == 0";
     case STEWPEBBLE_REFUSED_UNKNOWN_FUNCTION: return "the query calls a function that does not exist";
     case STEWPEBBLE_REFUSED_REGEX: return "the functions match and search are not supported";
     case STEWPEBBLE_REFUSED_NUMBER_BEYOND: return "a number in the query has more than 19 digits, too large or small an exponent, or is too large for a float";

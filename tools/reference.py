@@ -295,8 +295,8 @@ class Grammar:
 
 
 class Walk:
-    def __init__(self):
-        self.calls_regex, self.floats = False, []
+    def __init__(self, stored):
+        self.stored, self.calls_regex, self.floats = stored, False, []
 
     def query(self, q):
         sigil, segments = q
@@ -335,14 +335,19 @@ class Walk:
     def basic(self, tree):
         if tree[0] == "paren":
             e = self.either(tree[2], True)
-            return ("not", e) if tree[1] else e
+            return self.negated(e) if tree[1] else e
         if tree[0] == "test":
             e = self.item(tree[2])
-            return ("not", e) if tree[1] else e
+            return self.negated(e) if tree[1] else e
         left, right = self.item(tree[2]), self.item(tree[3])
         for e in (left, right):
             need(not (e[0] == "call" and not FUNCTIONS[e[1]][1]), 5)
         return ("compare", tree[1], left, right)
+
+    def negated(self, e):
+        """`!` straight before a value function is refused where the walk leaves it, but for the form of a stored plan."""
+        need(self.stored or not (e[0] == "call" and FUNCTIONS[e[1]][1]), 5)
+        return ("not", e)
 
     def item(self, tree):
         if tree[0] == "query":
@@ -418,12 +423,12 @@ def function_form(e):
 # ---- compile
 
 
-def form(query):
-    """The form of a query's bytes, or a refusal from 1 to 8."""
+def form(query, stored=False):
+    """The form of a query's bytes, or a refusal from 1 to 8; with stored, also the form that `!` before a value function had, which plans still hold."""
     need(len(query) <= MAX_QUERY, 1)
     need(tables.is_utf8(query), 2)
     need(not brackets_pass(query), 3)
-    tree, walk = Grammar(query.decode()).whole(), Walk()
+    tree, walk = Grammar(query.decode()).whole(), Walk(stored)
     typed = walk.query(tree)
     need(not walk.calls_regex, 7)
     need(all(map(inside, walk.floats)), 8)

@@ -381,6 +381,11 @@ def plan_lines():
     say(b"plan", b"010a", b"-")
     say(b"plan", b"010a", b"61")
     say(b"plan", b"020a", b"-")
+    r = random.Random(20261116)
+    for query in map(str.encode, queries.STORED):
+        plan, pool = plans.translate(reference.form(query, stored=True))
+        say(b"plan", hexed(plan), hexed(pool))
+        say(b"plan", *map(hexed, changed(r, plan, pool)))
 
 
 def select_lines():
@@ -389,8 +394,8 @@ def select_lines():
         table, text = build(document)
         t, x = hexed(table), hexed(text)
         for query in map(str.encode, texts):
-            n = reference.select(query, table, text, PLACES, 0)[1]
-            plan, pool = plans.translate(reference.form(query))
+            plan, pool = plans.translate(reference.form(query, stored=True))
+            n = reference.run(plan, pool, table, text, PLACES, 0)[1]
             length, start = r.choice([(n, 0), (n + 2, 0), (n + 3, 2), (n + 1, 1), (4096, 0), (n + 7, 0)])
             say(b"select", hexed(query), t, x, length, start)
             length, start = r.choice([(n, 0), (n + 3, 2), (max(n, 1) - 1, 0), (n + 1, 2), (n, n), (n, n + 1), (n // 2 + 4, 4)])
@@ -432,7 +437,7 @@ def take_lines():
         say(b"take", hexed(counted(counts)), taken, hexed(plan), hexed(pool))
 
     for query in (b"$.a[1]", b"$", b"$[1:2:3,::]", b"$[?@.a && !@.b || @.c < null]", b"$[?length(value(@.a)) >= 2.5]", b"$[?!count(@..*)]", b"$[?@['x'] == 'y']"):
-        plan, pool = plans.translate(reference.form(query))
+        plan, pool = plans.translate(reference.form(query, stored=True))
         line(counts, taken, plan, pool)
         line(counts, taken, plan[:-1], pool)
         refusal, counts, taken = reference.take(counts, taken, plan, pool)

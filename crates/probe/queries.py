@@ -69,8 +69,13 @@ COMPILED = [
     (0, ["$[?count(@)==1]", "$[?count(@.*)==1]", "$[?count($..a)==1]", "$[?count( @ )==1]", "$[?count(\n@\t)==1]", "$[?length(@)==1]", "$[?length(@.a)==1]", "$[?length('a')==1]",
          "$[?length(1)==1]", "$[?length(-0)==1]", "$[?length(1.5)==1]", "$[?length(true)==1]", "$[?length(null)==1]", "$[?length(count(@))==1]", "$[?length(value(@))==1]",
          "$[?length(length(length('a')))==1]", "$[?value(@)==1]", "$[?value(@..a)==1]", "$[?count((@.a))==1]", "$[?count(((@.a)))==1]", "$[?length((@.a))==0]", "$[?length(((@)))==0]",
-         "$[?value((@.*))==1]", "$[?length(@[ 'a' ])==0]", "$[?!count(@.*)]", "$[?!length('')]", "$[?!value(@)]", "$[?! value( @ )]", "$[?!(!count(@.*))]", "$[?!count(@)&&@]", "$[?@||!value(@)]",
-         "$[?(!value(@))]", "$[?count(@[?count(@)==1])==1]", "$[?count(@[?!value(@)])==1]", "$[?value(@)==value($)]", "$[?length(\"é\")<=2]", "$[?!length(@)]", "$[?!length(length(@))]"]),
+         "$[?value((@.*))==1]", "$[?length(@[ 'a' ])==0]", "$[?count(@[?count(@)==1])==1]", "$[?value(@)==value($)]", "$[?length(\"é\")<=2]"]),
+    # `!` straight before a value function: what is wrong inside comes first, what stands behind comes later
+    (5, ["$[?!count(@.*)]", "$[?!length('')]", "$[?!value(@)]", "$[?! value( @ )]", "$[?!(!count(@.*))]", "$[?!count(@)&&@]", "$[?@||!value(@)]", "$[?(!value(@))]", "$[?count(@[?!value(@)])==1]",
+         "$[?!length(@)]", "$[?!length(length(@))]", "$[?!count(@) && foo()]", "$[?foo(!count(@))]", "$[?foo(!length('a'))]", "$[?!count(@)||match('a','b')]", "$[?!length(1e309)]",
+         "$[?!count(@)][9007199254740992]", "$[?!count(1)]", "$[?!count(@,@)]"]),
+    (6, ["$[?!count(foo())]", "$[?!foo(@)]", "$[?!length(foo()) && foo()]", "$[?foo() && !count(@)]"]),
+    (4, ["$[?!count(@[9007199254740992])]", "$[?!count(@]", "$[?!count(@)==1]", "$[?!count @]"]),
     (4, ["$[?count@)]", "$[?count(@]", "$[?count (@)==1]", "$[?Count(@)==1]", "$[?COUNT(@)==1]", "$[?count(@,)==1]", "$[?count(,@)==1]", "$[?count(@ @)==1]", "$[?length(('a'))==1]",
          "$[?length((1))==1]", "$[?length(!'a')==1]", "$[?count(a)==1]", "$[?count(!1)==1]", "$[?count(@==)==1]", "$[?count(@ &&)==1]", "$[?count(())==1]", "$[?count(TRUE)==1]", "$[?_f(@)]",
          "$[?9f(@)]", "$[?f-g(@)]", "$[?f.g(@)]", "$[?(count)(@)==1]", "$[?count(@.*).a==1]", "$[?count(@)[0]]", "$[?'a'(@)]", "$count(@)", "$[count(@)]", "$[?length([1])==1]",
@@ -84,7 +89,7 @@ COMPILED = [
          "$[?foo(count())]", "$[?1e99==1 && count(1)==1]", "$[?match('a','b') && count(@)]", "$[?count(@)][9007199254740992]", "$[?count(@)][?foo()]", "$[?foo(@[?count(@)])]",
          "$[?foo((@ && count(@)))]", "$[?match('a','b')==1e309]", "$[?count(@)==1 && count(@)]", "$[?length((@==1))==1]"]),
     (6, ["$[?foo()]", "$[?foo(@)]", "$[?foo(@)==1]", "$[?1==foo()]", "$[?!foo()]", "$[?true(@)]", "$[?null()]", "$[?false()==1]", "$[?counts(@)==1]", "$[?coun(@)==1]", "$[?a_1(@)]", "$[?a(1,'b',@.*,@==1,c())]",
-         "$[?foo(length('a') && @)]", "$[?foo(!length('a'))]", "$[?foo(count(@)||@)]", "$[?foo(match('a','b'))]", "$[?count(foo(@))==1]", "$[?count(@, foo())==1]", "$[?match('a','b')==foo()]",
+         "$[?foo(length('a') && @)]", "$[?foo(count(@)||@)]", "$[?foo(match('a','b'))]", "$[?count(foo(@))==1]", "$[?count(@, foo())==1]", "$[?match('a','b')==foo()]",
          "$[?foo()==match('a','b')]", "$[?foo()][9007199254740992]", "$[?foo()][?count(@)]", "$[?@[?foo()]]", "$[?foo() && count(@)]", "$[?in(@)]", "$[?contains(@,1)]", "$[?length(foo())==1]",
          "$[?match('a','b') && foo()]", "$[?@==1e23 && foo()]", "$[?foo( )]", "$[?foo(\t1 ,\n2 )]", "$[?count(@.a, foo())]", "$[?foo(1e23)]", "$[?foo(@ && @)]", "$[?foo(count(@))]"]),
     (4, ["$[9007199254740992][?foo()]", "$[?match('a','b')==@[9007199254740992]]", "$[?foo(@[9007199254740992])]", "$[9007199254740992][?count(@)]", "$[?@[9007199254740992]==foo()]",
@@ -113,6 +118,9 @@ RAW = [
     (1, [b"\xff" * 4097, b"$" * 4096 + b"\xff"]),
     (0, ["$.\u0080\u07ff\u0800\ud7ff\ue000\uffff\U00010000\U0010ffff".encode()]),
 ]
+
+# queries that are refused, whose plans may be stored and still run
+STORED = ["$[?!count(@.*)]", "$[?!length('')]", "$[?!length('é')&&@]", "$[?!value(@.a)]", "$[?!(!count(@.*))]", "$[?@||!value(@)]", "$[?count(@[?!value(@)])==1]", "$[?!length(length(@.a.b))]"]
 
 SAMPLE = {"a": [10, 20.0, 30], "b": "é"}
 ROWS = ["$", "$['a'][-1]", "$.a[-4]", "$.a[::2]", "$.a[::-1]", "$.a[9::-2]", "$.a[-9:-9:-1]", "$.a[?@ >= 20]", "$..*", "$.a[?@.x == $.y]", "$[?length(@) == 0]", "$[?length('é') == 2]",

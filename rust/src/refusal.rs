@@ -31,7 +31,8 @@ pub enum Refusal {
     QueryTooDeep,
     /// 4: the query is not in the grammar, or an index or a slice number is out of range.
     Syntax,
-    /// 5: a function, a comparison or a test has arguments of the wrong type or number.
+    /// 5: a function, a comparison or a test has arguments of the wrong type or number. `!` takes no value function: write
+    /// `!@.*` to ask whether there is nothing, and `count(@.*) == 0` to ask for a number.
     Type,
     /// 6: no function has this name.
     UnknownFunction,
@@ -185,7 +186,7 @@ impl fmt::Display for Refusal {
             Refusal::QueryNotUtf8 { at } => write!(f, "the query is not UTF-8 after its first {} bytes", grouped(at)),
             Refusal::QueryTooDeep => write!(f, "the query has more than {MAX_BRACKETS} brackets open at once"),
             Refusal::Syntax => write!(f, "this is not a JSONPath query, or a number in it is out of range"),
-            Refusal::Type => write!(f, "a function, a comparison or a test in the query has operands of the wrong type or number"),
+            Refusal::Type => write!(f, "a function, a comparison or a test in the query has operands of the wrong type or number; in place of !count(@.*) write !@.* or count(@.*) == 0"),
             Refusal::UnknownFunction => write!(f, "the query calls a function that does not exist"),
             Refusal::Regex => write!(f, "the functions match and search are not supported"),
             Refusal::NumberBeyond => write!(f, "a number in the query has more than 19 digits, too large or small an exponent, or is too large for a float"),

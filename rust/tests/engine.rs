@@ -34,7 +34,8 @@ fn refusals_tell_why() {
         ("", 4, "this is not a JSONPath query, or a number in it is out of range"),
         ("$.a[", 4, "this is not a JSONPath query, or a number in it is out of range"),
         ("$[9007199254740992]", 4, "this is not a JSONPath query, or a number in it is out of range"),
-        ("$[?count(1) == 1]", 5, "a function, a comparison or a test in the query has operands of the wrong type or number"),
+        ("$[?count(1) == 1]", 5, "a function, a comparison or a test in the query has operands of the wrong type or number; in place of !count(@.*) write !@.* or count(@.*) == 0"),
+        ("$[?!count(@.*)]", 5, "a function, a comparison or a test in the query has operands of the wrong type or number; in place of !count(@.*) write !@.* or count(@.*) == 0"),
         ("$[?f(@)]", 6, "the query calls a function that does not exist"),
         ("$[?match(@.a, 'x')]", 7, "the functions match and search are not supported"),
         ("$[?@ == 1e999]", 8, "a number in the query has more than 19 digits, too large or small an exponent, or is too large for a float"),
@@ -186,11 +187,26 @@ fn items_say_the_whole_plan() {
     for slice in ["1:2", ":", "1:", ":2", "::3", "1:2:3", ":-2:0", "-1::-3"] {
         assert_eq!(words(&format!("$[{slice}]"))[2], format!("    slice {slice}"));
     }
-    for query in ["$", "$..*", "$[?@ == true]", "$[?!value(@[?@.a || @.b && false != 1])]"] {
+    for query in ["$", "$..*", "$[?@ == true]", "$[?!@[?@.a || @.b && false != 1]]"] {
         let plan = compile(query).unwrap();
         let bytes: Vec<u8> = plan.items().flat_map(|item| [&[item.kind()], item.body()].concat()).collect();
         assert_eq!(bytes, plan.bytes().0, "{query}");
     }
+}
+
+#[test]
+fn stored_plans_run_as_before() {
+    // The plan that `$[?!count(@.*)]` had, which is refused now.
+    let stored = [0x01, 0x03, 0x01, 0x00, 0x09, 0x09, 0x00, 0x02, 0x03, 0x01, 0x00, 0x08, 0x0A, 0x19, 0x18, 0x15, 0x0A];
+    let plan = Plan::from_bytes(stored.to_vec(), Vec::new()).unwrap();
+    assert_eq!(plan.run(&sample()).unwrap().into_numbers(), [2]);
+    let words: Vec<String> = plan.items().map(|item| item.to_string()).collect();
+    assert_eq!(words[6..], ["end of the query", "count", "test", "not", "end of the query"]);
+    for query in ["$[?!count(@.*)]", "$[? ! value(@)]", "$[?!(!length('a'))]"] {
+        assert_eq!((compile(query).unwrap_err(), select(query, &sample()).unwrap_err()), (Refusal::Type, Refusal::Type), "{query}");
+    }
+    assert_eq!(select("$[?!@.*]", &sample()).unwrap().into_numbers(), [2]);
+    assert_eq!(select("$[?count(@.*) == 0]", &sample()).unwrap().into_numbers(), [2]);
 }
 
 #[test]

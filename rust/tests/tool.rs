@@ -84,6 +84,7 @@ fn refusals_in_words() {
         ("\u{FEFF}$", 4, "this is not a JSONPath query", "It begins with a byte order mark"),
         (" $", 4, "this is not a JSONPath query", "It begins with a blank or a line end"),
         ("$[?count(1) == 1]", 5, "wrong type or number", "count(..) and value(..) take a query"),
+        ("$[?!count(@.*)]", 5, "write !@.* or count(@.*) == 0", "write !@.* to ask whether there is nothing"),
         ("$[?f(@)]", 6, "a function that does not exist", "in small letters"),
         ("$[?match(@, 'a')]", 7, "match and search", "no regular expressions"),
         ("$[?@ == 1e999]", 8, "more than 19 digits", "-342 to 308"),

@@ -85,7 +85,7 @@ lengthOfValue (Value.map ks) = many ks
 unfoldable pub lengthValue : Value → Value
 lengthValue v = Value.integer (pos (lengthOfValue v))
 
--- What `!` before a value function asks: "null, empty text, 0, an empty list or map are false; a boolean is itself".
+-- What `!` before a value function asks, which only stored plans hold: "null, empty text, 0, an empty list or map are false; a boolean is itself".
 unfoldable pub truth : Value → Bool
 truth nothing = false
 truth Value.null = false

@@ -49,6 +49,7 @@ mutual
     filter : Test → Selector
 
   -- A test: some node is found; two values compare; `!` before a test; `!` before a value function; `&&`; `||`.
+  -- No query has the fourth: the walk refuses it. A stored plan may hold it and "still runs with its old meaning" (document 02, W12).
   pub data Test : Type 0 where
     exists : Query → Test
     compare : Operator → Argument → Argument → Test

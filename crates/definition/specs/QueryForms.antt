@@ -1,4 +1,5 @@
 -- Which forms are query forms: those that a plan may spell (document 01, "Plan items", the last paragraph).
+-- "The forms that a plan may spell stay wider than the queries we accept": they have `!` before a value function (document 02, W12). All that compiles keeps to them.
 use Prim.Native.Nat.{ℕ, suc, max, _^_}
 use mathlib.Core.Bool.{Bool, true, false, _&&_}
 use mathlib.Core.Option.{Option, none, some}

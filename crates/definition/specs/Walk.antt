@@ -143,11 +143,12 @@ asTest (nodes q) = exists q
 asTest (valued f) = not (notValue f)
 asTest (logical t) = t
 
--- `!` straight before a query, a function or a parenthesis
-unfoldable pub negated : Expression → F.Test
-negated (nodes q) = not (exists q)
-negated (valued f) = notValue f
-negated (logical t) = not t
+-- `!` straight before a query, a function or a parenthesis. Before a value function it is retired: "Refusals: 5, where the walk leaves the `!`" (document 02, W12).
+-- So what is wrong inside comes first, and what stands behind comes later. Its form stays, for the plans that were stored before.
+unfoldable pub negated : Expression → Walked Expression
+negated (nodes q) = fine (logical (not (exists q)))
+negated (valued f) = refused 5
+negated (logical t) = fine (logical (not t))
 
 -- "A value function alone as a test or operand is 5, but not straight in an argument": a is whether that is asked
 unfoldable pub compared : Bool → Expression → Walked Expression
@@ -261,10 +262,10 @@ unfoldable mutual
   -- "both sides of a comparison before either is judged"
   pub walkBasic : G.Basic → Walked Expression
   walkBasic (parenBasic p) = walkParen p
-  walkBasic (notParen b p) = next (walkParen p) (λ e. fine (logical (negated e)))
+  walkBasic (notParen b p) = next (walkParen p) (λ e. negated e)
   walkBasic (comparison x b o c y) = next (walkComparable x) (λ l. next (walkComparable y) (λ r. next (asValue l) (λ a. next (asValue r) (λ d. fine (logical (compare (operatorForm o) a d))))))
   walkBasic (testBasic t) = walkTest t
-  walkBasic (notTest b t) = next (walkTest t) (λ e. fine (logical (negated e)))
+  walkBasic (notTest b t) = next (walkTest t) (λ e. negated e)
 
   -- "parentheses group, and leave no form behind"; inside them a value function may not stand alone
   pub walkParen : G.Paren → Walked Expression

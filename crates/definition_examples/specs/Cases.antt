@@ -7,25 +7,40 @@ use mathlib.Core.Bool.{Bool, true, _&&_}
 use lib.Dec.{eqb}
 use lib.ListN.{replicate}
 use Rattle.definition.specs.Bytes.{sameBytes}
+use Rattle.definition.specs.Forms.{Query}
+use Rattle.definition.specs.Forms.Start.{root, current}
+use Rattle.definition.specs.Forms.Query.{query}
+use Rattle.definition.specs.Forms.Segments.{end, child}
+use Rattle.definition.specs.Forms.Selectors.{one}
+use Rattle.definition.specs.Forms.Selector.{filter}
+use Rattle.definition.specs.Forms.Test.{notValue}
+use Rattle.definition.specs.Forms.Function.{valueOf}
 use Rattle.definition.specs.TableOutcomes.{PartOutcome, tableOutcome, textOutcome, keyOutcome}
 use Rattle.definition.specs.Selecting.{RunOutcome, runBy}
 use Rattle.definition_examples.specs.Computes.{computes}
 use Rattle.definition_examples.specs.Texts.{bytes, hex}
 use Rattle.definition_examples.specs.Sample.{node, table, changed, sampleTable, sampleText}
-use Rattle.definition_examples.specs.Gives.{selects, all}
+use Rattle.definition_examples.specs.Gives.{selects, planSelects, all}
 use Rattle.definition_examples.specs.Points.{reads}
 
 -- ---- answers: a query, a table, its text, and the nodes that are selected. A query that has no form answers nothing.
+-- A plan stands in the place of the query, with its pool and the form that they translate, where no query has the form.
 
 pub data Answer : Type 0 where
   answer : String → List ℕ → List ℕ → List ℕ → Answer
+  planAnswer : String → String → Query → List ℕ → List ℕ → List ℕ → Answer
 
 abbrev pub answered : Answer → Bool
 answered (answer q T X ns) = selects q T X ns
+answered (planAnswer plan pool q T X ns) = planSelects plan pool q T X ns
 
 abbrev pub allAnswered : List Answer → Bool
 allAnswered [] = true
 allAnswered (x ∷ xs) = answered x && allAnswered xs
+
+-- the form that `$[?!value(@)]` had
+abbrev notValueHere : Query
+notValueHere = query root (child (one (filter (notValue (valueOf (query current end))))) end)
 
 -- on {"a": [10, 20.0, 30], "b": "é"}
 abbrev onSample : String → List ℕ → Answer
@@ -91,8 +106,8 @@ answers =
     answer "$[?@==$[1]]" (table (node 6 0 0 0 1 2 ∷ node 6 1 0 0 3 1 ∷ node 6 1 0 0 4 1 ∷ node 7 2 0 0 5 1 ∷ node 7 2 0 0 6 2 ∷ node 3 3 0 1 1 0 ∷ node 3 3 1 1 1 0 ∷ node 3 3 2 1 2 0 ∷ [])) (bytes "xxy") (2 ∷ []) ∷
     -- [{"x": 1, "y": [2.0]}, {"y": [2], "x": 1.0}]
     answer "$[?@==$[1]]" (table (node 6 0 0 0 1 2 ∷ node 7 1 0 0 3 2 ∷ node 7 1 0 0 5 2 ∷ node 3 2 0 1 1 0 ∷ node 6 2 1 1 7 1 ∷ node 6 2 2 1 8 1 ∷ node 4 2 3 1 0 0x3FF00000 ∷ node 4 3 0 0 0 0x40000000 ∷ node 3 3 0 0 2 0 ∷ [])) (bytes "xyyx") (1 ∷ 2 ∷ []) ∷
-    -- [0, 0.0, -0.0, 1, "", [], {}, null, false, true]
-    answer "$[?!value(@)]" (table (node 6 0 0 0 1 10 ∷ node 3 1 0 0 0 0 ∷ node 4 1 0 0 0 0 ∷ node 4 1 0 0 0 0x80000000 ∷ node 3 1 0 0 1 0 ∷ node 5 1 0 0 0 0 ∷ node 6 1 0 0 0 0 ∷ node 7 1 0 0 0 0 ∷ node 0 1 0 0 0 0 ∷ node 1 1 0 0 0 0 ∷ node 2 1 0 0 0 0 ∷ [])) [] (1 ∷ 2 ∷ 3 ∷ 5 ∷ 6 ∷ 7 ∷ 8 ∷ 9 ∷ []) ∷
+    -- `!value(@)` on [0, 0.0, -0.0, 1, "", [], {}, null, false, true]
+    planAnswer "01 03 01 00 09 05 00 02 0A 1B 18 15 0A" "" notValueHere (table (node 6 0 0 0 1 10 ∷ node 3 1 0 0 0 0 ∷ node 4 1 0 0 0 0 ∷ node 4 1 0 0 0 0x80000000 ∷ node 3 1 0 0 1 0 ∷ node 5 1 0 0 0 0 ∷ node 6 1 0 0 0 0 ∷ node 7 1 0 0 0 0 ∷ node 0 1 0 0 0 0 ∷ node 1 1 0 0 0 0 ∷ node 2 1 0 0 0 0 ∷ [])) [] (1 ∷ 2 ∷ 3 ∷ 5 ∷ 6 ∷ 7 ∷ 8 ∷ 9 ∷ []) ∷
     -- ["a", "b", "ab", 1]
     answer "$[?@<'b']" (table (node 6 0 0 0 1 4 ∷ node 5 1 0 0 0 1 ∷ node 5 1 0 0 1 1 ∷ node 5 1 0 0 2 2 ∷ node 3 1 0 0 1 0 ∷ [])) (bytes "abab") (1 ∷ 3 ∷ []) ∷
     -- [1, 1.5, 2, -1.5]

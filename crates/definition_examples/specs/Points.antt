@@ -9,6 +9,16 @@ use lib.Dec.{eqb}
 use Rattle.definition.specs.Bytes.{sameBytes}
 use Rattle.definition.specs.Grammar as G
 use Rattle.definition.specs.Grammar.{spell}
+use Rattle.definition.specs.Forms.{Query, Test}
+use Rattle.definition.specs.Forms.Literal.{text}
+use Rattle.definition.specs.Forms.Start.{root, current}
+use Rattle.definition.specs.Forms.Query.{query}
+use Rattle.definition.specs.Forms.Segments.{end, child}
+use Rattle.definition.specs.Forms.Selectors.{one}
+use Rattle.definition.specs.Forms.Selector.{name, filter}
+use Rattle.definition.specs.Forms.Test.{exists, not, notValue, either}
+use Rattle.definition.specs.Forms.Argument.{literal}
+use Rattle.definition.specs.Forms.Function.{countOf, lengthOf}
 use Rattle.definition.specs.QueryForms.{isForm}
 use Rattle.definition.specs.Walk.{walk}
 use Rattle.definition.specs.Plans.{planOf, poolOf}
@@ -17,11 +27,13 @@ use Rattle.definition.specs.Selecting.Reading.{form, refused}
 use Rattle.definition_examples.specs.Computes.{computes}
 use Rattle.definition_examples.specs.Texts.{codes, bytes, hex}
 use Rattle.definition_examples.specs.Trees.{treeOf}
+use Rattle.definition_examples.specs.Gives.{isTranslated}
 
--- a query that is refused, by which number; or one that has a form, with its plan in hexadecimal and its pool as text
+-- a query that is refused, by which number; or one that has a form, with its plan in hexadecimal and its pool as text; or a form that no query has, with both
 pub data Point : Type 0 where
   refuses : String → ℕ → Point
   plans : String → String → String → Point
+  stored : Query → String → String → Point
 
 abbrev pub isRefused : Reading → ℕ → Bool
 isRefused (refused n) m = eqb n m
@@ -42,6 +54,7 @@ reads q p = readsBy (treeOf (codes q)) (bytes q) p
 abbrev pub holds : Point → Bool
 holds (refuses q n) = reads q (λ r. isRefused r n)
 holds (plans q plan pool) = reads q (λ r. isPlanned r (hex plan) (bytes pool))
+holds (stored q plan pool) = isTranslated q (hex plan) (bytes pool)
 
 abbrev pub allHold : List Point → Bool
 allHold [] = true
@@ -84,7 +97,18 @@ refusals =
     refuses "$[?foo(@ && length('a'))]" 6 ∷
     refuses "$[?foo(@ || length('a'))]" 6 ∷
     refuses "$[?foo((length('a')))]" 5 ∷
-    refuses "$[?foo(!length('a'))]" 6 ∷
+    -- `!` straight before a value function: what is wrong inside comes first, what stands behind comes later (document 02, W12)
+    refuses "$[?!count(@.*)]" 5 ∷
+    refuses "$[?!length('a')]" 5 ∷
+    refuses "$[?! value(@)]" 5 ∷
+    refuses "$[?!(!count(@))]" 5 ∷
+    refuses "$[?!count(@.a)||@.b]" 5 ∷
+    refuses "$[?!count(foo())]" 6 ∷
+    refuses "$[?!foo(@)]" 6 ∷
+    refuses "$[?!count(@[9007199254740992])]" 4 ∷
+    refuses "$[?!count(@) && foo()]" 5 ∷
+    refuses "$[?foo(!count(@))]" 5 ∷
+    refuses "$[?!count(@) || match('a','b')]" 5 ∷
     -- types of arguments
     refuses "$[?length((count(@)))==0]" 5 ∷
     refuses "$[?length((@.*))==0]" 5 ∷
@@ -113,6 +137,13 @@ refusalsHold = refl
 
 -- ---- plans
 
+-- a query that begins at `@`, of one name, and a filter at the root
+abbrev at : List ℕ → Query
+at s = query current (child (one (name s)) end)
+
+abbrev filtered : Test → Query
+filtered t = query root (child (one (filter t)) end)
+
 abbrev pub forms : List Point
 forms =
     -- operators
@@ -126,12 +157,15 @@ forms =
     plans "$[?@.a&&@.b&&@.c]" "01 03 01 00 09 27 00 02 03 01 00 05 00 00 01 00 0A 18 16 0B 00 02 03 01 00 05 01 00 01 00 0A 18 16 0B 00 02 03 01 00 05 02 00 01 00 0A 18 0A" "abc" ∷
     plans "$[?@.a&&(@.b&&@.c)]" "01 03 01 00 09 27 00 02 03 01 00 05 00 00 01 00 0A 18 16 19 00 02 03 01 00 05 01 00 01 00 0A 18 16 0B 00 02 03 01 00 05 02 00 01 00 0A 18 0A" "abc" ∷
     plans "$[?@||@||$]" "01 03 01 00 09 0F 00 02 0A 18 17 03 00 02 0A 18 17 03 00 01 0A 18 0A" "" ∷
-    -- not, before a query, a value function and a parenthesis
+    -- not, before a query and a parenthesis
     plans "$[?!(!@)]" "01 03 01 00 09 05 00 02 0A 18 15 15 0A" "" ∷
-    plans "$[?!count(@.*)]" "01 03 01 00 09 09 00 02 03 01 00 08 0A 19 18 15 0A" "" ∷
-    plans "$[?!count(@.a)||@.b]" "01 03 01 00 09 1B 00 02 03 01 00 05 00 00 01 00 0A 19 18 15 17 0B 00 02 03 01 00 05 01 00 01 00 0A 18 0A" "ab" ∷
+    plans "$[?!@.*]" "01 03 01 00 09 08 00 02 03 01 00 08 0A 18 15 0A" "" ∷
+    plans "$[?!@.a||@.b]" "01 03 01 00 09 1A 00 02 03 01 00 05 00 00 01 00 0A 18 15 17 0B 00 02 03 01 00 05 01 00 01 00 0A 18 0A" "ab" ∷
     plans "$[?!(@==1)]" "01 03 01 00 09 0E 00 02 0A 10 01 00 00 00 00 00 00 00 14 00 15 0A" "" ∷
-    plans "$[?!(!count(@))]" "01 03 01 00 09 06 00 02 0A 19 18 15 15 0A" "" ∷
+    -- not before a value function, which only a stored plan holds: the forms that `!count(@.a)||@.b`, `!(!count(@.a))` and `!length('a')` had
+    stored (filtered (either (notValue (countOf (at (0x61 ∷ [])))) (exists (at (0x62 ∷ []))))) "01 03 01 00 09 1B 00 02 03 01 00 05 00 00 01 00 0A 19 18 15 17 0B 00 02 03 01 00 05 01 00 01 00 0A 18 0A" "ab" ∷
+    stored (filtered (not (notValue (countOf (at (0x61 ∷ [])))))) "01 03 01 00 09 0E 00 02 03 01 00 05 00 00 01 00 0A 19 18 15 15 0A" "a" ∷
+    stored (filtered (notValue (lengthOf (literal (text (0x61 ∷ [])))))) "01 03 01 00 09 08 00 12 00 00 01 00 1A 18 15 0A" "a" ∷
     -- arguments, in parentheses or not
     plans "$[?count(((@.a)))==1]" "01 03 01 00 09 16 00 02 03 01 00 05 00 00 01 00 0A 19 10 01 00 00 00 00 00 00 00 14 00 0A" "a" ∷
     plans "$[?length((@.a))==0]" "01 03 01 00 09 16 00 02 03 01 00 05 00 00 01 00 0A 1A 10 00 00 00 00 00 00 00 00 14 00 0A" "a" ∷

@@ -1,25 +1,39 @@
 -- Document 01's starred sample rows, from the query's bytes and the table's records to the node numbers, as one table under one theorem.
+-- "The sample row `$[?!count(@.*)]` becomes a plan row" (document 02, W12): its query is refused, and its plan selects what it selected.
 use Prim.Native.Nat.{ℕ}
 use Prim.Native.String.{String}
 use mathlib.Core.Path.{_≡_, refl}
 use mathlib.Core.List.{List, [], _∷_}
 use mathlib.Core.Bool.{Bool, true, _&&_}
+use Rattle.definition.specs.Forms.{Query}
+use Rattle.definition.specs.Forms.Start.{root, current}
+use Rattle.definition.specs.Forms.Query.{query}
+use Rattle.definition.specs.Forms.Segments.{end, child}
+use Rattle.definition.specs.Forms.Selectors.{one}
+use Rattle.definition.specs.Forms.Selector.{wildcard, filter}
+use Rattle.definition.specs.Forms.Test.{notValue}
+use Rattle.definition.specs.Forms.Function.{countOf}
 use Rattle.definition_examples.specs.Computes.{computes}
-use Rattle.definition_examples.specs.Texts.{bytes}
+use Rattle.definition_examples.specs.Texts.{bytes, hex}
 use Rattle.definition_examples.specs.Sample.{sampleTable, sampleText}
-use Rattle.definition_examples.specs.Gives.{Gives, gives, selects, left, right}
+use Rattle.definition_examples.specs.Gives.{Gives, PlanGives, gives, plan-gives, selects, planSelects, left, right}
 
--- a query and the nodes that it selects from the sample table
-pub record Row : Type 0 where
-  pub query : String
-  pub nodes : List ℕ
+-- A query and the nodes that it selects from the sample table; or a plan in hexadecimal, its pool as text, the form that they translate, and the nodes.
+pub data Row : Type 0 where
+  row : String → List ℕ → Row
+  planRow : String → String → Query → List ℕ → Row
+
+abbrev pub RowGives : Row → Type 0
+RowGives (row q ns) = Gives (bytes q) sampleTable sampleText ns
+RowGives (planRow plan pool q ns) = PlanGives (hex plan) (bytes pool) sampleTable sampleText ns
 
 abbrev pub AllGive : List Row → Type 0
 AllGive [] = Unit {0}
-AllGive (r ∷ rs) = Gives (bytes (r .query)) sampleTable sampleText (r .nodes) × AllGive rs
+AllGive (r ∷ rs) = RowGives r × AllGive rs
 
-abbrev row : String → List ℕ → Row
-row q ns = record { query = q; nodes = ns }
+-- the form that `$[?!count(@.*)]` had
+abbrev pub notCount : Query
+notCount = query root (child (one (filter (notValue (countOf (query current (child (one wildcard) end)))))) end)
 
 abbrev pub starredRows : List Row
 starredRows =
@@ -33,7 +47,7 @@ starredRows =
     row "$.a[?@ >= 20]" (4 ∷ 5 ∷ []) ∷
     row "$..*" (1 ∷ 2 ∷ 3 ∷ 4 ∷ 5 ∷ []) ∷
     row "$.a[?@.x == $.y]" [] ∷
-    row "$[?!count(@.*)]" (2 ∷ []) ∷
+    planRow "01 03 01 00 09 09 00 02 03 01 00 08 0A 19 18 15 0A" "" notCount (2 ∷ []) ∷
     row "$[?@[?@ == $[0]]]" (1 ∷ []) ∷
     []
 
@@ -48,15 +62,21 @@ otherRows =
 
 -- ---- the rows, by one computed test
 
+abbrev rowSelects : Row → Bool
+rowSelects (row q ns) = selects q sampleTable sampleText ns
+rowSelects (planRow plan pool q ns) = planSelects plan pool q sampleTable sampleText ns
+
 abbrev allSelect : List Row → Bool
 allSelect [] = true
-allSelect (r ∷ rs) = selects (r .query) sampleTable sampleText (r .nodes) && allSelect rs
+allSelect (r ∷ rs) = rowSelects r && allSelect rs
+
+row-gives : (r : Row) → rowSelects r ≡ true → RowGives r
+row-gives (row q ns) e = gives q sampleTable sampleText ns e
+row-gives (planRow plan pool q ns) e = plan-gives plan pool q sampleTable sampleText ns e
 
 all-give : (rs : List Row) → allSelect rs ≡ true → AllGive rs
 all-give [] e = tt
-all-give (r ∷ rs) e =
-    let b = selects (r .query) sampleTable sampleText (r .nodes) in
-    (gives (r .query) sampleTable sampleText (r .nodes) (left b (allSelect rs) e), all-give rs (right b (allSelect rs) e))
+all-give (r ∷ rs) e = (row-gives r (left (rowSelects r) (allSelect rs) e), all-give rs (right (rowSelects r) (allSelect rs) e))
 
 starred-hold : allSelect starredRows ≡ true
 unfolding computes

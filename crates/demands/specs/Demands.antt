@@ -188,6 +188,7 @@ pub stored-plans : {plan pool : List ℕ} {n : ℕ} → ChecksPlan plan pool n �
 stored-plans = stored
 
 -- ---- 5. Document 01's starred sample rows: what select answers for each, and what running its compiled plan answers.
+-- One of them is a plan (W12), which plan check accepts and run answers; its query is refused by 5 (`retired` in Refused.antt).
 
 pub starred-rows : AllAnswer starredRows
 starred-rows = starred-answers

@@ -16,9 +16,9 @@ use Rattle.definition.specs.TableOutcomes.{TableOutcome, PartOutcome, tableOutc
 use Rattle.definition.specs.Evaluation.{selected}
 use Rattle.definition.specs.Outcomes.{Reading, Reads, Translates, CompileOutcome, Compiles, RunOutcome, Runs, Selects, ChecksPlan, runBy}
 use Rattle.definition.specs.Outcomes.Reading.{refused, form}
-use Rattle.definition_examples.specs.Texts.{bytes}
+use Rattle.definition_examples.specs.Texts.{bytes, hex}
 use Rattle.definition_examples.specs.Sample.{sampleTable, sampleText}
-use Rattle.definition_examples.specs.Rows.{Row}
+use Rattle.definition_examples.specs.Rows.{Row, row, planRow}
 use Rattle.tables.specs.Places.{Begins, partStart}
 use Rattle.tallies.specs.Items.{occurrences}
 use Rattle.tallies.specs.Forms.{itemsOfAll}
@@ -175,10 +175,23 @@ pub record Answers (s T X ns : List ℕ) : Type 0 where
   pub run : (P R : List ℕ) (c : CompileOutcome) → CompilesOnly s P R c → c .refusal ≡ 0 → (L : List ℕ) (at : ℕ) (o : RunOutcome)
       → Runs (planIn c) (poolIn c) T X L at o → Listed ns L at o
 
+-- A row that is a plan and a pool, with nodes ns on a table T with the text X, for every list and start position.
+pub record PlanAnswers (plan pool T X ns : List ℕ) : Type 0 where
+  -- plan check accepts them
+  pub check : (n : ℕ) → ChecksPlan plan pool n → n ≡ 0
+  -- run has an outcome that lists the nodes
+  pub some : (L : List ℕ) (at : ℕ) → (o : RunOutcome) × Runs plan pool T X L at o × Listed ns L at o
+  -- and it is what run answers
+  pub run : (L : List ℕ) (at : ℕ) (o : RunOutcome) → Runs plan pool T X L at o → Listed ns L at o
+
+abbrev pub RowAnswers : Row → Type 0
+RowAnswers (row q ns) = Answers (bytes q) sampleTable sampleText ns
+RowAnswers (planRow plan pool q ns) = PlanAnswers (hex plan) (bytes pool) sampleTable sampleText ns
+
 -- every row of a table of rows, on the sample table
 abbrev pub AllAnswer : List Row → Type 0
 AllAnswer [] = Unit {0}
-AllAnswer (r ∷ rs) = Answers (bytes (r .query)) sampleTable sampleText (r .nodes) × AllAnswer rs
+AllAnswer (r ∷ rs) = RowAnswers r × AllAnswer rs
 
 -- ---- what plans consist of (W14)
 

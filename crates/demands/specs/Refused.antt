@@ -20,7 +20,7 @@ use Rattle.definition.specs.Grammar.Singular.{relSingular}
 use Rattle.definition.specs.Grammar.Literal.{numberLiteral, textLiteral}
 use Rattle.definition.specs.Grammar.Operator.{eqOperator}
 use Rattle.definition.specs.Grammar.Segments.{noSegment, moreSegments}
-use Rattle.definition.specs.Grammar.Segment.{childBrackets}
+use Rattle.definition.specs.Grammar.Segment.{childBrackets, childWild}
 use Rattle.definition.specs.Grammar.Bracketed.{bracketed}
 use Rattle.definition.specs.Grammar.Selectors.{noSelector}
 use Rattle.definition.specs.Grammar.Selector.{indexSelector, filterSelector}
@@ -28,13 +28,14 @@ use Rattle.definition.specs.Grammar.LogicalOr.{logicalOr}
 use Rattle.definition.specs.Grammar.MoreOr.{noOr}
 use Rattle.definition.specs.Grammar.LogicalAnd.{logicalAnd}
 use Rattle.definition.specs.Grammar.MoreAnd.{noAnd}
-use Rattle.definition.specs.Grammar.Basic.{comparison, testBasic}
+use Rattle.definition.specs.Grammar.Basic.{comparison, testBasic, notTest}
 use Rattle.definition.specs.Grammar.Test.{functionTest}
+use Rattle.definition.specs.Grammar.FilterQuery.{relQuery}
 use Rattle.definition.specs.Grammar.Comparable.{literalComparable, singularComparable}
 use Rattle.definition.specs.Grammar.Function.{function}
 use Rattle.definition.specs.Grammar.Arguments.{noArgument, arguments}
 use Rattle.definition.specs.Grammar.MoreArguments.{noMore, moreArguments}
-use Rattle.definition.specs.Grammar.Argument.{literalArgument}
+use Rattle.definition.specs.Grammar.Argument.{literalArgument, queryArgument}
 use Rattle.definition.specs.Forms.{Query}
 use Rattle.definition.specs.Forms.Start.{root}
 use Rattle.definition.specs.Forms.Query.{query}
@@ -107,6 +108,14 @@ oneArgument = filtered (testBasic (functionTest (function (record { first = 0x6D
 pub typed : Refuses (spell oneArgument) 5
 unfolding computes
 typed = by-tree oneArgument 5 refl refl
+
+-- $[?!count(@.*)], whose plan still runs: one of the starred rows (document 02, W12)
+abbrev pub negatedCount : G.Query
+negatedCount = filtered (notTest o (functionTest (function (record { first = 0x63; more = 0x6F ∷ 0x75 ∷ 0x6E ∷ 0x74 ∷ []; isFirst = refl; areMore = refl }) o (arguments (queryArgument (relQuery (moreSegments o childWild noSegment))) noMore) o)))
+
+pub retired : Refuses (spell negatedCount) 5
+unfolding computes
+retired = by-tree negatedCount 5 refl refl
 
 -- $[?f()]
 abbrev pub noFunction : G.Query

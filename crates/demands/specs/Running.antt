@@ -35,6 +35,11 @@ module _ (q : Query) (T X L : List ℕ) (at : ℕ) where
   pub selects-as : {s : List ℕ} {o : RunOutcome} → ReadsOnly s (form q) → Selects s T X L at o → o ≡ runBy (form q) T X L at
   selects-as r u = u .is ∙ ap (λ (y : Reading). runBy y T X L at) (r .only (u .reading) (u .reads))
 
+-- plan check accepts what translates a form
+pub translated-passes : {plan pool : List ℕ} {n : ℕ} (q : Query) → Translates q plan pool → ChecksPlan plan pool n → n ≡ 0
+unfolding refusalOf
+translated-passes q t k = checks-one k (record { reading = form q; reads = spelled q t; is = refl })
+
 -- so it is what running the query's plan gives
 pub selects-run : {s T X L : List ℕ} {at : ℕ} {o o′ : RunOutcome} (q : Query) → ReadsOnly s (form q) → Selects s T X L at o → Runs (planOf q) (poolOf q) T X L at o′ → o ≡ o′
 selects-run {s} {T} {X} {L} {at} q r k u = selects-as q T X L at r k ∙ sym (runs-as q T X L at (compiled-keeps s q (r .is)) u)
@@ -74,8 +79,7 @@ module _ {s P R : List ℕ} {c : CompileOutcome} (w : Written s P R c) where
 
   -- plan check accepts them
   pub written-passes : {n : ℕ} → ChecksPlan (planIn c) (poolIn c) n → n ≡ 0
-  unfolding refusalOf
-  written-passes k = checks-one k (record { reading = form (w .query); reads = spelled (w .query) translates; is = refl })
+  written-passes k = translated-passes (w .query) translates k
 
   -- a run of them lists the query's nodes
   pub written-lists : (T X L : List ℕ) (at : ℕ) {o : RunOutcome} → checkTable T X ≡ accepted → Runs (planIn c) (poolIn c) T X L at o → Listed (selected (w .query) (tree T X)) L at o

@@ -140,6 +140,12 @@ compared-keeps true (valued f) = five
 compared-keeps false (valued f) = tt
 compared-keeps a (logical t) = tt
 
+negated-keeps : (e : Expression) → Keeps (negated e)
+unfolding negated
+negated-keeps (nodes q) = tt
+negated-keeps (valued f) = five
+negated-keeps (logical t) = tt
+
 nodes-keeps : (x : Operand) → Keeps (asNodes x)
 unfolding asNodes
 nodes-keeps (constant l) = five
@@ -227,13 +233,13 @@ mutual
 
   basic-keeps : (x : G.Basic) → Keeps (walkBasic x)
   basic-keeps (parenBasic p) = paren-keeps p
-  basic-keeps (notParen b p) = then-fine (walkParen p) (λ e. logical (negated e)) (paren-keeps p)
+  basic-keeps (notParen b p) = next-keeps (walkParen p) _ (paren-keeps p) (λ e. negated-keeps e)
   basic-keeps (comparison x b o c y) =
       next-keeps (walkComparable x) _ (comparable-keeps x) (λ l.
       next-keeps (walkComparable y) _ (comparable-keeps y) (λ r.
       next-keeps (asValue l) _ (value-keeps l) (λ a. then-fine (asValue r) (λ d. logical (compare (operatorForm o) a d)) (value-keeps r))))
   basic-keeps (testBasic t) = test-keeps t
-  basic-keeps (notTest b t) = then-fine (walkTest t) (λ e. logical (negated e)) (test-keeps t)
+  basic-keeps (notTest b t) = next-keeps (walkTest t) _ (test-keeps t) (λ e. negated-keeps e)
 
   paren-keeps : (x : G.Paren) → Keeps (walkParen x)
   paren-keeps (paren b e c) = or-keeps e true

@@ -162,6 +162,13 @@ pub compare-done : {P P' : List ℕ} {a b c d : State} {v w x y : ℕ} {z : List
 unfolding joinMarks
 compare-done e f g h p = put-as refl (marks-as (rw (e, f)) refl) (marked-put (marked-then g h) p)
 
+-- ---- negations
+
+-- a verdict and a tail
+pub judged-put : {P P' : List ℕ} {a b c : State} {v w : ℕ} {x y : List ℕ} → v ≡ w → x ≡ y → Marked a b (record { verdict = v; calls = false; beyond = false }) → Put P P' b c x
+    → PutMarked P P' a c y (record { verdict = w; calls = false; beyond = false })
+judged-put e f k p = put-as f (marks-as e refl) (marked-put k p)
+
 -- ---- flags
 
 -- a sort's number is the number of the sort that it stands for

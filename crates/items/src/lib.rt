@@ -136,19 +136,20 @@ pub fn test_tail(plan: &mut [u8], st: State, sort: usize) -> State
     item(plan, st, 24)
 }
 
-// What an expression with the given flag needs to be negated.
+// What an expression with the given flag needs to be negated, and the verdict on it: a value function may not be negated.
 pub fn not_tail(plan: &mut [u8], st: State, flag: usize) -> State
     requires { ⌜ Room 2 (now plan) st × Known flag ⌝ }
-    ensures { λ r. ⌜ Put (now (plan .entry)) (now (plan .exit)) st r (notTail (sortOf flag)) ⌝ }
+    ensures { λ r. ⌜ PutMarked (now (plan .entry)) (now (plan .exit)) st r (notTail (sortOf flag)) (record { verdict = comparedVerdict true (sortOf flag); calls = false; beyond = false }) ⌝ }
 {
+    let a = judged(st, compared(flag, true));
     if flag == 0 {
-        return item(plan, st, 21);
+        return item(plan, a, 21);
     }
     if flag == 4 {
-        return item(plan, st, 21);
+        return item(plan, a, 21);
     }
-    let a = item(plan, st, 24);
-    item(plan, a, 21)
+    let b = item(plan, a, 24);
+    item(plan, b, 21)
 }
 
 // The comparison of two sides of the given sorts, judged left then right.

@@ -100,12 +100,12 @@ mutual
 
   pub basic : (t : G.Basic) {n : ℕ} (r : List ℕ) → Low n (spellBasic t r) → Gives (Shallow 1 n) (walkBasic t)
   basic (parenBasic p) {n} r h = weaken (parens p _ h) (λ e he. shallow-more 0 1 n e (omega arith) he)
-  basic (notParen b p) {n} r h = then (parens p _ (blanks b (skip 0x21 refl h))) (λ e he. gives (shallow-not n e he))
+  basic (notParen b p) {n} r h = then (parens p _ (blanks b (skip 0x21 refl h))) (λ e he. shallow-not n e he)
   basic (comparison x b o c y) {n} r h =
       let k = blanks c (operator o (blanks b (P.comparable x h))) in
       then (comparable x _ h) (λ l hl. then (comparable y _ k) (λ r hr. then (shallow-value n l hl) (λ a ha. then (shallow-value n r hr) (λ d hd. gives (shallow-compare n (operatorForm o) a d ha hd)))))
   basic (testBasic t) {n} r h = weaken (test t _ h) (λ e he. shallow-more 0 1 n e (omega arith) he)
-  basic (notTest b t) {n} r h = then (test t _ (blanks b (skip 0x21 refl h))) (λ e he. gives (shallow-not n e he))
+  basic (notTest b t) {n} r h = then (test t _ (blanks b (skip 0x21 refl h))) (λ e he. shallow-not n e he)
 
   pub parens : (t : G.Paren) {n : ℕ} (r : List ℕ) → Low n (spellParen t r) → Gives (Shallow 0 n) (walkParen t)
   parens (paren b e c) {n} r h = weaken (orExpr e true _ (blanks b (open-round h))) (λ x hx. shallow-paren n x hx)

@@ -79,11 +79,11 @@ mutual
 
   pub basic : (t : G.Basic) → Gives RightExpression (walkBasic t)
   basic (parenBasic p) = parens p
-  basic (notParen b p) = then (parens p) (λ e he. gives (right-not e he))
+  basic (notParen b p) = then (parens p) (λ e he. right-not e he)
   basic (comparison x b o c y) =
       then (comparable x) (λ l hl. then (comparable y) (λ r hr. then (right-value l hl) (λ a ha. then (right-value r hr) (λ d hd. gives (right-compare (operatorForm o) a d ha hd)))))
   basic (testBasic t) = test t
-  basic (notTest b t) = then (test t) (λ e he. gives (right-not e he))
+  basic (notTest b t) = then (test t) (λ e he. right-not e he)
 
   pub parens : (t : G.Paren) → Gives RightExpression (walkParen t)
   parens (paren b e c) = orExpr e true

@@ -47,11 +47,11 @@ right-test (nodes q) h = h
 right-test (valued f) h = h
 right-test (logical t) h = h
 
-pub right-not : (e : Expression) → RightExpression e → testRight (negated e) ≡ true
+pub right-not : (e : Expression) → RightExpression e → Gives RightExpression (negated e)
 unfolding negated testRight
-right-not (nodes q) h = h
-right-not (valued f) h = h
-right-not (logical t) h = h
+right-not (nodes q) h = gives h
+right-not (valued f) h = nothing
+right-not (logical t) h = gives h
 
 -- `&&` and `||`
 pub right-both : (e d : Expression) → RightExpression e → RightExpression d → testRight (both (asTest e) (asTest d)) ≡ true

@@ -14,7 +14,7 @@ use Rattle.definition.specs.Grammar.Singular.{relSingular, absSingular}
 use Rattle.definition.specs.Forms as F
 use Rattle.definition.specs.Forms.{isSingular}
 use Rattle.definition.specs.Forms.Selector.{filter}
-use Rattle.definition.specs.Forms.Test.{compare, both, either}
+use Rattle.definition.specs.Forms.Test.{exists, compare, not, both, either}
 use Rattle.definition.specs.Forms.Function.{countOf, lengthOf, valueOf}
 use Rattle.definition.specs.QueryForms.{nesting, nestingSegments, nestingSelectors, nestingSelector, nestingTest, nestingArgument, nestingFunction}
 use Rattle.definition.specs.Walk.{Walked, Expression, Operand, Named, asTest, negated, compared, asNodes, asValue, only, asRegex, unformed, call, walkInt, walkBound, walkStep, walkSlice, walkSingularSegment, walkSingularSegments, walkSingular}
@@ -76,11 +76,11 @@ shallow-test c n (valued f) h = omega arith
 shallow-test c n (logical t) h = h
 
 -- `!`
-pub shallow-not : (n : ℕ) (e : Expression) → Shallow 0 n e → Shallow 1 n (logical (negated e))
+pub shallow-not : (n : ℕ) (e : Expression) → Shallow 0 n e → Gives (Shallow 1 n) (negated e)
 unfolding negated nestingTest
-shallow-not n (nodes q) h = omega arith
-shallow-not n (valued f) h = omega arith
-shallow-not n (logical t) h = omega arith
+shallow-not n (nodes q) h = gives {x = logical (not (exists q))} (omega arith)
+shallow-not n (valued f) h = nothing
+shallow-not n (logical t) h = gives {x = logical (not t)} (omega arith)
 
 -- parentheses: the bracket pays for what stands inside
 pub shallow-paren : (n : ℕ) (e : Expression) → Shallow 3 (suc n) e → Shallow 0 n e

@@ -5,3 +5,4 @@ pub mod Levels
 pub mod StandIns
 pub mod Written
 pub mod Reached
+pub mod Asked

@@ -1,5 +1,6 @@
--- Every query form is the form of some tree of the grammar, as far as its floats can be written: so query forms are what the grammar and the typing
--- rules allow, and nothing wider. The tree has parentheses around every operand, brackets around every selector, and no blank. Assumes nothing.
+-- Every query form is the form of some tree of the grammar, as far as a query can write it: its floats, and no `!` before a value function, which only stored plans
+-- hold. So query forms are what the grammar and the typing rules allow or once allowed, and nothing wider. The tree has parentheses around every operand, brackets
+-- around every selector, and no blank. That no other form is the form of a tree is said in Asked.antt. Assumes nothing.
 use Prim.Native.Nat.{ℕ}
 use mathlib.Core.Path.{_≡_, refl, ap, _∙_}
 use mathlib.Core.List.{List, [], _∷_}
@@ -33,9 +34,9 @@ use Rattle.definition.specs.Grammar.LogicalOr.{logicalOr}
 use Rattle.definition.specs.Grammar.MoreOr.{noOr, moreOr}
 use Rattle.definition.specs.Grammar.LogicalAnd.{logicalAnd}
 use Rattle.definition.specs.Grammar.MoreAnd.{noAnd, moreAnd}
-use Rattle.definition.specs.Grammar.Basic.{parenBasic, notParen, comparison, testBasic, notTest}
+use Rattle.definition.specs.Grammar.Basic.{parenBasic, notParen, comparison, testBasic}
 use Rattle.definition.specs.Grammar.Paren.{paren}
-use Rattle.definition.specs.Grammar.Test.{queryTest, functionTest}
+use Rattle.definition.specs.Grammar.Test.{queryTest}
 use Rattle.definition.specs.Grammar.FilterQuery.{relQuery, absQuery}
 use Rattle.definition.specs.Grammar.Comparable.{literalComparable, singularComparable, functionComparable}
 use Rattle.definition.specs.Grammar.Function.{function}
@@ -144,7 +145,7 @@ told-test (notValue f) = refl
 told-test (both a b) = refl
 told-test (either a b) = refl
 
-told-not : (t : F.Test) → negated (told t) ≡ not t
+told-not : (t : F.Test) → negated (told t) ≡ fine (logical (not t))
 unfolding negated
 told-not (exists q) = refl
 told-not (compare o a b) = refl
@@ -197,7 +198,7 @@ unfolding isSingular queryRight walkSingular
 singular-tree (query root q) h k = let x = singular-segments q h k in (absSingular (x .0), then _ (x .1))
 singular-tree (query current q) h k = let x = singular-segments q h k in (relSingular (x .0), then _ (x .1))
 
--- ---- the floats of a form, by any test of floats
+-- ---- which forms a query can write, by any test of floats: the floats of the form pass it, and no `!` stands before a value function
 
 module _ (can : ℕ → Bool) where
   abbrev pub canLiteral : F.Literal → Bool
@@ -231,7 +232,7 @@ module _ (can : ℕ → Bool) where
     canTest (exists q) = canQuery q
     canTest (compare o a b) = canArgument a && canArgument b
     canTest (not t) = canTest t
-    canTest (notValue f) = canFunction f
+    canTest (notValue f) = false
     canTest (both a b) = canTest a && canTest b
     canTest (either a b) = canTest a && canTest b
 
@@ -258,7 +259,7 @@ module _ (can : ℕ → Bool) where
     literal-tree (text s) h w = let x = text-written s h in (textLiteral (x .0), ap (λ (b : List ℕ). fine (text b)) (x .1))
 
     mutual
-      unfolding queryRight segmentsRight selectorsRight selectorRight testRight argumentRight functionRight walkSegments walkSegment walkBracketed walkSelectors walkSelector walkOr walkMoreOr walkAnd walkMoreAnd walkBasic walkParen walkTest walkFilterQuery walkComparable walkFunction walkArguments walkMoreArguments walkArgument asNodes asValue only call named sameBytes negated
+      unfolding queryRight segmentsRight selectorsRight selectorRight testRight argumentRight functionRight walkSegments walkSegment walkBracketed walkSelectors walkSelector walkOr walkMoreOr walkAnd walkMoreAnd walkBasic walkParen walkTest walkFilterQuery walkComparable walkFunction walkArguments walkMoreArguments walkArgument asNodes asValue only call named sameBytes
 
       segments-tree : (q : F.Segments) → segmentsRight q ≡ true → canSegments q ≡ true → (x : G.Segments) × (walkSegments x ≡ fine q)
       segments-tree end h w = (noSegment, refl)
@@ -305,8 +306,8 @@ module _ (can : ℕ → Bool) where
           (comparison (x .0) noBlank (operatorTree p) noBlank (y .0), then _ (x .1) ∙ then _ (y .1) ∙ then _ (x .2) ∙ then _ (y .2) ∙ ap (λ (k : F.Operator). fine (logical (compare k a b))) (operator-back p))
       basic-tree (not t) h w =
           let x = alone t (basic-tree t h w) in
-          (notParen noBlank (paren noBlank (x .0) noBlank), then _ (x .1) ∙ ap (λ (u : F.Test). fine (logical u)) (told-not t))
-      basic-tree (notValue f) h w = let x = function-tree f h w in (notTest noBlank (functionTest (x .0)), then _ (x .1))
+          (notParen noBlank (paren noBlank (x .0) noBlank), then _ (x .1) ∙ told-not t)
+      basic-tree (notValue f) h w = absurd (false≢true w)
       basic-tree (both a b) h w =
           let x = basic-tree a (left (testRight a) (testRight b) h) (left (canTest a) (canTest b) w) in
           let y = basic-tree b (right (testRight a) (testRight b) h) (right (canTest a) (canTest b) w) in (
@@ -351,7 +352,7 @@ module _ (can : ℕ → Bool) where
           let x = query-tree q h w in
           (function valueWord noBlank (arguments (queryArgument (x .0)) noMore) noBlank, then _ (then _ (then _ (x .1)) ∙ then _ refl) ∙ then _ refl)
 
-    -- Every query form whose floats can be written is the form of some tree.
+    -- Every query form that a query can write is the form of some tree.
     pub form-reached : (q : F.Query) → isForm q ≡ true → canQuery q ≡ true → (t : G.Query) × (judge (walk t) ≡ form q)
     unfolding isForm startsAtRoot queryRight walk judge
     form-reached (query root q) h w =
@@ -359,6 +360,6 @@ module _ (can : ℕ → Bool) where
         (record { segments = x .0 }, ap judge (then _ (x .1)))
     form-reached (query current q) h w = absurd (false≢true h)
 
--- So every query form without floats is the form of some tree, whatever number literals stand for.
+-- So every query form without floats and without `!` before a value function is the form of some tree, whatever number literals stand for.
 pub form-reached-whole : (q : F.Query) → isForm q ≡ true → canQuery (λ b. false) q ≡ true → (t : G.Query) × (judge (walk t) ≡ form q)
 form-reached-whole q h w = form-reached (λ b. false) (λ b e. absurd (false≢true e)) q h w

@@ -11,7 +11,7 @@ use Rattle.definition.specs.Walk.{operatorForm}
 use Rattle.definition.specs.Plans.{operatorByte}
 use Rattle.writing.specs.Effects.{Writer, first, skip, bytes, seq, frame, mark, verdict}
 use Rattle.writing.specs.Sorts.{Sort, singularSegments, tightSegments, querySort, namedSort, sortOr, sortMoreOr, sortMoreAnd, sortParen, sortTest, sortComparable, sortFunction, sortsOf, valueVerdict, callVerdict, isRegex}
-use Rattle.writing.specs.Writes.{writeOr, writeMoreOr, writeMoreAnd, writeParen, writeTest, writeComparable, writeLiteral, writeFilterQuery, writeFunction, writeArguments, testTail, notTail, callBytes}
+use Rattle.writing.specs.Writes.{writeOr, writeMoreOr, writeMoreAnd, writeParen, writeTest, writeComparable, writeLiteral, writeFilterQuery, writeFunction, writeArguments, testTail, writeNot, callBytes}
 use Rattle.levels.specs.Numbers.{sortOf, sortNumber, nameOf, isComparable}
 
 -- S logical-expr, behind the "?" of a filter-selector
@@ -35,8 +35,8 @@ spellNegation (parenNegation b p) r = spellBlanks b (spellParen p r)
 spellNegation (testNegation b t) r = spellBlanks b (spellTest t r)
 
 abbrev pub writeNegation : Negation → Writer
-writeNegation (parenNegation b p) = seq (writeParen p) (bytes (notTail (sortParen p)))
-writeNegation (testNegation b t) = seq (writeTest t) (bytes (notTail (sortTest t)))
+writeNegation (parenNegation b p) = seq (writeParen p) (writeNot (sortParen p))
+writeNegation (testNegation b t) = seq (writeTest t) (writeNot (sortTest t))
 
 -- literal / filter-query / function-expr
 pub data Operand : Type 0 where

@@ -15,8 +15,8 @@ use Rattle.definition.specs.Grammar.{spellParen, spellBasic, spellOperator}
 use Rattle.definition.specs.Grammar.Test.{queryTest, functionTest}
 use Rattle.reading.specs.Reads.{Reads, ReadsNone, StartsNot}
 use Rattle.scan.specs.Text.{Is, Skipped, OperatorAt, operatorNumber}
-use Rattle.writing.specs.Effects.{Effect, Writer, join, seq, bytes, first, verdict}
-use Rattle.writing.specs.Sorts.{Sort, sortBasic, sortParen, sortTest, sortComparable, sortFunction, valueVerdict}
+use Rattle.writing.specs.Effects.{Effect, Writer, join, seq, mark, bytes, first, verdict}
+use Rattle.writing.specs.Sorts.{Sort, sortBasic, sortParen, sortTest, sortComparable, sortFunction, valueVerdict, comparedVerdict}
 use Rattle.writing.specs.Writes.{writeParen, writeTest, writeBasic, writeComparable, notTail}
 use Rattle.levels.specs.Follow.{unblank, After}
 use Rattle.levels.specs.Numbers.{sortNumber, sortOf, isComparable}
@@ -37,8 +37,8 @@ use Rattle.rules.specs.Query.{meOperand}
 use Rattle.rules.specs.Sides.{comparable-of, side-reads, side-incomparable, side-none}
 use Rattle.rules.specs.Behind.{some-allowed, compared-allowed, behind-alone, behind-literal, behind-compared, behind-none, behind-incomparable}
 use Rattle.rules.specs.Basic.{spellOperated, meOperated, operated-reads, operated-none-behind, operated-none, basic-operated, basic-paren, basic-negation, meNegation, filter-query-sort}
-use Rattle.rules.specs.Negate.{negated, negation-paren, TestOf, test-of, negation-none, negation-reads, negation-literal}
-use Rattle.parser.proofs.Steps.{start-moved, done-is, done-moved, post-so, stay, put-plain}
+use Rattle.rules.specs.Negate.{notEffect, negated, negation-paren, TestOf, test-of, negation-none, negation-reads, negation-literal}
+use Rattle.parser.proofs.Steps.{start-moved, done-is, done-moved, post-so, stay, put-marked}
 use Rattle.parser.proofs.Operands.{reads-at, done-at, byte-then, behind-blanks, operand-then}
 
 -- ---- a basic expression
@@ -68,34 +68,38 @@ module _ {s : List ℕ} {a : State} (x : Is s (a .at) 0x28 false) (y : Is s (a .
 
 -- ---- a negation
 
+-- behind what has the flag f and is negated, the verdict on it was set and its tail was put
+abbrev pub NotPut : ℕ → List ℕ → List ℕ → State → State → Type 0
+NotPut f P P' a b = PutMarked P P' a b (notTail (sortOf f)) (record { verdict = comparedVerdict true (sortOf f); calls = false; beyond = false })
+
 -- what is known of a test that is negated, from the operand that it is
 test-negated : (p : ℕ) (b : Blanks) (x : Operand) (y : TestOf x) → meNegation p (testNegation b (y .test)) ≡ negated (meOperand p x)
-unfolding seq bytes writeTest sortTest
+unfolding seq mark bytes writeTest sortTest
 test-negated p b x y = go (y .test) refl
   where
     go : (t : G.Test) → y .test ≡ t → meNegation p (testNegation b (y .test)) ≡ negated (meOperand p x)
     go (queryTest q) e =
         let i : queryOperand q ≡ x = rw e at (y .is) in
         let f = filter-query-sort q in
-        ap (λ (t : G.Test). meNegation p (testNegation b t)) e ∙ (λ j. (join (writeOperand (queryOperand q) p) (plain (notTail (f j))), 4)) ∙ ap (λ (z : Operand). negated (meOperand p z)) i
+        ap (λ (t : G.Test). meNegation p (testNegation b t)) e ∙ (λ j. (join (writeOperand (queryOperand q) p) (notEffect (f j)), 4)) ∙ ap (λ (z : Operand). negated (meOperand p z)) i
     go (functionTest g) e =
         let i : functionOperand g ≡ x = rw e at (y .is) in
         let f = sym (sort-of (sortFunction g)) in
-        ap (λ (t : G.Test). meNegation p (testNegation b t)) e ∙ (λ j. (join (writeOperand (functionOperand g) p) (plain (notTail (f j))), 4)) ∙ ap (λ (z : Operand). negated (meOperand p z)) i
+        ap (λ (t : G.Test). meNegation p (testNegation b t)) e ∙ (λ j. (join (writeOperand (functionOperand g) p) (notEffect (f j)), 4)) ∙ ap (λ (z : Operand). negated (meOperand p z)) i
 
 module _ {s : List ℕ} {a b : State} {at : ℕ} (k : Skipped s (a .at) at) (m : Moved a b at) where
   -- what is negated was read, and the tail put behind it
-  negated-read : {T : Type 0} {sp : T → List ℕ → List ℕ} {w : T → Writer} {fl : T → ℕ} {j f : ℕ} {P P₁ P₂ L L₁ : List ℕ} {c d : State} (h : Read sp w fl j s P P₁ L L₁ b c f) → Put P₁ P₂ c d (notTail (sortOf f))
+  negated-read : {T : Type 0} {sp : T → List ℕ → List ℕ} {w : T → Writer} {fl : T → ℕ} {j f : ℕ} {P P₁ P₂ L L₁ : List ℕ} {c d : State} (h : Read sp w fl j s P P₁ L L₁ b c f) → NotPut f P₁ P₂ c d
       → {t : Negation} → meNegation (a .pool) t ≡ negated (w (h .tree) (a .pool), fl (h .tree)) → Reads spellNegation (meNegation (a .pool)) (After 2) (drop (a .at) s) t (drop (c .at) s)
       → Read spellNegation writeNegation (λ x. 4) 2 s P P₂ L L₁ a d 4
   negated-read {fl = fl} {P₁ = P₁} {P₂ = P₂} {c = c} {d = d} h q {t} e o =
-      let q' : Put P₁ P₂ c d (notTail (sortOf (fl (h .tree)))) = subst (λ (n : ℕ). Put P₁ P₂ c d (notTail (sortOf n))) (h .flag) q in
+      let q' : NotPut (fl (h .tree)) P₁ P₂ c d = subst (λ (n : ℕ). NotPut n P₁ P₂ c d) (h .flag) q in
       record {
         tree = t;
         reads = subst (λ (i : ℕ). Reads spellNegation (meNegation (a .pool)) (After 2) (drop (a .at) s) t (drop i s)) (sym (q .at)) o;
         from = omega (arith, k .from, m .0, h .from, q .at);
         to = omega (arith, h .to, q .at);
-        done = done-is (ap (λ (x : Effect × ℕ). x .0) e) (done-then (done-moved m (done-at h (m .1 .0 .1))) (put-plain q'));
+        done = done-is (ap (λ (x : Effect × ℕ). x .0) e) (done-then (done-moved m (done-at h (m .1 .0 .1))) (put-marked q'));
         flag = refl;
         utf8 = subst (λ (i : ℕ). isUtf8 (drop i s) ≡ true) (sym (q .at)) (h .utf8);
       }
@@ -103,7 +107,7 @@ module _ {s : List ℕ} {a b : State} {at : ℕ} (k : Skipped s (a .at) at) (m :
   -- a parenthesis
   module _ (i : Is s at 0x28 true) where
     -- it was read
-    pub negation-at-paren : {f : ℕ} {P P₁ P₂ L L₁ : List ℕ} {c d : State} → Read spellParen writeParen (λ t. sortNumber (sortParen t)) 0 s P P₁ L L₁ b c f → Put P₁ P₂ c d (notTail (sortOf f))
+    pub negation-at-paren : {f : ℕ} {P P₁ P₂ L L₁ : List ℕ} {c d : State} → Read spellParen writeParen (λ t. sortNumber (sortParen t)) 0 s P P₁ L L₁ b c f → NotPut f P₁ P₂ c d
         → Read spellNegation writeNegation (λ t. 4) 2 s P P₂ L L₁ a d 4
     negation-at-paren h q =
         let so = negation-paren (a .pool) (sym (k .rest) ∙ i .1) in
@@ -125,7 +129,7 @@ module _ {s : List ℕ} {a b : State} {at : ℕ} (k : Skipped s (a .at) at) (m :
       negation-of-literal e = stop (negation-literal (a .pool) (λ l e. i l (k .rest ∙ e)) (reads-at h (m .1 .0 .1) (behind-blanks k (m .0))) (ap (λ (n : ℕ). eqb n 0) (sym (h .flag) ∙ e)))
 
       -- an operand that is a test
-      pub negation-at-operand : {P₂ : List ℕ} {d : State} → f ≢ 0 → Put P₁ P₂ c d (notTail (sortOf f)) → Read spellNegation writeNegation (λ t. 4) 2 s P P₂ L L₁ a d 4
+      pub negation-at-operand : {P₂ : List ℕ} {d : State} → f ≢ 0 → NotPut f P₁ P₂ c d → Read spellNegation writeNegation (λ t. 4) 2 s P P₂ L L₁ a d 4
       negation-at-operand n q =
           let z : eqb (operandFlag (h .tree)) 0 ≡ false = ne-eqb (operandFlag (h .tree)) 0 (λ e. n (h .flag ∙ e)) in
           negated-read h q (test-negated (a .pool) (split-blanks (drop (a .at) s) .0) (h .tree) (test-of (h .tree) z)) (negation-reads (a .pool) (λ l e. i l (k .rest ∙ e)) (reads-at h (m .1 .0 .1) (behind-blanks k (m .0))) z)

@@ -9,12 +9,12 @@ use lib.Seq.{length-sets}
 use Rattle.definition.specs.Utf8.{isUtf8}
 use Rattle.definition.specs.Plans.{two}
 use Rattle.reading.specs.Reads.{Reads, ReadsNone, Wrote}
-use Rattle.writing.specs.Effects.{Marks, Effect, Writer, noMarks, joinMarks, join, bytes, mark, frame}
+use Rattle.writing.specs.Effects.{Marks, Effect, Writer, noMarks, joinMarks, join, seq, bytes, mark, frame}
 use Rattle.writing.specs.Sizes.{Sized}
 use Rattle.levels.specs.Follow.{unblank, After}
 use Rattle.scan.specs.Text.{Skipped}
-use Rattle.items.specs.Reads.{marksAt, marksOf, Start, Done, Read, Post, LooseRead, Put, next, stop}
-use Rattle.items.specs.Laws.{Moved, done-then, done-from, start-go, after-weaken, join-none, join-noMarks, join-assoc, put-done, mark-done, done-frame}
+use Rattle.items.specs.Reads.{marksAt, marksOf, Start, Done, Read, Post, LooseRead, Put, PutMarked, next, stop}
+use Rattle.items.specs.Laws.{Moved, done-then, done-from, start-go, after-weaken, join-none, join-noMarks, join-assoc, put-done, mark-done, marked-done, done-frame}
 use Rattle.items.specs.declared.State.{State}
 use Rattle.items.specs.declared.Step.{Step}
 use Rattle.rules.specs.So.{So, so-reads, so-none}
@@ -212,6 +212,11 @@ module _ {L K : Type 0} {spL : L → List ℕ → List ℕ} {w : L → Writer} {
 pub put-plain : {P P' L : List ℕ} {a b : State} {c : List ℕ} → Put P P' a b c → Done P P' L L a b (plain c)
 unfolding bytes
 put-plain h = put-done h
+
+-- a mark, and bytes behind it
+pub put-marked : {P P' L : List ℕ} {a b : State} {c : List ℕ} {m : Marks} → PutMarked P P' a b c m → Done P P' L L a b (join (marked m) (plain c))
+unfolding seq mark bytes
+put-marked h = marked-done h
 
 pub judged-marked : (m : Marks) {P L : List ℕ} {a b : State} → (b .at ≡ a .at) × (b .len ≡ a .len) × (b .pool ≡ a .pool) → marksOf b ≡ joinMarks (marksOf a) m → Done P P L L a b (marked m)
 unfolding mark

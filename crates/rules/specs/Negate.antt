@@ -10,8 +10,8 @@ use Rattle.definition.specs.Grammar.{spellParen, spellTest}
 use Rattle.definition.specs.Grammar.Paren.{paren}
 use Rattle.definition.specs.Grammar.Test.{queryTest, functionTest}
 use Rattle.reading.specs.Reads.{Reads, ReadsNone}
-use Rattle.writing.specs.Effects.{Effect, join, seq, bytes}
-use Rattle.writing.specs.Sorts.{sortParen, sortTest, sortFunction}
+use Rattle.writing.specs.Effects.{Effect, join, seq, mark, bytes}
+use Rattle.writing.specs.Sorts.{Sort, sortParen, sortTest, sortFunction, comparedVerdict}
 use Rattle.writing.specs.Writes.{writeParen, writeTest, notTail}
 use Rattle.levels.specs.Follow.{unblank, After}
 use Rattle.levels.specs.Numbers.{sortOf}
@@ -19,7 +19,7 @@ use Rattle.levels.specs.Pieces.{Operand, spellOperand, writeOperand, operandFla
 use Rattle.levels.specs.Pieces.Operand.{literalOperand, queryOperand, functionOperand}
 use Rattle.levels.specs.Pieces.Negation.{parenNegation, testNegation}
 use Rattle.rules.specs.Follows.{unblank-blanks, split-blanks, after-weaken}
-use Rattle.rules.specs.Joins.{plain}
+use Rattle.rules.specs.Joins.{plain, marked}
 use Rattle.rules.specs.Begins.{begins-not, test-begins}
 use Rattle.rules.specs.Starts.{test-start}
 use Rattle.rules.specs.Sorted.{sort-of}
@@ -28,15 +28,19 @@ use Rattle.rules.specs.Paren.{meParen}
 use Rattle.rules.specs.Query.{meOperand}
 use Rattle.rules.specs.Basic.{meNegation, filter-query-sort, query-some, function-some}
 
+-- what stands behind what is negated: the verdict on its sort, and its tail
+abbrev pub notEffect : Sort → Effect
+notEffect s = join (marked (record { verdict = comparedVerdict true s; calls = false; beyond = false })) (plain (notTail s))
+
 -- what is known of the negation, from what is known of what is negated
 abbrev pub negated : Effect × ℕ → Effect × ℕ
-negated m = (join (m .0) (plain (notTail (sortOf (m .1)))), 4)
+negated m = (join (m .0) (notEffect (sortOf (m .1))), 4)
 
 paren-negates : (p : ℕ) (b : Blanks) (q : G.Paren) → meNegation p (parenNegation b q) ≡ negated (meParen p q)
-unfolding seq bytes
+unfolding seq mark bytes
 paren-negates p b q =
     let e = sym (sort-of (sortParen q)) in
-    λ i. (join (writeParen q p) (plain (notTail (e i))), 4)
+    λ i. (join (writeParen q p) (notEffect (e i)), 4)
 
 -- a parenthesis stands there
 pub negation-paren : (p : ℕ) {s l : List ℕ} → unblank s ≡ 0x28 ∷ l → So spellNegation (meNegation p) spellParen (meParen p) (After 2) s (unblank s) negated
@@ -76,11 +80,11 @@ test-some (queryTest q) = query-some q
 test-some (functionTest f) = function-some f
 
 test-negates : (p : ℕ) (b : Blanks) (t : G.Test) → meNegation p (testNegation b t) ≡ negated (meOperand p (testOperand t))
-unfolding seq bytes
+unfolding seq mark bytes
 test-negates p b t =
     let w = test-writes t p in
     let e = test-sort t in
-    λ i. (join (w i) (plain (notTail (e i))), 4)
+    λ i. (join (w i) (notEffect (e i)), 4)
 
 pub record TestOf (x : Operand) : Type 0 where
   pub test : G.Test

@@ -7,8 +7,9 @@ use lib.ListN.{length}
 use Rattle.definition.specs.Forms as F
 use Rattle.definition.specs.Forms.{isSingular, manySelectors}
 use Rattle.definition.specs.Forms.Segments.{end, child, descendant}
+use Rattle.definition.specs.Forms.Test.{exists, not}
 use Rattle.definition.specs.Plans.{two, poolLiteral, poolQuery, poolSelectors, poolTest, poolFunction, codeLiteral, codeQuery, codeSegments, codeSelectors, codeTest, codeFunction}
-use Rattle.definition.specs.Walk.{Expression, Operand, asTest, negated}
+use Rattle.definition.specs.Walk.{Expression, Operand, asTest}
 use Rattle.definition.specs.Walk.Expression.{nodes, valued, logical}
 use Rattle.definition.specs.Walk.Operand.{constant, expression}
 use Rattle.writing.specs.Effects.{Writer, bytes, seq}
@@ -113,18 +114,14 @@ test-pool (logical t) = refl
 pub test-item : (e : Expression) → seq (writeExpression e) (bytes (testTail (sortExpression e))) ≡ writeForm (asTest e)
 test-item e = translated-bytes false false (codeExpression e) (poolExpression e) (testTail (sortExpression e)) ∙ ap₂ item (fun-ext (test-code e)) (test-pool e)
 
--- and behind `!` it is the expression with the other tail
-pub negated-code : (e : Expression) (p : ℕ) → codeExpression e p ++ notTail (sortExpression e) ≡ codeTest (negated e) p
-unfolding codeExpression sortExpression negated codeTest notTail
-negated-code (nodes q) p = ap (λ (s : List ℕ). codeQuery q p ++ s) (query-not-tail (isSingular q)) ∙ sym (append-assoc (codeQuery q p) (0x18 ∷ []) (0x15 ∷ []))
-negated-code (valued f) p = refl
-negated-code (logical t) p = refl
+-- and behind `!` a query and a test are what they are with the other tail
+pub not-query-code : (q : F.Query) (p : ℕ) → codeQuery q p ++ notTail (querySort (isSingular q)) ≡ codeTest (not (exists q)) p
+unfolding codeTest
+not-query-code q p = ap (λ (s : List ℕ). codeQuery q p ++ s) (query-not-tail (isSingular q)) ∙ sym (append-assoc (codeQuery q p) (0x18 ∷ []) (0x15 ∷ []))
 
-pub negated-pool : (e : Expression) → poolExpression e ≡ poolTest (negated e)
-unfolding poolExpression negated poolTest
-negated-pool (nodes q) = refl
-negated-pool (valued f) = refl
-negated-pool (logical t) = refl
+pub not-test-code : (t : F.Test) (p : ℕ) → codeTest t p ++ notTail logicalSort ≡ codeTest (not t) p
+unfolding codeTest notTail
+not-test-code t p = refl
 
 -- ---- segments
 

@@ -8,7 +8,7 @@ use lib.ListN.{length}
 use Rattle.definition.specs.Forms as F
 use Rattle.definition.specs.Forms.{isSingular, isSingularSelector}
 use Rattle.definition.specs.Forms.Selector.{filter}
-use Rattle.definition.specs.Forms.Test.{compare, both, either}
+use Rattle.definition.specs.Forms.Test.{exists, compare, not, both, either}
 use Rattle.definition.specs.Forms.Argument.{literal, singular, value}
 use Rattle.definition.specs.Forms.Function.{countOf, lengthOf, valueOf}
 use Rattle.definition.specs.Forms.Operator.{eq}
@@ -21,11 +21,11 @@ use Rattle.definition.specs.Walk.Named.{count, valueName, match, search, unknow
 use Rattle.writing.specs.Effects.{Writer, first, joinMarks, join, skip, bytes, mark, verdict, seq, frame}
 use Rattle.writing.specs.Sorts.{Sort, querySort, namedSort, valueVerdict, nodesVerdict, comparedVerdict, oneVerdict, twoVerdict, callVerdict, isRegex}
 use Rattle.writing.specs.Sorts.Sort.{valueSort, logicalSort}
-use Rattle.writing.specs.Writes.{testTail, notTail, callBytes}
+use Rattle.writing.specs.Writes.{testTail, notTail, writeNot, callBytes}
 use Rattle.writing.specs.Laws.{translated, item, reports, first-stands, reports-item, mark-splits, seq-assoc, mark-passes, item-item, translated-bytes, verdict-verdict, seq-no-verdict, no-verdict-seq}
 use Rattle.writing.specs.Agreement.{Agrees, fits, then, after, mapped, frames, before, behind}
 use Rattle.writing.specs.Agreement.Agrees.{refuses, writes}
-use Rattle.writing.specs.Codes.{codeExpression, poolExpression, sortExpression, codeOperand, poolOperand, sortOperand, codeOperands, poolOperands, sortsOperands, writeExpression, writeOperand, writeOperands, writeForm, one-operand, two-operands, test-code, test-pool, test-item, negated-code, negated-pool}
+use Rattle.writing.specs.Codes.{codeExpression, poolExpression, sortExpression, codeOperand, poolOperand, sortOperand, codeOperands, poolOperands, sortsOperands, writeExpression, writeOperand, writeOperands, writeForm, one-operand, two-operands, test-code, test-pool, test-item, not-query-code, not-test-code}
 
 -- a writer that agrees with a walk to an expression of the sort s
 abbrev pub Expresses : Sort → Writer → Walked Expression → Type 0
@@ -47,11 +47,31 @@ filters {s} h =
     mapped (λ e. filter (asTest e)) (frames 0x09 (behind (testTail s) h))
     (λ e he. fun-ext (λ p. ap (framed 0x09) (ap (λ (t : Sort). codeExpression e p ++ testTail t) (sym he) ∙ test-code e p))) (λ e he. test-pool e) (λ e he. refl)
 
--- `!` before an expression
-pub negates : {s : Sort} {f : Writer} {m : Walked Expression} → Expresses s f m → Expresses logicalSort (seq f (bytes (notTail s))) (next m (λ e. fine (logical (negated e))))
-unfolding codeExpression poolExpression sortExpression
-negates {s} h =
-    mapped (λ e. logical (negated e)) (behind (notTail s) h) (λ e he. fun-ext (λ p. ap (λ (t : Sort). codeExpression e p ++ notTail t) (sym he) ∙ negated-code e p)) (λ e he. negated-pool e) (λ e he. refl)
+-- a query may stand alone
+query-passes : (b : Bool) → comparedVerdict true (querySort b) ≡ 0
+unfolding comparedVerdict querySort
+query-passes true = refl
+query-passes false = refl
+
+-- what passes behind `!`: no verdict, and the tail
+not-item : (e : Expression) (t : F.Test) → comparedVerdict true (sortExpression e) ≡ 0 → ((p : ℕ) → codeExpression e p ++ notTail (sortExpression e) ≡ codeTest t p) → poolExpression e ≡ poolTest t
+    → seq (writeExpression e) (writeNot (sortExpression e)) ≡ writeForm t
+not-item e t v cs ps =
+    ap (λ (n : ℕ). seq (writeExpression e) (seq (verdict n) (bytes (notTail (sortExpression e))))) v
+    ∙ ap (seq (writeExpression e)) (no-verdict-seq (bytes (notTail (sortExpression e))))
+    ∙ translated-bytes false false (codeExpression e) (poolExpression e) (notTail (sortExpression e))
+    ∙ ap₂ item (fun-ext cs) ps
+
+-- `!` before a query and before a test is what is written, and before a value function it is 5
+negation-agrees : (e : Expression) → Expresses logicalSort (seq (writeExpression e) (writeNot (sortExpression e))) (negated e)
+unfolding negated codeExpression poolExpression sortExpression comparedVerdict poolTest seq join joinMarks mark translated
+negation-agrees (nodes q) = fits (logical (not (exists q))) (not-item (nodes q) (not (exists q)) (query-passes (isSingular q)) (not-query-code q) refl) refl
+negation-agrees (valued f) = refuses {n = 5} (omega arith) (λ p. refl)
+negation-agrees (logical t) = fits (logical (not t)) (not-item (logical t) (not t) refl (not-test-code t) refl) refl
+
+-- `!` before an expression: what is wrong inside comes first
+pub negates : {s : Sort} {f : Writer} {m : Walked Expression} → Expresses s f m → Expresses logicalSort (seq f (writeNot s)) (next m (λ e. negated e))
+negates {s} h = then (writeNot s) (λ e. negated e) h (λ e he. subst (λ (r : Sort). Expresses logicalSort (seq (writeExpression e) (writeNot r)) (negated e)) he (negation-agrees e))
 
 -- ---- chains
 
@@ -75,12 +95,6 @@ judged {code} {pool} {P} {x} s q g k (passes e) h =
     (subst⁻¹ (λ (w : Writer). Agrees code pool P (seq (item s q) w) (also false false (k x))) (no-verdict-seq g)
     (subst⁻¹ (λ (m : Walked _). Agrees code pool P (seq (item s q) g) m) (also-nothing (k x)) h))
 judged s q g k (fails {n = n} h e) a = refuses h (λ p. ap (λ (c : ℕ). first c (g (p + length q + 0) .marks .verdict)) e ∙ first-stands n (g (p + length q + 0) .marks .verdict) h)
-
--- a query may stand alone
-query-passes : (b : Bool) → comparedVerdict true (querySort b) ≡ 0
-unfolding comparedVerdict querySort
-query-passes true = refl
-query-passes false = refl
 
 -- "A value function alone as a test or operand is 5, but not straight in an argument"
 compared-judges : (a : Bool) (e : Expression) → Judges (comparedVerdict a (sortExpression e)) e (compared a e)

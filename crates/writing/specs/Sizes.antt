@@ -39,7 +39,7 @@ use Rattle.definition.specs.Plans.{pooled, eight, operatorByte}
 use Rattle.writing.specs.Effects.{Writer, Marks, first, joinMarks, join, skip, bytes, pooling, mark, verdict, seq, frame, counted}
 use Rattle.writing.specs.Sorts.{Sort, sortOr, sortAnd, sortBasic, sortParen, sortTest, sortComparable, sortsOf, valueVerdict, nodesVerdict, comparedVerdict, oneVerdict, twoVerdict, callVerdict}
 use Rattle.writing.specs.Sorts.Sort.{literalSort, singularSort, nodesSort, valueSort, logicalSort}
-use Rattle.writing.specs.Writes.{keptInt, verdictInt, boundBytes, boundVerdict, stepBytes, stepVerdict, writeIndex, writeSlice, writeNumeral, writeLiteral, writeSingularSegment, writeSingularSegments, writeSingular, writeFrom, testTail, notTail, callBytes, countBracketed, writeSegments, writeSegment, writeBracketed, writeSelectors, writeSelector, writeOr, writeMoreOr, writeAnd, writeMoreAnd, writeBasic, writeParen, writeTest, writeFilterQuery, writeComparable, writeFunction, writeArguments, writeMoreArguments, writeArgument, writeQuery}
+use Rattle.writing.specs.Writes.{keptInt, verdictInt, boundBytes, boundVerdict, stepBytes, stepVerdict, writeIndex, writeSlice, writeNumeral, writeLiteral, writeSingularSegment, writeSingularSegments, writeSingular, writeFrom, testTail, notTail, writeNot, callBytes, countBracketed, writeSegments, writeSegment, writeBracketed, writeSelectors, writeSelector, writeOr, writeMoreOr, writeAnd, writeMoreAnd, writeBasic, writeParen, writeTest, writeFilterQuery, writeComparable, writeFunction, writeArguments, writeMoreArguments, writeArgument, writeQuery}
 use Rattle.writing.specs.Spellings.{little-endian-length, text-shrinks, int-spends, number-spends, slice-spends, operator-spends}
 
 -- ---- verdicts
@@ -304,6 +304,10 @@ call-verdict match ss = two-verdict ss
 call-verdict search ss = two-verdict ss
 call-verdict unknown ss = six
 
+-- what stands behind an expression that is negated
+sized-not : {r : List ℕ} (s : Sort) → Sized 0 2 (writeNot s) r r
+sized-not s = seq-sized (verdict-sized (compared-verdict true s)) (bytes-sized (notTail s) 2 (not-tail s))
+
 -- an operator before a spelling pays for its item
 operator-sized : {f : Writer} {r s : List ℕ} (b : Blanks) (o : G.Operator) (c : Blanks) → Sized 3 0 f r s → Sized 16 0 f r (spellBlanks b (spellOperator o (spellBlanks c s)))
 operator-sized {s} b o c h =
@@ -370,7 +374,7 @@ mutual
   pub sizedBasic : (e : G.Basic) (r : List ℕ) → Sized 3 0 (writeBasic e) r (spellBasic e r)
   sizedBasic (parenBasic p) r = sizedParen p r
   sizedBasic (notParen b p) r =
-      loosen 1 (seq-sized (sizedParen p r) (bytes-sized (notTail (sortParen p)) 2 (not-tail (sortParen p)))) (simp length-append (omega arith)) (omega arith)
+      loosen 1 (seq-sized (sizedParen p r) (sized-not (sortParen p))) (simp length-append (omega arith)) (omega arith)
   sizedBasic (comparison x b o c y) r =
       loosen 0
       (seq-sized (sizedComparable x (spellBlanks b (spellOperator o (spellBlanks c (spellComparable y r)))))
@@ -379,7 +383,7 @@ mutual
       (omega arith) (omega arith)
   sizedBasic (testBasic t) r = sizedTest t r
   sizedBasic (notTest b t) r =
-      loosen 1 (seq-sized (sizedTest t r) (bytes-sized (notTail (sortTest t)) 2 (not-tail (sortTest t)))) (simp length-append (omega arith)) (omega arith)
+      loosen 1 (seq-sized (sizedTest t r) (sized-not (sortTest t))) (simp length-append (omega arith)) (omega arith)
 
   pub sizedParen : (e : G.Paren) (r : List ℕ) → Sized 3 0 (writeParen e) r (spellParen e r)
   sizedParen (paren b e c) r = around 2 (sizedOr e true (spellBlanks c (0x29 ∷ r))) (simp length-append (omega arith)) (omega arith)

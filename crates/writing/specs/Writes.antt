@@ -131,6 +131,10 @@ notTail nodesSort = 0x18 ∷ 0x15 ∷ []
 notTail valueSort = 0x18 ∷ 0x15 ∷ []
 notTail logicalSort = 0x15 ∷ []
 
+-- What stands behind an expression of the given sort that stands behind `!`: the verdict on it, for a value function may not be negated, and its tail.
+abbrev pub writeNot : Sort → Writer
+writeNot s = seq (verdict (comparedVerdict true s)) (bytes (notTail s))
+
 -- a call of match or search is written as the comparison that stands in its place
 unfoldable pub callBytes : Named → List ℕ
 callBytes count = 0x19 ∷ []
@@ -198,13 +202,13 @@ unfoldable mutual
 
   pub writeBasic : G.Basic → Writer
   writeBasic (parenBasic p) = writeParen p
-  writeBasic (notParen b p) = seq (writeParen p) (bytes (notTail (sortParen p)))
+  writeBasic (notParen b p) = seq (writeParen p) (writeNot (sortParen p))
   writeBasic (comparison x b o c y) =
       seq (writeComparable x)
       (seq (writeComparable y)
       (seq (verdict (first (valueVerdict (sortComparable x)) (valueVerdict (sortComparable y)))) (bytes (0x14 ∷ operatorByte (operatorForm o) ∷ []))))
   writeBasic (testBasic t) = writeTest t
-  writeBasic (notTest b t) = seq (writeTest t) (bytes (notTail (sortTest t)))
+  writeBasic (notTest b t) = seq (writeTest t) (writeNot (sortTest t))
 
   pub writeParen : G.Paren → Writer
   writeParen (paren b e c) = writeOr e true

@@ -49,7 +49,8 @@ fn advice(refusal: &Refusal) -> &'static str {
         Refusal::Type => {
             "count(..) and value(..) take a query; length(..) takes a literal, a query that selects at\n\
              most one node, or a function. Only these can be compared: literals, queries that select at\n\
-             most one node (no * and .. and slice), and functions. A function alone is no test: compare it."
+             most one node (no * and .. and slice), and functions. A function alone is no test, and ! takes\n\
+             none: write !@.* to ask whether there is nothing, and count(@.*) == 0 to ask for a number."
         }
         Refusal::UnknownFunction => "The functions are count, length and value, in small letters.",
         Refusal::Regex => "There are no regular expressions here. Select more, and look at the texts afterwards.",
