@@ -247,7 +247,7 @@ GROUPS = {
         ("rows 1666", ["$.rows[?count(@.*) > 4]", "$.rows[?value(@.name) == 'bolt']", "$.rows[?count(@.none) == 0]"]),
         ("rows 1666, shuffled", ["$.rows[?value(@.qty) < 3]"]),
         ("orders", ["$.orders[?count(@.items[*]) >= 4]", "$.orders[?count(@..price) == 2].id", "$.orders[?value(@..city) == 'Oslo']",
-                    "$.orders[?length(@.status) == 4]", "$.orders[?length(value(@.status)) == 4]"]),
+                    "$.orders[?length(@.none) == 0]", "$.orders[?length(value(@.status)) == 4]"]),
         ("orders, shuffled", ["$.orders[?count(@.items[?@.qty > 9]) == 2]", "$.orders[*].items[?length('abc') == @.qty]"]),
         ("tree", ["$..[?count(@.children[*]) == 3].name"]),
         ("sparse", ["$[?count(@.*) == 3]"]),

@@ -6,9 +6,9 @@
 //!                                     crates/select_vectors replays: of each feature about SHARE cases
 //!
 //! The Rust text evaluates each query twice: on plain values, which are compared by kind and content, and on handlers that carry node numbers.
-//! Where its comparisons are not document 01's (rows C1 to C7), its answer cannot be taken as it is. So `Walk` evaluates the Rust text's tree once more, with
-//! either comparison: with the Rust text's it must give the Rust text's nodes, with document 01's it must give this engine's, and it notes the row of
-//! every comparison on which the two differ. Where it notes none, this engine and the Rust text must agree.
+//! Where its comparisons are not document 01's (rows C1 to C7), or its lengths not document 02's (S5 and S6), its answer cannot be taken as it is. So `Walk`
+//! evaluates the Rust text's tree once more, with either rule: with the Rust text's it must give the Rust text's nodes, with ours it must give this engine's,
+//! and it notes the row of every comparison and every length on which the two differ. Where it notes none, this engine and the Rust text must agree.
 
 #[allow(dead_code)]
 mod compile;
@@ -425,16 +425,39 @@ impl<'a> Walk<'a> {
                     ("count", Operand::Nodes(nodes)) => Operand::Value(Value::Int(nodes.len() as i64)),
                     ("value", Operand::Nodes(nodes)) if nodes.len() == 1 => Operand::Node(nodes[0]),
                     ("value", _) => Operand::Value(Value::Null),
-                    ("length", Operand::Value(Value::Text(s))) => Operand::Value(Value::Int(s.len() as i64)),
-                    ("length", Operand::Node(node)) => Operand::Value(Value::Int(match &self.doc.nodes[node].value {
-                        None => self.doc.nodes[node].count as i64,
-                        Some(Value::Text(s)) => s.len() as i64,
-                        Some(_) => 0,
-                    })),
+                    ("length", argument) => Operand::Value(Value::Int(self.length(argument))),
                     _ => Operand::Value(Value::Int(0)),
                 }
             }
             FilterExpression::Array { .. } => unreachable!("no array literal is in the grammar"),
+        }
+    }
+
+    // The length by document 02, W3, and by the Rust text: 0 of a query, and a text's number of bytes.
+    fn length(&mut self, argument: Operand) -> i64 {
+        let query = matches!(argument, Operand::Nodes(_));
+        let measured = match argument {
+            Operand::Nodes(nodes) => nodes.first().map(|&n| Operand::Node(n)),
+            other => Some(other),
+        };
+        let text = |s: &str| (s.chars().count() as i64, s.len() as i64);
+        let (ours, bytes) = match measured {
+            Some(Operand::Value(Value::Text(s))) => text(&s),
+            Some(Operand::Node(node)) => match &self.doc.nodes[node].value {
+                None => (self.doc.nodes[node].count as i64, self.doc.nodes[node].count as i64),
+                Some(Value::Text(s)) => text(s),
+                Some(_) => (0, 0),
+            },
+            _ => (0, 0),
+        };
+        let theirs = if query { 0 } else { bytes };
+        if ours != theirs {
+            self.rows.insert(if query { "S5" } else { "S6" });
+        }
+        if self.as_rust {
+            theirs
+        } else {
+            ours
         }
     }
 
@@ -1187,12 +1210,12 @@ fn with_rust(doc: &Doc, tree: &Query, want: &[usize], as_rust: &[usize], rows: &
             (0, true) => "alike, no node".into(),
             (1, true) => "alike, one node".into(),
             (_, true) => "alike, several nodes".into(),
-            _ => "alike, with comparisons of C1 to C7 that change nothing".into(),
+            _ => "alike, with rows of C1 to C7, S5 or S6 that change nothing".into(),
         }
     } else if rows.len() == 1 {
         format!("differ by {}", rows.first().unwrap())
     } else {
-        "differ by several of C1 to C7".into()
+        "differ by several of C1 to C7, S5 and S6".into()
     })
 }
 

@@ -147,7 +147,7 @@ enum stewpebble_item {
     STEWPEBBLE_ITEM_OR = 0x17,             // bytes of the right operand, 2
     STEWPEBBLE_ITEM_TEST = 0x18,           // no body
     STEWPEBBLE_ITEM_COUNT = 0x19,          // the function count, no body
-    STEWPEBBLE_ITEM_LENGTH = 0x1A,         // the function length, no body
+    STEWPEBBLE_ITEM_LENGTH = 0x1A,         // the function length, no body: of a text in Unicode scalar values
     STEWPEBBLE_ITEM_VALUE = 0x1B           // the function value, no body
 };
 

@@ -541,8 +541,10 @@ def operand(a, root, current):
 
 def call(f, root, current):
     if f[0] == 0x1A:
-        v = ("null",) if f[1][0] == "query" else operand(f[1], root, current)
-        return ("number", len(v[1]) if v[0] in ("text", "list", "map") else 0)
+        v = operand(f[1], root, current) or ("null",)
+        if v[0] == "text":
+            return ("number", len(v[1].decode()))
+        return ("number", len(v[1]) if v[0] in ("list", "map") else 0)
     found = evaluate(f[1], root, current)
     if f[0] == 0x19:
         return ("number", min(len(found), MAX_INT))

@@ -83,6 +83,9 @@ pub fn compile_bytes(query: &[u8]) -> Result<Plan, Refusal> {
 ///
 /// let table: Table = r#"{"a":[10,20.0,30],"b":"é"}"#.parse()?;
 /// assert_eq!(select("$.a[::-1]", &table)?.numbers(), [5, 4, 3]);
+/// // The list has three elements, and the text one scalar value, in two bytes.
+/// assert_eq!(select("$[?length(@) == 3]", &table)?.numbers(), [1]);
+/// assert_eq!(select("$[?length(@) == 1]", &table)?.numbers(), [2]);
 /// # Ok::<(), stewpebble::Error>(())
 /// ```
 pub fn select<'t>(query: &str, table: &'t Table) -> Result<Nodes<'t>, Refusal> {

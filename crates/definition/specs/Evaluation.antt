@@ -1,4 +1,4 @@
--- What a query form selects from a tree of values: RFC 9535's evaluation with document 01's "Evaluation" and "Kept from the Rust".
+-- What a query form selects from a tree of values: RFC 9535's evaluation with document 01's "Evaluation", "Kept from the Rust" and "Standard taken", and document 02's W3.
 use Prim.Native.Nat.{ℕ, min}
 use mathlib.Core.List.{List, [], _∷_, _++_, map}
 use mathlib.Core.Bool.{Bool, true, false, cond, not, _&&_, _||_}
@@ -8,6 +8,7 @@ use lib.IntN.{pos, natAbs}
 use lib.Ieee.{binary64, ofBits}
 use lib.ListN.{length, take, drop}
 use Rattle.definition.specs.Limits.{maxInt}
+use Rattle.definition.specs.Utf8.{scalarsOf}
 use Rattle.definition.specs.Slices.{indexPlaces, slicePlaces}
 use Rattle.definition.specs.Values.{Json, idOf, many, lookup, children, elements, members, descend}
 use Rattle.definition.specs.Compare.{Value, nodeValue, floatFraction, compareValues}
@@ -71,14 +72,14 @@ literalValue (Literal.text s) = Value.text s
 unfoldable pub countValue : List Json → Value
 countValue ns = Value.integer (pos (min (length ns) maxInt))
 
--- "Text length is in bytes. Numbers, booleans and null give 0"; a list or a map gives the number of its children, as in the Rust
+-- W3, and RFC 9535, 2.4.4: "Text is measured in Unicode scalar values, as the RFC has it"; a list or a map gives the number of its children. Without a node it is 0, "as for a value that is no text, list or map".
 unfoldable pub lengthOfValue : Value → ℕ
 lengthOfValue nothing = 0
 lengthOfValue Value.null = 0
 lengthOfValue (Value.boolean b) = 0
 lengthOfValue (Value.integer z) = 0
 lengthOfValue (Value.float x) = 0
-lengthOfValue (Value.text s) = length s
+lengthOfValue (Value.text s) = length (scalarsOf s)
 lengthOfValue (Value.list ks) = many ks
 lengthOfValue (Value.map ks) = many ks
 
@@ -135,17 +136,11 @@ unfoldable mutual
   evalArgument (singular q) r n = firstValue (evalQuery q r n)
   evalArgument (value f) r n = evalFunction f r n
 
-  -- "length of a query argument is 0, also where a node is found"
+  -- W3: "A query argument now reads its node"
   pub evalFunction : Function → Json → Json → Value
   evalFunction (countOf q) r n = countValue (evalQuery q r n)
-  evalFunction (lengthOf a) r n = lengthValue (evalMeasured a r n)
+  evalFunction (lengthOf a) r n = lengthValue (evalArgument a r n)
   evalFunction (valueOf q) r n = onlyValue (evalQuery q r n)
-
-  -- what `length` measures: of a query it looks at nothing
-  pub evalMeasured : Argument → Json → Json → Value
-  evalMeasured (literal l) r n = literalValue l
-  evalMeasured (singular q) r n = nothing
-  evalMeasured (value f) r n = evalFunction f r n
 
 -- the node numbers that a query selects from a tree
 unfoldable pub selected : Query → Json → List ℕ

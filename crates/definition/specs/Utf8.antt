@@ -1,5 +1,5 @@
--- UTF-8 (RFC 3629): the bytes of a code point, and which byte strings are UTF-8.
-use Prim.Native.Nat.{ℕ, zero, suc, _+_, _/_, _%_}
+-- UTF-8 (RFC 3629): the bytes of a code point, which byte strings are UTF-8, and the scalar values of one.
+use Prim.Native.Nat.{ℕ, zero, suc, _+_, _-_, _*_, _/_, _%_}
 use mathlib.Core.List.{List, [], _∷_, _++_}
 use mathlib.Core.Bool.{Bool, true, false, cond, _||_}
 use lib.Dec.{eqb, leb, ltb}
@@ -58,3 +58,23 @@ isUtf8From w (b ∷ s) = isUtf8From (afterByte w b) s
 -- refusal 2 is that this fails; "Texts and keys .. are UTF-8". The crate `utf8` proves that these are the texts that `encodeAll` gives for scalar values.
 unfoldable pub isUtf8 : List ℕ → Bool
 isUtf8 s = isUtf8From ready s
+
+-- ---- the scalar values of a text
+
+-- a byte that continues a character
+abbrev pub continues : ℕ → Bool
+continues b = within 0x80 0xBF b
+
+-- what the first byte of a character holds of its code point
+unfoldable pub leading : ℕ → ℕ
+leading b = cond (ltb b 0xC0) b (cond (ltb b 0xE0) (b - 0xC0) (cond (ltb b 0xF0) (b - 0xE0) (b - 0xF0)))
+
+-- the code point that is c so far, with the six bits of each byte that continues it
+unfoldable pub continued : ℕ → List ℕ → ℕ
+continued c [] = c
+continued c (b ∷ s) = cond (continues b) (continued (c * 64 + (b - 0x80)) s) c
+
+-- RFC 3629, section 3, read backwards: a byte that continues no character begins one. The crate `utf8` proves that these are the scalar values whose bytes a UTF-8 text is.
+unfoldable pub scalarsOf : List ℕ → List ℕ
+scalarsOf [] = []
+scalarsOf (b ∷ s) = cond (continues b) (scalarsOf s) (continued (leading b) s ∷ scalarsOf s)

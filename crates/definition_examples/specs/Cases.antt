@@ -14,7 +14,8 @@ use Rattle.definition.specs.Forms.Segments.{end, child}
 use Rattle.definition.specs.Forms.Selectors.{one}
 use Rattle.definition.specs.Forms.Selector.{filter}
 use Rattle.definition.specs.Forms.Test.{notValue}
-use Rattle.definition.specs.Forms.Function.{valueOf}
+use Rattle.definition.specs.Forms.Argument.{singular}
+use Rattle.definition.specs.Forms.Function.{lengthOf, valueOf}
 use Rattle.definition.specs.TableOutcomes.{PartOutcome, tableOutcome, textOutcome, keyOutcome}
 use Rattle.definition.specs.Selecting.{RunOutcome, runBy}
 use Rattle.definition_examples.specs.Computes.{computes}
@@ -38,9 +39,12 @@ abbrev pub allAnswered : List Answer → Bool
 allAnswered [] = true
 allAnswered (x ∷ xs) = answered x && allAnswered xs
 
--- the form that `$[?!value(@)]` had
+-- the forms that `$[?!value(@)]` and `$[?!length(@)]` had
 abbrev notValueHere : Query
 notValueHere = query root (child (one (filter (notValue (valueOf (query current end))))) end)
+
+abbrev notLengthHere : Query
+notLengthHere = query root (child (one (filter (notValue (lengthOf (singular (query current end)))))) end)
 
 -- on {"a": [10, 20.0, 30], "b": "é"}
 abbrev onSample : String → List ℕ → Answer
@@ -69,6 +73,13 @@ sampleAnswers =
     onSample "$[?value($['a','a'])==null]" (1 ∷ 2 ∷ []) ∷
     onSample "$[?value(@.x)==null]" (1 ∷ 2 ∷ []) ∷
     onSample "$[?@.x==null]" [] ∷
+    onSample "$[?length(@)==3]" (1 ∷ []) ∷
+    onSample "$[?length(@)==1]" (2 ∷ []) ∷
+    onSample "$[?length($)==2]" (1 ∷ 2 ∷ []) ∷
+    onSample "$[?length(@.x)==0]" (1 ∷ 2 ∷ []) ∷
+    onSample "$.a[?length(@)==0]" (3 ∷ 4 ∷ 5 ∷ []) ∷
+    onSample "$[?length('é')==1]" (1 ∷ 2 ∷ []) ∷
+    onSample "$[?length(value(@))==1]" (2 ∷ []) ∷
     onSample "$[?length(value(@))==3]" (1 ∷ []) ∷
     onSample "$[?length(value($))==2]" (1 ∷ 2 ∷ []) ∷
     onSample "$[?length(count(@))==0]" (1 ∷ 2 ∷ []) ∷
@@ -90,6 +101,9 @@ pub sampleAnswersHold : allAnswered sampleAnswers ≡ true
 unfolding computes
 sampleAnswersHold = refl
 
+abbrev lengths : List ℕ
+lengths = table (node 6 0 0 0 1 6 ∷ node 5 1 0 0 0 7 ∷ node 7 1 0 0 7 1 ∷ node 0 1 0 0 0 0 ∷ node 2 1 0 0 0 0 ∷ node 5 1 0 0 0 0 ∷ node 6 1 0 0 0 0 ∷ node 0 2 7 1 0 0 ∷ [])
+
 abbrev pub answers : List Answer
 answers =
     -- [7]
@@ -108,6 +122,13 @@ answers =
     answer "$[?@==$[1]]" (table (node 6 0 0 0 1 2 ∷ node 7 1 0 0 3 2 ∷ node 7 1 0 0 5 2 ∷ node 3 2 0 1 1 0 ∷ node 6 2 1 1 7 1 ∷ node 6 2 2 1 8 1 ∷ node 4 2 3 1 0 0x3FF00000 ∷ node 4 3 0 0 0 0x40000000 ∷ node 3 3 0 0 2 0 ∷ [])) (bytes "xyyx") (1 ∷ 2 ∷ []) ∷
     -- `!value(@)` on [0, 0.0, -0.0, 1, "", [], {}, null, false, true]
     planAnswer "01 03 01 00 09 05 00 02 0A 1B 18 15 0A" "" notValueHere (table (node 6 0 0 0 1 10 ∷ node 3 1 0 0 0 0 ∷ node 4 1 0 0 0 0 ∷ node 4 1 0 0 0 0x80000000 ∷ node 3 1 0 0 1 0 ∷ node 5 1 0 0 0 0 ∷ node 6 1 0 0 0 0 ∷ node 7 1 0 0 0 0 ∷ node 0 1 0 0 0 0 ∷ node 1 1 0 0 0 0 ∷ node 2 1 0 0 0 0 ∷ [])) [] (1 ∷ 2 ∷ 3 ∷ 5 ∷ 6 ∷ 7 ∷ 8 ∷ 9 ∷ []) ∷
+    -- ["a😀é", {"x": null}, null, true, "", []]: W3, texts by scalar values, maps and lists by children, 0 of the others
+    answer "$[?length(@)==3]" lengths (bytes "a😀éx") (1 ∷ []) ∷
+    answer "$[?length(@)==1]" lengths (bytes "a😀éx") (2 ∷ []) ∷
+    answer "$[?length(@)==0]" lengths (bytes "a😀éx") (3 ∷ 4 ∷ 5 ∷ 6 ∷ []) ∷
+    answer "$[?length(@.x)==0]" lengths (bytes "a😀éx") (1 ∷ 2 ∷ 3 ∷ 4 ∷ 5 ∷ 6 ∷ []) ∷
+    -- `!length(@)` on [[1]]
+    planAnswer "01 03 01 00 09 05 00 02 0A 1A 18 15 0A" "" notLengthHere (table (node 6 0 0 0 1 1 ∷ node 6 1 0 0 2 1 ∷ node 3 2 0 0 1 0 ∷ [])) [] [] ∷
     -- ["a", "b", "ab", 1]
     answer "$[?@<'b']" (table (node 6 0 0 0 1 4 ∷ node 5 1 0 0 0 1 ∷ node 5 1 0 0 1 1 ∷ node 5 1 0 0 2 2 ∷ node 3 1 0 0 1 0 ∷ [])) (bytes "abab") (1 ∷ 3 ∷ []) ∷
     -- [1, 1.5, 2, -1.5]

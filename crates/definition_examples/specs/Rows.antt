@@ -54,8 +54,9 @@ starredRows =
 -- the sample rows that are not starred
 abbrev pub otherRows : List Row
 otherRows =
-    row "$[?length(@) == 0]" (1 ∷ 2 ∷ []) ∷
-    row "$[?length('é') == 2]" (1 ∷ 2 ∷ []) ∷
+    -- W3: "The two sample rows with length become 'none'"
+    row "$[?length(@) == 0]" [] ∷
+    row "$[?length('é') == 2]" [] ∷
     -- "`$['a','a']` is 1 1"
     row "$['a','a']" (1 ∷ 1 ∷ []) ∷
     []

@@ -6,6 +6,7 @@ use lib.Dec.{T}
 use lib.ListN.{length}
 use lib.Ieee.Scale.{finite}
 use Rattle.definition.specs.Bytes.{part}
+use Rattle.definition.specs.Utf8.{scalarsOf}
 use mathlib.Core.Bool.{Bool as Bits, true, false, not, Bool·beq}
 use mathlib.Core.Option.{Option, none, some}
 use lib.Dec.{eqb}
@@ -195,12 +196,12 @@ truthIn S (Pool a n) = not (eqb n 0)
 truthIn S (Text a n) = not (eqb n 0)
 truthIn S (Node i) = not (eqb (childCount S i) 0)
 
-abbrev pub lengthIn : List ℕ → Operand → ℕ
-lengthIn S Nothing = 0
-lengthIn S Null = 0
-lengthIn S (Bool b) = 0
-lengthIn S (Int z) = 0
-lengthIn S (Float x) = 0
-lengthIn S (Pool a n) = n
-lengthIn S (Text a n) = n
-lengthIn S (Node i) = childCount S i
+abbrev pub lengthIn : List ℕ → List ℕ → List ℕ → Operand → ℕ
+lengthIn S X L Nothing = 0
+lengthIn S X L Null = 0
+lengthIn S X L (Bool b) = 0
+lengthIn S X L (Int z) = 0
+lengthIn S X L (Float x) = 0
+lengthIn S X L (Pool a n) = length (scalarsOf (part L a n))
+lengthIn S X L (Text a n) = length (scalarsOf (part X a n))
+lengthIn S X L (Node i) = childCount S i

@@ -207,15 +207,15 @@ module _ (S X L : List ℕ) (tab : Accepted S X) where
   truth-means (Text a n) f = ap (λ (k : ℕ). not (eqb k 0)) (sym (part-length X a n f))
   truth-means (Node i) f = sym (nested-truth S X tab i (f .0) (f .1))
 
-  pub length-means : (x : Operand) → Fine S X L x → lengthIn S x ≡ lengthOfValue (meaning S X L x)
+  pub length-means : (x : Operand) → Fine S X L x → lengthIn S X L x ≡ lengthOfValue (meaning S X L x)
   unfolding lengthOfValue
   length-means Nothing f = refl
   length-means Null f = refl
   length-means (Bool d) f = refl
   length-means (Int z) f = refl
   length-means (Float x) f = refl
-  length-means (Pool a n) f = sym (part-length L a n f)
-  length-means (Text a n) f = sym (part-length X a n f)
+  length-means (Pool a n) f = refl
+  length-means (Text a n) f = refl
   length-means (Node i) f = sym (nested-many S X tab i (f .0) (f .1))
 
   -- what a rank asks, and what the table's readers ask

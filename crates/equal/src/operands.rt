@@ -4,6 +4,7 @@ use crate::members::Member;
 use compare::Order;
 use table::records;
 use text::bytes;
+use text::encoding;
 ghost use mathlib.Core.Path.{_≡_};
 ghost use mathlib.Core.Bool.{not};
 ghost use Prim.Native.Nat.{_<_};
@@ -13,7 +14,7 @@ ghost use lib.Dec.{T, eqb};
 ghost use lib.IntN.{natAbs};
 ghost use lib.Ieee.Scale.{finite};
 ghost use Rattle.definition.specs.Compare.{floatFraction};
-ghost use Rattle.equal.specs.Means.{OfNode, Inside, someOf, booleanIs, nullIs, isThat, nodeIn, truthIn, lengthIn};
+ghost use Rattle.equal.specs.Means.{OfNode, Inside, Parts, someOf, booleanIs, nullIs, isThat, nodeIn, truthIn, lengthIn};
 
 const RECORD: usize = 24;
 
@@ -169,14 +170,14 @@ fn is_nonzero(f: f64) -> bool
     }
 }
 
-// The length of a text in bytes, the number of children of a list or a map, 0 of anything else.
-pub fn length(table: &[u8], x: Operand) -> usize
-    requires { ⌜ Inside (now table) x ⌝ }
-    ensures { λ r. ⌜ r ≡ lengthIn (now (table .entry)) x ⌝ }
+// The length of a text in scalar values, the number of children of a list or a map, 0 of anything else.
+pub fn length(table: &[u8], text: &[u8], pool: &[u8], x: Operand) -> usize
+    requires { ⌜ Inside (now table) x × Parts (now text) (now pool) x ⌝ }
+    ensures { λ r. ⌜ r ≡ lengthIn (now (table .entry)) (now (text .entry)) (now (pool .entry)) x ⌝ }
 {
     match x {
-        Operand::Pool(_, n) => n,
-        Operand::Text(_, n) => n,
+        Operand::Pool(start, size) => encoding::count_scalars(pool, start, size),
+        Operand::Text(start, size) => encoding::count_scalars(text, start, size),
         Operand::Node(i) => records::child_count(table, i) as usize,
         Operand::Nothing => 0,
         Operand::Null => 0,

@@ -2,18 +2,17 @@
 use Prim.Native.Nat.{ℕ, zero, suc, _+_, _-_, _≤_, _<_}
 use mathlib.Core.Path.{_≡_, refl, sym, ap, _∙_, subst}
 use mathlib.Core.List.{List, [], _∷_}
-use mathlib.Core.Bool.{Bool as Bits, true, false}
-use lib.Dec.{eqb, ltb, leb}
+use mathlib.Core.Bool.{Bool as Bits, true, false, true≢false, or-true}
+use lib.Dec.{eqb, ltb}
 use lib.IntN.{ℤ, pos}
 use lib.ListN.{length, getD}
 use native.Mathlib.Omega.{arith}
-use borrow.Author.Tests.{eqb-true, eqb-false, leb-true, le-leb}
+use borrow.Author.Tests.{eqb-true, eqb-false, eq-eqb}
 use Rattle.definition.specs.Limits.{maxInt}
 use Rattle.definition.specs.Values.{Json}
 use Rattle.definition.specs.Compare.{Value}
 use Rattle.definition.specs.Plans.{codeSegments}
-use Rattle.definition.specs.Evaluation.{firstValue, lengthOfValue, lengthValue, evalSegments}
-use Rattle.tables.specs.Bools.{and-left, and-right}
+use Rattle.definition.specs.Evaluation.{firstValue, evalSegments}
 use Rattle.walks.specs.Founds.{Found, found-test, found-count, found-first, found-none, found-only, found-not-one}
 use Rattle.walks.specs.Todos.{Todo, QueryAt, todo-to}
 use Rattle.equal.specs.Means.{meaning, OfNode}
@@ -37,29 +36,18 @@ found-cap c d n first e f = rw e at f
 
 -- ---- the functions
 
-pub is-function : (m : ℕ) → isFunction m ≡ true → (0x19 ≤ m) × (m ≤ 0x1B)
-is-function m e = (leb-true 0x19 m (and-left (leb 0x19 m) (leb m 0x1B) e), leb-true m 0x1B (and-right (leb 0x19 m) (leb m 0x1B) e))
-
-pub no-function : (m : ℕ) → isFunction m ≡ false → ((0x19 ≤ m) → (m ≤ 0x1B) → ⊥)
-no-function m e a b = let z : true ≡ false = sym (rw (le-leb 0x19 m a, le-leb m 0x1B b)) ∙ e in let y : _≡_ {A = ℕ} 0 1 = cc in omega arith
+pub no-function : (m : ℕ) → isFunction m ≡ false → (m ≡ 0x19 → ⊥) × (m ≡ 0x1B → ⊥)
+no-function m e = ((λ z. true≢false (rw (eq-eqb m 0x19 z) at e)), (λ z. true≢false (rw (eq-eqb m 0x1B z, or-true (eqb m 0x19)) at e)))
 
 module _ (S X : List ℕ) (mode n first : ℕ) where
   pub function-count : mode ≡ 0x19 → (v : ℤ) → v ≡ pos n → OfFunction S X mode n first (Int v)
-  function-count e v t =
-      record { fine = λ L. tt; is-count = λ i L. ap Value.integer t; is-length = λ i. absurd (omega arith); is-value = λ i. absurd (omega arith); is-null = λ i. absurd (omega arith) }
+  function-count e v t = record { fine = λ L. tt; is-count = λ i L. ap Value.integer t; is-value = λ i. absurd (omega arith); is-null = λ i. absurd (omega arith) }
 
-  pub function-length : mode ≡ 0x1A → OfFunction S X mode n first (Int (pos 0))
-  unfolding lengthValue lengthOfValue
-  function-length e =
-      record { fine = λ L. tt; is-count = λ i. absurd (omega arith); is-length = λ i L. refl; is-value = λ i. absurd (omega arith); is-null = λ i. absurd (omega arith) }
+  pub function-value : (mode ≡ 0x19 → ⊥) → n ≡ 1 → (v : Operand) → OfNode S X first v → OfFunction S X mode n first v
+  function-value a o v t = record { fine = t .fine; is-count = λ i. absurd (a i); is-value = λ i j. t .means; is-null = λ i j. absurd (j o) }
 
-  pub function-value : (mode ≡ 0x19 → ⊥) → (mode ≡ 0x1A → ⊥) → n ≡ 1 → (v : Operand) → OfNode S X first v → OfFunction S X mode n first v
-  function-value a b o v t =
-      record { fine = t .fine; is-count = λ i. absurd (a i); is-length = λ i. absurd (b i); is-value = λ i j. t .means; is-null = λ i j. absurd (j o) }
-
-  pub function-null : (mode ≡ 0x19 → ⊥) → (mode ≡ 0x1A → ⊥) → (n ≡ 1 → ⊥) → OfFunction S X mode n first Null
-  function-null a b o =
-      record { fine = λ L. tt; is-count = λ i. absurd (a i); is-length = λ i. absurd (b i); is-value = λ i j. absurd (o j); is-null = λ i j L. refl }
+  pub function-null : (mode ≡ 0x19 → ⊥) → (n ≡ 1 → ⊥) → OfFunction S X mode n first Null
+  function-null a o = record { fine = λ L. tt; is-count = λ i. absurd (a i); is-value = λ i j. absurd (o j); is-null = λ i j L. refl }
 
 -- ---- the first node
 
@@ -72,18 +60,19 @@ first-none S X n first o = record { fine = λ L. tt; is-some = λ i. absurd (ome
 -- which function it is, and whether `value` has one node
 data Kind (m n : ℕ) : Type 0 where
   counts : m ≡ 0x19 → Kind m n
-  lengths : m ≡ 0x1A → Kind m n
   values : m ≡ 0x1B → n ≡ 1 → Kind m n
   nulls : m ≡ 0x1B → (n ≡ 1 → ⊥) → Kind m n
 
 kind-of : (m n : ℕ) → isFunction m ≡ true → Kind m n
-kind-of m n e = go (eqb m 0x19) refl (eqb m 0x1A) refl (eqb n 1) refl (is-function m e)
+kind-of m n e = go (eqb m 0x19) refl (eqb n 1) refl
   where
-    go : (a : Bits) → eqb m 0x19 ≡ a → (b : Bits) → eqb m 0x1A ≡ b → (d : Bits) → eqb n 1 ≡ d → (0x19 ≤ m) × (m ≤ 0x1B) → Kind m n
-    go true i b j d k w = counts (eqb-true m 0x19 i)
-    go false i true j d k w = lengths (eqb-true m 0x1A j)
-    go false i false j true k w = let u = eqb-false m 0x19 i in let v = eqb-false m 0x1A j in values (omega (arith, w .0, w .1)) (eqb-true n 1 k)
-    go false i false j false k w = let u = eqb-false m 0x19 i in let v = eqb-false m 0x1A j in nulls (omega (arith, w .0, w .1)) (eqb-false n 1 k)
+    other : eqb m 0x19 ≡ false → m ≡ 0x1B
+    other i = eqb-true m 0x1B (rw i at e)
+
+    go : (a : Bits) → eqb m 0x19 ≡ a → (d : Bits) → eqb n 1 ≡ d → Kind m n
+    go true i d k = counts (eqb-true m 0x19 i)
+    go false i true k = values (other i) (eqb-true n 1 k)
+    go false i false k = nulls (other i) (eqb-false n 1 k)
 
 -- ---- the registers
 
@@ -97,18 +86,17 @@ module _ {S X : List ℕ} {s : Regs} {z n first : ℕ} (mode : ℕ) (a : AskAnsw
         further = omega arith;
         goes = λ P L end R N want J y i m f.
             todo-to P L _ (z + 1) end R N _ b _ _ _ _ want (ap (λ (x : ℕ). x + 1) i) refl refl refl
-            (y .is-test (subst (λ (x : ℕ). getD P x 0 ≡ 0x18) i (sym m ∙ e)) b (t ∙ found-test S X _ _ n first (f (λ w. absurd (omega arith)))));
+            (y .is-test (subst (λ (x : ℕ). getD P x 0 ≡ 0x18) i (sym m ∙ e)) b (t ∙ found-test S X _ _ n first f));
       }
 
   module _ (v : Operand) (t : OfFunction S X mode n first v) where
     -- what the function gives is what is asked
     function-goes : (P L : List ℕ) (end : ℕ) (R N : Json) (want : Bits) (J : Json) (y : QueryAt P L (s .q) end R N (s .acc) (meaning S X L (s .x)) (meaning S X L (s .y)) want J)
-        → mode ≡ getD P (s .q + 1 + length (codeSegments (y .f) (y .k))) 0 → ((mode ≡ 0x1A → ⊥) → Found S X (evalSegments (y .f) J (J ∷ [])) (capFor mode) n first)
+        → mode ≡ getD P (s .q + 1 + length (codeSegments (y .f) (y .k))) 0 → Found S X (evalSegments (y .f) J (J ∷ [])) (capFor mode) n first
         → Kind mode n → Todo P L (s .q + 1 + length (codeSegments (y .f) (y .k)) + 1) end R N (s .acc) (meaning S X L (s .y)) (meaning S X L v) want
-    function-goes P L end R N want J y m f (counts e) = y .is-count (sym m ∙ e) (meaning S X L v) (t .is-count e L ∙ found-count S X _ n first (found-cap _ _ n first (cap-count mode e) (f (λ w. absurd (omega arith)))))
-    function-goes P L end R N want J y m f (lengths e) = y .is-length (sym m ∙ e) (meaning S X L v) (t .is-length e L)
-    function-goes P L end R N want J y m f (values e o) = y .is-value (sym m ∙ e) (meaning S X L v) (t .is-value e o L ∙ found-only S X _ n first (found-cap _ _ n first (cap-value mode e) (f (λ w. absurd (omega arith)))) o)
-    function-goes P L end R N want J y m f (nulls e o) = y .is-value (sym m ∙ e) (meaning S X L v) (t .is-null e o L ∙ found-not-one S X _ n first (found-cap _ _ n first (cap-value mode e) (f (λ w. absurd (omega arith)))) o)
+    function-goes P L end R N want J y m f (counts e) = y .is-count (sym m ∙ e) (meaning S X L v) (t .is-count e L ∙ found-count S X _ n first (found-cap _ _ n first (cap-count mode e) f))
+    function-goes P L end R N want J y m f (values e o) = y .is-value (sym m ∙ e) (meaning S X L v) (t .is-value e o L ∙ found-only S X _ n first (found-cap _ _ n first (cap-value mode e) f) o)
+    function-goes P L end R N want J y m f (nulls e o) = y .is-value (sym m ∙ e) (meaning S X L v) (t .is-null e o L ∙ found-not-one S X _ n first (found-cap _ _ n first (cap-value mode e) f) o)
 
     pub answer-function : isFunction mode ≡ true → DoneAnswer S X s mode z n first (regs (s .acc) (s .y) v (z + 1))
     answer-function e =
@@ -131,8 +119,8 @@ module _ {S X : List ℕ} {s : Regs} {z n first : ℕ} (mode : ℕ) (a : AskAnsw
         goes = λ P L end R N want J y i m f.
             let b : mode ≡ getD P (s .q + 1 + length (codeSegments (y .f) (y .k))) 0 = m ∙ ap (λ (x : ℕ). getD P x 0) i in
             todo-to P L _ z end R N _ _ _ _ _ _ want i refl refl refl
-            (y .is-first (λ u. n1 (b ∙ u)) (λ u. g (omega arith) (omega arith)) (λ u. g (omega arith) (omega arith)) (λ u. g (omega arith) (omega arith)) (meaning S X L v)
-            (first-by v t L _ _ (f (λ u. g (omega arith) (omega arith))) n refl));
+            (y .is-first (λ u. n1 (b ∙ u)) (λ u. g .0 (b ∙ u)) (λ u. g .1 (b ∙ u)) (meaning S X L v)
+            (first-by v t L _ _ f n refl));
       }
     where
       first-by : (v : Operand) → OfFirst S X n first v → (L : List ℕ) (ns : List Json) (c : ℕ) → Found S X ns c n first → (k : ℕ) → n ≡ k → meaning S X L v ≡ firstValue ns

@@ -3,8 +3,8 @@
 use Prim.Native.Nat.{ℕ, _+_, _≤_, _<_}
 use mathlib.Core.Path.{_≡_}
 use mathlib.Core.List.{List, [], _∷_}
-use mathlib.Core.Bool.{Bool as Bits, true, false, _&&_}
-use lib.Dec.{leb}
+use mathlib.Core.Bool.{Bool as Bits, true, false, _||_}
+use lib.Dec.{eqb}
 use lib.IntN.{pos}
 use lib.ListN.{length, getD}
 use denote.Ref.{RefT, at-last}
@@ -15,7 +15,7 @@ use Rattle.definition.specs.Forms.Segments.{descendant}
 use Rattle.definition.specs.Plans.{codeSegments}
 use Rattle.definition.specs.Tables.{nodeCount, nodeAt}
 use Rattle.definition.specs.Compare.{Value, nodeValue}
-use Rattle.definition.specs.Evaluation.{lengthValue, evalSegments, evalSelectors, evalSelector, evalTest}
+use Rattle.definition.specs.Evaluation.{evalSegments, evalSelectors, evalSelector, evalTest}
 use Rattle.tables.specs.Accepted.{Accepted}
 use Rattle.walks.specs.States.{State, st}
 use Rattle.walks.specs.Emits.{go}
@@ -216,9 +216,9 @@ pub record DoneQuery (P L S X : List ℕ) (root node : ℕ) (s r : Regs) : Type 
   pub further : s .q < r .q
   pub goes : (e : ℕ) (want : Bits) → Doing P L S X s e (nodeAt S X root) (nodeAt S X node) want → s .q < e → Doing P L S X r e (nodeAt S X root) (nodeAt S X node) want
 
--- the byte behind a query is that of `count`, `length` or `value`
+-- the byte behind a query is that of a function of nodes, `count` or `value`
 abbrev pub isFunction : ℕ → Bits
-isFunction m = leb 0x19 m && leb m 0x1B
+isFunction m = eqb m 0x19 || eqb m 0x1B
 
 -- a query found n nodes up to its cap, and the first of them is given
 pub record AskNodes (S X : List ℕ) (n first : ℕ) : Type 0 where
@@ -230,7 +230,6 @@ pub record AskNodes (S X : List ℕ) (n first : ℕ) : Type 0 where
 pub record OfFunction (S X : List ℕ) (mode n first : ℕ) (r : Operand) : Type 0 where
   pub fine : (L : List ℕ) → Fine S X L r
   pub is-count : mode ≡ 0x19 → (L : List ℕ) → meaning S X L r ≡ Value.integer (pos n)
-  pub is-length : mode ≡ 0x1A → (L : List ℕ) → meaning S X L r ≡ lengthValue Value.nothing
   pub is-value : mode ≡ 0x1B → n ≡ 1 → (L : List ℕ) → meaning S X L r ≡ nodeValue (nodeAt S X first)
   pub is-null : mode ≡ 0x1B → (n ≡ 1 → ⊥) → (L : List ℕ) → meaning S X L r ≡ Value.null
 
@@ -246,11 +245,11 @@ pub record AskAnswer (S X : List ℕ) (s : Regs) (z n first : ℕ) : Type 0 wher
   pub place : s .q < z
   pub small : z ≤ maxPlan
 
--- The registers behind it. `length` of a query looks at nothing, so of it nothing need be known.
+-- the registers behind it
 pub record DoneAnswer (S X : List ℕ) (s : Regs) (mode z n first : ℕ) (r : Regs) : Type 0 where
   pub pair : (L : List ℕ) → Fine S X L (s .y) → Pair S X L (r .x) (r .y)
   pub further : s .q < r .q
   pub goes : (P L : List ℕ) (e : ℕ) (R N : Json) (want : Bits) (J : Json) (a : QueryAt P L (s .q) e R N (s .acc) (meaning S X L (s .x)) (meaning S X L (s .y)) want J)
       → z ≡ s .q + 1 + length (codeSegments (a .f) (a .k)) → mode ≡ getD P z 0
-      → ((mode ≡ 0x1A → ⊥) → Found S X (evalSegments (a .f) J (J ∷ [])) (capFor mode) n first)
+      → Found S X (evalSegments (a .f) J (J ∷ [])) (capFor mode) n first
       → Doing P L S X r e R N want

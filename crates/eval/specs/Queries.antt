@@ -47,7 +47,7 @@ module _ (P L S X : List ℕ) (root node : ℕ) (s : Regs) (from : ℕ) (b : fro
 
   -- what the answer to what is asked of the query leaves
   pub query-done : (a : AskQuery P L S X root node s) (mode z n first : ℕ) (r : Regs) → Past P L (s .q + 1) z → mode ≡ getD P z 0 → DoneAnswer S X s mode z n first r
-      → ((mode ≡ 0x1A → ⊥) → (f : Segments) (k : ℕ) → SegmentsAt P L (s .q + 1) k f → Found S X (evalSegments f (nodeAt S X from) (nodeAt S X from ∷ [])) (capFor mode) n first)
+      → ((f : Segments) (k : ℕ) → SegmentsAt P L (s .q + 1) k f → Found S X (evalSegments f (nodeAt S X from) (nodeAt S X from ∷ [])) (capFor mode) n first)
       → DoneQuery P L S X root node s r
   query-done a mode z n first r p m d f =
       record {
@@ -55,7 +55,7 @@ module _ (P L S X : List ℕ) (root node : ℕ) (s : Regs) (from : ℕ) (b : fro
         further = d .further;
         goes = λ e want t u.
             let y = query-here e want t u (a .kind) in
-            d .goes P L e (nodeAt S X root) (nodeAt S X node) want (nodeAt S X from) y (p (y .f) (y .k) (y .at)) m (λ l. f l (y .f) (y .k) (y .at));
+            d .goes P L e (nodeAt S X root) (nodeAt S X node) want (nodeAt S X from) y (p (y .f) (y .k) (y .at)) m (f (y .f) (y .k) (y .at));
       }
 
 -- some query stands there, and behind it a byte

@@ -1,4 +1,4 @@
-// What is asked of a query in a filter's code: whether it finds a node, how many, its length, its value, or the value of its first node.
+// What is asked of a query in a filter's code: whether it finds a node, how many, its value, or the value of its first node. `length` is asked of that value.
 use equal::Operand;
 use equal::operands;
 use steps::Regs;
@@ -9,18 +9,16 @@ const TEST: u8 = 0x18;
 
 const COUNT: u8 = 0x19;
 
-const LENGTH: u8 = 0x1A;
-
 const VALUE: u8 = 0x1B;
 
-// Whether the byte behind a query is that of a function.
+// Whether the byte behind a query is that of a function of its nodes.
 fn is_function(mode: u8) -> bool
     ensures { λ r. ⌜ r ≡ isFunction mode ⌝ }
 {
-    if mode < COUNT {
-        return false;
+    if mode == COUNT {
+        return true;
     }
-    mode <= VALUE
+    mode == VALUE
 }
 
 // What a function gives of a query that found n nodes, counted up to its cap, of which the first is given.
@@ -31,9 +29,6 @@ fn eval_function(table: &[u8], text: &[u8], mode: u8, n: usize, first: usize) ->
     if mode == COUNT {
         let count = n as i64;
         return Operand::Int(count);
-    }
-    if mode == LENGTH {
-        return Operand::Int(0);
     }
     if n == 1 {
         return operands::node_value(table, text, first);

@@ -39,8 +39,6 @@ const WILDCARD: u8 = 0x08;
 
 const END: u8 = 0x0A;
 
-const LENGTH: u8 = 0x1A;
-
 // The first four bytes of a child segment of one selector, as a number: the segment's kind, the number of its selectors, and the selector's kind.
 const SLICE_HEAD: usize = 0x07000103;
 
@@ -557,9 +555,6 @@ fn eval_query(lent: &[&[u8]; 4], root: usize, node: usize, s: Regs) -> Regs
     let pc = r.pc;
     let z = plans::past_query(plan, pc);
     let mode = plan[z];
-    if mode == LENGTH {
-        return answers::to_registers(table, text, s, mode, z, 0, 0);
-    }
     if !r.some {
         return answers::to_registers(table, text, s, mode, z, 0, 0);
     }

@@ -60,7 +60,7 @@ module _ {P L S X : List ℕ} (given : Given P L S X) {m q e : ℕ} (node-in : m
         let p = scalar-place in
         let g : getD P (q + 1 + length (codeSegments (y .f) (y .k))) 0 ≡ getD P (q + 1 + 9) 0 = ap (λ (x : ℕ). getD P x 0) p in
         todo-to P L _ (q + 1 + 9) e _ _ _ _ _ _ _ _ want (sym p) refl refl refl
-        (y .is-first (λ i. absurd (omega arith)) (λ i. absurd (omega arith)) (λ i. absurd (omega arith)) (λ i. absurd (omega arith)) Value.nothing (found-none S X _ _ 0 0 scalar-found refl))
+        (y .is-first (λ i. absurd (omega arith)) (λ i. absurd (omega arith)) (λ i. absurd (omega arith)) Value.nothing (found-none S X _ _ 0 0 scalar-found refl))
 
     scalar-compared : (t .form ≡ 1 → ⊥) → Left P L (t .next) e R (nodeAt S X m) false want
     scalar-compared i =

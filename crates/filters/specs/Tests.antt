@@ -428,7 +428,7 @@ module _ {P L S X : List ℕ} {root node q e : ℕ} (a : AskShort P L S X root n
           let p = d .past s (y .f) (y .k) (y .at) in
           let c : getD P (r .z) 0 ≡ getD P (q + 1 + length (codeSegments (y .f) (y .k))) 0 = ap (λ (x : ℕ). getD P x 0) p in
           todo-to P L _ (r .z) e _ _ acc acc _ _ _ _ want p refl refl refl
-          (y .is-first (λ i. absurd (omega arith)) (λ i. absurd (omega arith)) (λ i. absurd (omega arith)) (λ i. absurd (omega arith)) _ refl)
+          (y .is-first (λ i. absurd (omega arith)) (λ i. absurd (omega arith)) (λ i. absurd (omega arith)) _ refl)
 
       pub short-asked : AskAgainst P L S X (r .n) (r .first) (r .z) e
       short-asked =

@@ -11,7 +11,9 @@ use Rattle.definition.specs.Limits.{maxPlan, maxText}
 use Rattle.definition.specs.Values.{Json}
 use Rattle.definition.specs.Compare.{Value}
 use Rattle.definition.specs.Evaluation.{lengthValue}
+use Rattle.utf8.specs.Scalars.{scalars-few}
 use Rattle.tables.specs.Accepted.{Accepted}
+use Rattle.tables.specs.Keys.{part-length}
 use Rattle.walks.specs.Operations.{rightKind}
 use Rattle.walks.specs.Todos.{todo-in, todo-to, Compared, at-compare, at-not, at-truth, at-length, LiteralAt, at-literal, Right, at-right, past-queries, last-kind}
 use Rattle.equal.specs.Means.{meaning, Fine, truthIn, lengthIn}
@@ -94,7 +96,7 @@ module _ {P L S X : List ℕ} {s : Regs} {lo hi : ℕ} (a : AskOp P L S X s lo h
         goes = λ f R N want t m. at-truth P L (s .q) f R N (s .acc) (meaning S X L (s .x)) (meaning S X L (s .y)) want t m (omega arith) b (e ∙ truth-means S X L (a .tab) (s .y) (a .pair .second));
       }
 
-  pub done-length : 0x1A ≤ lo → hi ≤ 0x1A → (n : ℕ) → n ≡ lengthIn S (s .y) → (z : ℤ) → z ≡ pos n → DoneOp P L S X s (regs (s .acc) (s .x) (Int z) (s .q + 1))
+  pub done-length : 0x1A ≤ lo → hi ≤ 0x1A → (n : ℕ) → n ≡ lengthIn S X L (s .y) → (z : ℤ) → z ≡ pos n → DoneOp P L S X s (regs (s .acc) (s .x) (Int z) (s .q + 1))
   unfolding lengthValue
   done-length low high n e z w =
       let u = a .kind-low in let v = a .kind-high in
@@ -156,12 +158,12 @@ module _ {P L S X : List ℕ} {s : Regs} {lo hi : ℕ} (a : AskOp P L S X s lo h
   length-kind u n = last-kind P L (s .q) (a .e) (a .R) (a .N) (s .acc) (meaning S X L (s .x)) (meaning S X L (s .y)) (a .want) (a .todo) (a .more) u n
 
 -- lengths are small
-pub length-small : (S X L : List ℕ) → Accepted S X → length L ≤ maxPlan → (x : Operand) → Fine S X L x → lengthIn S x ≤ maxText
+pub length-small : (S X L : List ℕ) → Accepted S X → length L ≤ maxPlan → (x : Operand) → Fine S X L x → lengthIn S X L x ≤ maxText
 length-small S X L tab few Nothing f = omega arith
 length-small S X L tab few Null f = omega arith
 length-small S X L tab few (Bool b) f = omega arith
 length-small S X L tab few (Int z) f = omega arith
 length-small S X L tab few (Float y) f = omega arith
-length-small S X L tab few (Pool a n) f = omega arith
-length-small S X L tab few (Text a n) f = omega (arith, tab .size .short)
+length-small S X L tab few (Pool a n) f = omega (arith, scalars-few (part L a n), part-length L a n f)
+length-small S X L tab few (Text a n) f = omega (arith, scalars-few (part X a n), part-length X a n f, tab .size .short)
 length-small S X L tab few (Node i) f = omega (arith, tab .inside i (f .0), tab .size .few)

@@ -297,7 +297,7 @@ fn length_expr(plan: &[u8], pool: &[u8], table: &[u8], text: &[u8], s: Regs) -> 
     let x = s.x;
     let y = s.y;
     let q = s.q;
-    let n = operands::length(table, y);
+    let n = operands::length(table, text, pool, y);
     let v = Operand::Int(n as i64);
     let z = q + 1;
     Regs { acc, x, y: v, q: z }

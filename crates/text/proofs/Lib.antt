@@ -4,3 +4,4 @@ pub mod Ascii
 pub mod Counts
 pub mod Same
 pub mod Orders
+pub mod Continuing

@@ -3,3 +3,4 @@ pub mod Chars
 pub mod Places
 pub mod Orders
 pub mod Ends
+pub mod Continuing

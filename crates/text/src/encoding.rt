@@ -1,18 +1,28 @@
 // Whether bytes are UTF-8: a test whether all are ASCII, by words; and where not, one pass, character by character, and eight ASCII bytes at once where they stand.
+// How many scalar values a UTF-8 text has: by its bytes that continue a character, eight at once.
 use crate::bytes;
 ghost use mathlib.Core.Path.{_≡_};
 ghost use mathlib.Core.Bool.{true};
-ghost use Prim.Native.Nat.{_+_, _<_, _≤_};
+ghost use mathlib.Core.List.{[], _∷_};
+ghost use Prim.Native.Nat.{_+_, _*_, _<_, _≤_};
 ghost use lib.ListN.{length, drop};
 ghost use Rattle.definition.specs.Bytes.{every, part};
-ghost use Rattle.definition.specs.Utf8.{afterFirst, isUtf8};
+ghost use Rattle.definition.specs.Utf8.{afterFirst, isUtf8, scalarsOf};
+ghost use Rattle.utf8.specs.Scalars.{continuing};
 ghost use Rattle.text.specs.Chars.{waitOf, isAscii, tailsPass, tailsLength, charLength, stepLength};
+ghost use Rattle.text.specs.Continuing.{Continuing};
 
 // The highest bit of each of eight bytes.
 const HIGH_BITS: u64 = 0x8080808080808080;
 
 // The highest bit of each of four bytes.
 const HIGH_BITS_4: usize = 0x80808080;
+
+// The lowest bit of each of eight bytes.
+const LOW_BITS: u64 = 0x0101010101010101;
+
+// So many words are added up at once: a byte of the sum is then at most 31, and all eight together are less than 255.
+const BLOCK: usize = 31;
 
 // What may come behind the first byte of a character: another character; a byte in lo..hi and some more in 80..BF after it; or nothing.
 enum Wait {
@@ -249,4 +259,87 @@ pub fn is_utf8_part(s: &[u8], from: usize, n: usize) -> bool
     ensures { λ r. ⌜ r ≡ isUtf8 (part (now (s .entry)) from n) ⌝ }
 {
     is_utf8(&s[from..from + n])
+}
+
+// ---- how many scalar values
+
+// A 1 in each byte that continues a character, of the eight bytes of s from `at` on: its highest bit is set, and the next one is not.
+fn continuing8(s: &[u8], at: usize) -> u64
+    requires { ⌜ at + 8 ≤ length (now s) ⌝ }
+    ensures { λ r. ⌜ Continuing (part (now (s .entry)) at 8) 1 r ⌝ }
+{
+    let w = bytes::word64(s, at);
+    let high = (w >> 7) & LOW_BITS;
+    let next = (w >> 6) & LOW_BITS;
+    high - (high & next)
+}
+
+// How many bytes continue a character, of so many words of eight bytes from `at` on.
+fn continuing_block(s: &[u8], at: usize, words: usize) -> usize
+    requires { ⌜ (at + 8 * words ≤ length (now s)) × (words ≤ 31) ⌝ }
+    ensures { λ r. ⌜ r ≡ continuing (part (now (s .entry)) at (8 * words)) ⌝ }
+{
+    let mut sum = 0;
+    let mut i = 0;
+    while i < words {
+        sum += continuing8(s, at + 8 * i);
+        i += 1;
+    }
+    (sum % 255) as usize
+}
+
+// The same of any number of words, block by block.
+fn continuing_words(s: &[u8], at: usize, words: usize) -> usize
+    requires { ⌜ at + 8 * words ≤ length (now s) ⌝ }
+    ensures { λ r. ⌜ r ≡ continuing (part (now (s .entry)) at (8 * words)) ⌝ }
+{
+    let mut count = 0;
+    let mut i = 0;
+    let mut left = words;
+    while BLOCK <= left {
+        count += continuing_block(s, at + 8 * i, BLOCK);
+        i += BLOCK;
+        left -= BLOCK;
+    }
+    count + continuing_block(s, at + 8 * i, left)
+}
+
+// 1 for a byte that continues a character, else 0.
+fn continues(b: u8) -> usize
+    ensures { λ r. ⌜ r ≡ continuing (b ∷ []) ⌝ }
+{
+    if b < 0x80 {
+        return 0;
+    }
+    if b <= 0xBF {
+        return 1;
+    }
+    0
+}
+
+// How many of n bytes continue a character, byte by byte.
+fn continuing_few(s: &[u8], at: usize, n: usize) -> usize
+    requires { ⌜ at + n ≤ length (now s) ⌝ }
+    ensures { λ r. ⌜ r ≡ continuing (part (now (s .entry)) at n) ⌝ }
+{
+    let mut count = 0;
+    let mut i = 0;
+    while i < n {
+        count += continues(s[at + i]);
+        i += 1;
+    }
+    count
+}
+
+// How many scalar values the n bytes of s from `from` on are: as many as bytes that continue no character.
+pub fn count_scalars(s: &[u8], from: usize, n: usize) -> usize
+    requires { ⌜ from + n ≤ length (now s) ⌝ }
+    ensures { λ r. ⌜ r ≡ length (scalarsOf (part (now (s .entry)) from n)) ⌝ }
+{
+    let words = n / 8;
+    let whole = 8 * words;
+    let count = continuing_words(s, from, words);
+    let few = continuing_few(s, from + whole, n - whole);
+    let begun = n - count;
+    begun - few
 }

@@ -3,4 +3,5 @@ pub mod Encode
 pub mod Decode
 pub mod Scan
 pub mod Unique
+pub mod Scalars
 pub mod Names

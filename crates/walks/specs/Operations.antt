@@ -19,16 +19,15 @@ use Rattle.definition.specs.Forms.Function.{countOf, lengthOf, valueOf}
 use Rattle.definition.specs.Forms.{isSingular}
 use Rattle.definition.specs.QueryForms.{literalRight, queryRight, testRight, argumentRight, functionRight}
 use Rattle.definition.specs.Plans.{startKind, operatorByte, pooled, codeLiteral, framed, poolLiteral, poolQuery, poolTest, poolArgument, poolFunction, codeQuery, codeTest, codeArgument, codeFunction}
-use Rattle.definition.specs.Evaluation.{isFound, firstValue, onlyValue, literalValue, countValue, lengthValue, truth, evalQuery, evalTest, evalArgument, evalFunction, evalMeasured}
+use Rattle.definition.specs.Evaluation.{isFound, firstValue, onlyValue, literalValue, countValue, lengthValue, truth, evalQuery, evalTest, evalArgument, evalFunction}
 use Rattle.tables.specs.Bools.{and-left, and-right}
 
 -- ---- operations
 
--- what is asked of a query: whether it finds a node, how many, its length, its value, or the value of its first node
+-- what is asked of a query: whether it finds a node, how many, its value, or the value of its first node
 pub data Mode : Type 0 where
   asTest : Mode
   asCount : Mode
-  asLength : Mode
   asValue : Mode
   asFirst : Mode
 
@@ -50,13 +49,8 @@ unfoldable mutual
 
   pub functionOps : Function → List Op → List Op
   functionOps (countOf q) K = queryOp asCount q ∷ K
-  functionOps (lengthOf a) K = measuredOps a K
+  functionOps (lengthOf a) K = argumentOps a (lengthOp ∷ K)
   functionOps (valueOf q) K = queryOp asValue q ∷ K
-
-  pub measuredOps : Argument → List Op → List Op
-  measuredOps (literal l) K = literalOp l ∷ lengthOp ∷ K
-  measuredOps (singular q) K = queryOp asLength q ∷ K
-  measuredOps (value f) K = functionOps f (lengthOp ∷ K)
 
 unfoldable pub testOps : Test → List Op → List Op
 testOps (exists q) K = queryOp asTest q ∷ K
@@ -71,7 +65,6 @@ testOps (either a b) K = testOps a (rightOp false b ∷ K)
 unfoldable pub modeBytes : Mode → List ℕ
 modeBytes asTest = 0x18 ∷ []
 modeBytes asCount = 0x19 ∷ []
-modeBytes asLength = 0x1A ∷ []
 modeBytes asValue = 0x1B ∷ []
 modeBytes asFirst = []
 
@@ -135,7 +128,6 @@ regs acc x y = record { acc = acc; x = x; y = y }
 unfoldable pub asked : Mode → List Json → Regs → Regs
 asked asTest ns s = regs (isFound ns) nothing nothing
 asked asCount ns s = regs (s .acc) (s .y) (countValue ns)
-asked asLength ns s = regs (s .acc) (s .y) (lengthValue nothing)
 asked asValue ns s = regs (s .acc) (s .y) (onlyValue ns)
 asked asFirst ns s = regs (s .acc) (s .y) (firstValue ns)
 
@@ -172,13 +164,8 @@ mutual
 
   code-function : (f : Function) (K : List Op) (k : ℕ) → codeOps (functionOps f K) k ≡ codeFunction f k ++ codeOps K (k + length (poolFunction f))
   code-function (countOf q) K k = refl
-  code-function (lengthOf a) K k = code-measured a K k
+  code-function (lengthOf a) K k = code-argument a (lengthOp ∷ K) k ∙ behind (codeArgument a k) (0x1A ∷ []) K (k + length (poolArgument a) + 0) (k + length (poolArgument a)) (omega arith)
   code-function (valueOf q) K k = refl
-
-  code-measured : (a : Argument) (K : List Op) (k : ℕ) → codeOps (measuredOps a K) k ≡ (codeArgument a k ++ 0x1A ∷ []) ++ codeOps K (k + length (poolArgument a))
-  code-measured (literal l) K k = behind (codeLiteral l k) (0x1A ∷ []) K (k + length (poolLiteral l) + 0) (k + length (poolLiteral l)) (omega arith)
-  code-measured (singular q) K k = refl
-  code-measured (value f) K k = code-function f (lengthOp ∷ K) k ∙ behind (codeFunction f k) (0x1A ∷ []) K (k + length (poolFunction f) + 0) (k + length (poolFunction f)) (omega arith)
 
 pub code-test : (t : Test) (K : List Op) (k : ℕ) → codeOps (testOps t K) k ≡ codeTest t k ++ codeOps K (k + length (poolTest t))
 unfolding codeOps codeOp poolOp testOps codeTest poolTest modeBytes rightKind
@@ -211,13 +198,8 @@ mutual
 
   pool-function : (f : Function) (K : List Op) → poolOps (functionOps f K) ≡ poolFunction f ++ poolOps K
   pool-function (countOf q) K = refl
-  pool-function (lengthOf a) K = pool-measured a K
+  pool-function (lengthOf a) K = pool-argument a (lengthOp ∷ K)
   pool-function (valueOf q) K = refl
-
-  pool-measured : (a : Argument) (K : List Op) → poolOps (measuredOps a K) ≡ poolArgument a ++ poolOps K
-  pool-measured (literal l) K = refl
-  pool-measured (singular q) K = refl
-  pool-measured (value f) K = pool-function f (lengthOp ∷ K)
 
 pub pool-test : (t : Test) (K : List Op) → poolOps (testOps t K) ≡ poolTest t ++ poolOps K
 unfolding poolOps poolOp testOps poolTest
@@ -240,13 +222,8 @@ mutual
 
   run-function : (f : Function) (K : List Op) (R N : Json) (acc : Bool) (x y : Value) → runOps (functionOps f K) R N (regs acc x y) ≡ runOps K R N (regs acc y (evalFunction f R N))
   run-function (countOf q) K R N acc x y = refl
-  run-function (lengthOf a) K R N acc x y = run-measured a K R N acc x y
+  run-function (lengthOf a) K R N acc x y = run-argument a (lengthOp ∷ K) R N acc x y
   run-function (valueOf q) K R N acc x y = refl
-
-  run-measured : (a : Argument) (K : List Op) (R N : Json) (acc : Bool) (x y : Value) → runOps (measuredOps a K) R N (regs acc x y) ≡ runOps K R N (regs acc y (lengthValue (evalMeasured a R N)))
-  run-measured (literal l) K R N acc x y = refl
-  run-measured (singular q) K R N acc x y = refl
-  run-measured (value f) K R N acc x y = run-function f (lengthOp ∷ K) R N acc x y
 
 pub run-test : (t : Test) (K : List Op) (R N : Json) (acc : Bool) (x y : Value) → runOps (testOps t K) R N (regs acc x y) ≡ runOps K R N (regs (evalTest t R N) nothing nothing)
 unfolding runOps runOp asked testOps evalTest joined
@@ -283,13 +260,8 @@ mutual
 
   right-function : (f : Function) (K : List Op) → functionRight f ≡ true → AllRight K → AllRight (functionOps f K)
   right-function (countOf q) K h r = (h, r)
-  right-function (lengthOf a) K h r = right-measured a K h r
+  right-function (lengthOf a) K h r = right-argument a (lengthOp ∷ K) h (refl, r)
   right-function (valueOf q) K h r = (h, r)
-
-  right-measured : (a : Argument) (K : List Op) → argumentRight a ≡ true → AllRight K → AllRight (measuredOps a K)
-  right-measured (literal l) K h r = (h, (refl, r))
-  right-measured (singular q) K h r = (and-right (isSingular q) (queryRight q) h, r)
-  right-measured (value f) K h r = right-function f (lengthOp ∷ K) h (refl, r)
 
 pub right-test : (t : Test) (K : List Op) → testRight t ≡ true → AllRight K → AllRight (testOps t K)
 unfolding AllRight opRight testOps testRight
@@ -301,14 +273,14 @@ right-test (notValue f) K h r = right-function f (truthOp ∷ notOp ∷ K) h (re
 right-test (both a b) K h r = right-test a (rightOp true b ∷ K) (and-left (testRight a) (testRight b) h) (and-right (testRight a) (testRight b) h, r)
 right-test (either a b) K h r = right-test a (rightOp false b ∷ K) (and-left (testRight a) (testRight b) h) (and-right (testRight a) (testRight b) h, r)
 
--- ---- behind a singular query stands no byte that asks something of a query
+-- ---- behind a singular query stands no byte that asks something of a query: a length asks something of its value
 
 -- an operation that may follow one
 unfoldable pub Plain : List Op → Type 0
 Plain [] = ⊥
 Plain (queryOp m q ∷ K) = Unit {0}
 Plain (literalOp l ∷ K) = Unit {0}
-Plain (lengthOp ∷ K) = ⊥
+Plain (lengthOp ∷ K) = Unit {0}
 Plain (truthOp ∷ K) = ⊥
 Plain (notOp ∷ K) = ⊥
 Plain (compareOp o ∷ K) = Unit {0}
@@ -317,7 +289,6 @@ Plain (rightOp w b ∷ K) = ⊥
 unfoldable pub FitsMode : Mode → List Op → Type 0
 FitsMode asTest K = Unit {0}
 FitsMode asCount K = Unit {0}
-FitsMode asLength K = Unit {0}
 FitsMode asValue K = Unit {0}
 FitsMode asFirst K = Plain K
 
@@ -341,16 +312,11 @@ mutual
 
   plain-function : (f : Function) (K : List Op) → Plain (functionOps f K)
   plain-function (countOf q) K = tt
-  plain-function (lengthOf a) K = plain-measured a K
+  plain-function (lengthOf a) K = plain-argument a (lengthOp ∷ K)
   plain-function (valueOf q) K = tt
 
-  plain-measured : (a : Argument) (K : List Op) → Plain (measuredOps a K)
-  plain-measured (literal l) K = tt
-  plain-measured (singular q) K = tt
-  plain-measured (value f) K = plain-function f (lengthOp ∷ K)
-
 mutual
-  unfolding Fit FitsMode argumentOps
+  unfolding Fit FitsMode Plain argumentOps
 
   fit-argument : (a : Argument) (K : List Op) → Plain K → Fit K → Fit (argumentOps a K)
   fit-argument (literal l) K n h = h
@@ -359,13 +325,8 @@ mutual
 
   fit-function : (f : Function) (K : List Op) → Fit K → Fit (functionOps f K)
   fit-function (countOf q) K h = (tt, h)
-  fit-function (lengthOf a) K h = fit-measured a K h
+  fit-function (lengthOf a) K h = fit-argument a (lengthOp ∷ K) tt h
   fit-function (valueOf q) K h = (tt, h)
-
-  fit-measured : (a : Argument) (K : List Op) → Fit K → Fit (measuredOps a K)
-  fit-measured (literal l) K h = h
-  fit-measured (singular q) K h = (tt, h)
-  fit-measured (value f) K h = fit-function f (lengthOp ∷ K) h
 
 pub fit-test : (t : Test) (K : List Op) → Fit K → Fit (testOps t K)
 unfolding Fit FitsMode testOps Plain

@@ -1,6 +1,7 @@
 -- What is left of a test's code to do, and how each kind of byte takes it further. Assumes nothing.
 use Prim.Native.Nat.{ℕ, zero, suc, _+_, _*_, _-_, _/_, _%_, _≤_, _<_, min}
 use mathlib.Core.Path.{_≡_, refl, sym, ap, _∙_, subst}
+use mathlib.Core.Logic.{_⊎_, inl, inr}
 use mathlib.Core.List.{List, [], _∷_, _++_, append-nil, append-assoc}
 use mathlib.Core.Bool.{Bool, true, false, not, _&&_, _||_, cond}
 use lib.ListN.{length, getD, length-append}
@@ -20,7 +21,7 @@ use Rattle.definition.specs.Evaluation.{isFound, firstValue, onlyValue, literal
 use Rattle.walks.specs.Bytes.{Holds, holds-in, holds-first, holds-second, holds-head, holds-tail, holds-at, holds-is, holds-append}
 use Rattle.walks.specs.Items.{SegmentsAt, TestAt, segments-in, framed-at, framed-long}
 use Rattle.walks.specs.Operations.{Mode, Op, Regs, regs, testOps, modeBytes, rightKind, poolOp, codeOp, poolOps, codeOps, literalKind, kind, asked, joined, runOp, runOps, opRight, AllRight, Plain, FitsMode, Fit, code-test, pool-test, run-test, right-test, fit-test}
-use Rattle.walks.specs.Operations.Mode.{asTest, asCount, asLength, asValue, asFirst}
+use Rattle.walks.specs.Operations.Mode.{asTest, asCount, asValue, asFirst}
 use Rattle.walks.specs.Operations.Op.{queryOp, literalOp, lengthOp, truthOp, notOp, compareOp, rightOp}
 
 -- From q up to e the operations K are left, and from the answer and the values at hand they give what is wanted.
@@ -167,31 +168,37 @@ fit-later notOp K h = h
 fit-later (compareOp o) K h = h
 fit-later (rightOp w b) K h = h
 
+-- a byte that asks nothing of a query
+abbrev NoAsk : ℕ → Type 0
+NoAsk b = (b ≡ 0x18 → ⊥) × (b ≡ 0x19 → ⊥) × (b ≡ 0x1B → ⊥)
+
+no-ask : (b c : ℕ) → b ≡ c → (c < 0x18) ⊎ (c ≡ 0x1A) → NoAsk b
+no-ask b c e (inl l) = ((λ z. omega arith), (λ z. omega arith), (λ z. omega arith))
+no-ask b c e (inr l) = ((λ z. omega arith), (λ z. omega arith), (λ z. omega arith))
+
 -- behind a singular query no byte asks something of a query
-plain-byte : (K : List Op) (k : ℕ) (P : List ℕ) (z : ℕ) → Plain K → Holds P z (codeOps K k) → (z < length P) × (getD P z 0 < 0x18)
+plain-byte : (K : List Op) (k : ℕ) (P : List ℕ) (z : ℕ) → Plain K → Holds P z (codeOps K k) → (z < length P) × NoAsk (getD P z 0)
 unfolding Plain codeOps kind
 plain-byte [] k P z n h = absurd n
-plain-byte (queryOp m (query s f) ∷ K) k P z n h = let w = op-head (queryOp m (query s f)) k P z _ h in (w .0, omega (arith, w .1, start-small s))
-plain-byte (literalOp l ∷ K) k P z n h = let w = op-head (literalOp l) k P z _ h in (w .0, omega (arith, w .1, literal-between l .1))
-plain-byte (lengthOp ∷ K) k P z n h = absurd n
+plain-byte (queryOp m (query s f) ∷ K) k P z n h = let w = op-head (queryOp m (query s f)) k P z _ h in (w .0, no-ask _ _ (w .1) (inl (omega (arith, start-small s))))
+plain-byte (literalOp l ∷ K) k P z n h = let w = op-head (literalOp l) k P z _ h in (w .0, no-ask _ _ (w .1) (inl (omega (arith, literal-between l .1))))
+plain-byte (lengthOp ∷ K) k P z n h = let w = op-head lengthOp k P z _ h in (w .0, no-ask _ _ (w .1) (inr refl))
 plain-byte (truthOp ∷ K) k P z n h = absurd n
 plain-byte (notOp ∷ K) k P z n h = absurd n
-plain-byte (compareOp o ∷ K) k P z n h = let w = op-head (compareOp o) k P z _ h in (w .0, omega (arith, w .1))
+plain-byte (compareOp o ∷ K) k P z n h = let w = op-head (compareOp o) k P z _ h in (w .0, no-ask _ _ (w .1) (inl (omega arith)))
 plain-byte (rightOp w b ∷ K) k P z n h = absurd n
 
 -- the byte behind a query, by what is asked of it
 unfoldable ModeIs : Mode → ℕ → Type 0
 ModeIs asTest b = b ≡ 0x18
 ModeIs asCount b = b ≡ 0x19
-ModeIs asLength b = b ≡ 0x1A
 ModeIs asValue b = b ≡ 0x1B
-ModeIs asFirst b = b < 0x18
+ModeIs asFirst b = NoAsk b
 
 mode-byte : (m : Mode) (K : List Op) (k : ℕ) (P : List ℕ) (z : ℕ) → FitsMode m K → Holds P z (modeBytes m ++ codeOps K k) → (z < length P) × ModeIs m (getD P z 0)
 unfolding ModeIs FitsMode modeBytes
 mode-byte asTest K k P z n h = holds-head P z _ _ h
 mode-byte asCount K k P z n h = holds-head P z _ _ h
-mode-byte asLength K k P z n h = holds-head P z _ _ h
 mode-byte asValue K k P z n h = holds-head P z _ _ h
 mode-byte asFirst K k P z n h = plain-byte K k P z n h
 
@@ -199,41 +206,29 @@ test-mode : (m : Mode) (b : ℕ) → ModeIs m b → b ≡ 0x18 → m ≡ asTest
 unfolding ModeIs
 test-mode asTest b i e = refl
 test-mode asCount b i e = absurd (omega arith)
-test-mode asLength b i e = absurd (omega arith)
 test-mode asValue b i e = absurd (omega arith)
-test-mode asFirst b i e = absurd (omega arith)
+test-mode asFirst b i e = absurd (i .0 e)
 
 count-mode : (m : Mode) (b : ℕ) → ModeIs m b → b ≡ 0x19 → m ≡ asCount
 unfolding ModeIs
 count-mode asTest b i e = absurd (omega arith)
 count-mode asCount b i e = refl
-count-mode asLength b i e = absurd (omega arith)
 count-mode asValue b i e = absurd (omega arith)
-count-mode asFirst b i e = absurd (omega arith)
-
-length-mode : (m : Mode) (b : ℕ) → ModeIs m b → b ≡ 0x1A → m ≡ asLength
-unfolding ModeIs
-length-mode asTest b i e = absurd (omega arith)
-length-mode asCount b i e = absurd (omega arith)
-length-mode asLength b i e = refl
-length-mode asValue b i e = absurd (omega arith)
-length-mode asFirst b i e = absurd (omega arith)
+count-mode asFirst b i e = absurd (i .1 e)
 
 value-mode : (m : Mode) (b : ℕ) → ModeIs m b → b ≡ 0x1B → m ≡ asValue
 unfolding ModeIs
 value-mode asTest b i e = absurd (omega arith)
 value-mode asCount b i e = absurd (omega arith)
-value-mode asLength b i e = absurd (omega arith)
 value-mode asValue b i e = refl
-value-mode asFirst b i e = absurd (omega arith)
+value-mode asFirst b i e = absurd (i .2 e)
 
-first-mode : (m : Mode) (b : ℕ) → ModeIs m b → (b ≡ 0x18 → ⊥) → (b ≡ 0x19 → ⊥) → (b ≡ 0x1A → ⊥) → (b ≡ 0x1B → ⊥) → m ≡ asFirst
+first-mode : (m : Mode) (b : ℕ) → ModeIs m b → NoAsk b → m ≡ asFirst
 unfolding ModeIs
-first-mode asTest b i n1 n2 n3 n4 = absurd (n1 i)
-first-mode asCount b i n1 n2 n3 n4 = absurd (n2 i)
-first-mode asLength b i n1 n2 n3 n4 = absurd (n3 i)
-first-mode asValue b i n1 n2 n3 n4 = absurd (n4 i)
-first-mode asFirst b i n1 n2 n3 n4 = refl
+first-mode asTest b i n = absurd (n .0 i)
+first-mode asCount b i n = absurd (n .1 i)
+first-mode asValue b i n = absurd (n .2 i)
+first-mode asFirst b i n = refl
 
 -- the length of a query with the byte behind it
 query-long : (m : Mode) (s : Start) (f : Segments) (k : ℕ) → length (codeOp (queryOp m (query s f)) k) ≡ 1 + length (codeSegments f k) + length (modeBytes m)
@@ -506,9 +501,8 @@ module _ (P L : List ℕ) (q e : ℕ) (R N : Json) (acc : Bool) (x y : Value) (w
     pub bound : q + 1 + length (codeSegments f k) < length P
     pub is-test : getD P (q + 1 + length (codeSegments f k)) 0 ≡ 0x18 → (b : Bool) → b ≡ isFound (evalSegments f S (S ∷ [])) → Todo P L (q + 1 + length (codeSegments f k) + 1) e R N b nothing nothing want
     pub is-count : getD P (q + 1 + length (codeSegments f k)) 0 ≡ 0x19 → (v : Value) → v ≡ countValue (evalSegments f S (S ∷ [])) → Todo P L (q + 1 + length (codeSegments f k) + 1) e R N acc y v want
-    pub is-length : getD P (q + 1 + length (codeSegments f k)) 0 ≡ 0x1A → (v : Value) → v ≡ lengthValue nothing → Todo P L (q + 1 + length (codeSegments f k) + 1) e R N acc y v want
     pub is-value : getD P (q + 1 + length (codeSegments f k)) 0 ≡ 0x1B → (v : Value) → v ≡ onlyValue (evalSegments f S (S ∷ [])) → Todo P L (q + 1 + length (codeSegments f k) + 1) e R N acc y v want
-    pub is-first : (getD P (q + 1 + length (codeSegments f k)) 0 ≡ 0x18 → ⊥) → (getD P (q + 1 + length (codeSegments f k)) 0 ≡ 0x19 → ⊥) → (getD P (q + 1 + length (codeSegments f k)) 0 ≡ 0x1A → ⊥) → (getD P (q + 1 + length (codeSegments f k)) 0 ≡ 0x1B → ⊥)
+    pub is-first : (getD P (q + 1 + length (codeSegments f k)) 0 ≡ 0x18 → ⊥) → (getD P (q + 1 + length (codeSegments f k)) 0 ≡ 0x19 → ⊥) → (getD P (q + 1 + length (codeSegments f k)) 0 ≡ 0x1B → ⊥)
         → (v : Value) → v ≡ firstValue (evalSegments f S (S ∷ [])) → Todo P L (q + 1 + length (codeSegments f k)) e R N acc y v want
 
   module _ (c : Cons P L q e R N acc x y want) (m : Mode) (s : Start) (f : Segments) (i : c .o ≡ queryOp m (query s f)) (S : Json) (v : evalQuery (query s f) R N ≡ evalSegments f S (S ∷ [])) where
@@ -557,9 +551,8 @@ module _ (P L : List ℕ) (q e : ℕ) (R N : Json) (acc : Bool) (x y : Value) (w
           bound = w .0;
           is-test = λ z t u. let n = test-mode m b (w .1) z in next c (regs t nothing nothing) _ (query-run asTest n ∙ ap (λ (d : Bool). regs d nothing nothing) (sym u)) (query-end asTest n);
           is-count = λ z t u. let n = count-mode m b (w .1) z in next c (regs acc y t) _ (query-run asCount n ∙ ap (λ (d : Value). regs acc y d) (sym u)) (query-end asCount n);
-          is-length = λ z t u. let n = length-mode m b (w .1) z in next c (regs acc y t) _ (query-run asLength n ∙ ap (λ (d : Value). regs acc y d) (sym u)) (query-end asLength n);
           is-value = λ z t u. let n = value-mode m b (w .1) z in next c (regs acc y t) _ (query-run asValue n ∙ ap (λ (d : Value). regs acc y d) (sym u)) (query-end asValue n);
-          is-first = λ n1 n2 n3 n4 t u. let n = first-mode m b (w .1) n1 n2 n3 n4 in let a = query-end asFirst n in next c (regs acc y t) _ (query-run asFirst n ∙ ap (λ (d : Value). regs acc y d) (sym u)) (omega arith);
+          is-first = λ n1 n2 n3 t u. let n = first-mode m b (w .1) (n1, n2, n3) in let a = query-end asFirst n in next c (regs acc y t) _ (query-run asFirst n ∙ ap (λ (d : Value). regs acc y d) (sym u)) (omega arith);
         }
 
   -- where a query begins

@@ -65,48 +65,35 @@ module _ (t : ℕ) where
 
   pub to-registers-requires : lts.Need-to-registers-requires (calls t) (eval-query-at t) eval-query.Post
   to-registers-requires c κs =
-      let s = c .before .before .before .before .before .before .before .before .before .before .pre .1 .0 in
-      let i = begins-in _ (getD (planOf (c .before .before .before .before .before .before .before .before .before .before .args .lent .now)) (c .before .before .before .before .before .before .before .before .before .before .args .s .q) 0) _ _ _ (c .before .before .before .before .before .begins .ensures) (s .root-in) (s .node-in) in
-      let e = here (c .before .before .before .before .before .before .before .before .before .before .pre .1 .1) .ends _ (past-of _ _ _ _ (s .tab) _ _ i _ (c .before .before .before .reach .ensures) _ (c .before .before .past-query .ensures)) in
+      let s = c .before .before .before .before .before .before .before .before .before .before .before .pre .1 .0 in
+      let i = begins-in _ (getD (planOf (c .before .before .before .before .before .before .before .before .before .before .before .args .lent .now)) (c .before .before .before .before .before .before .before .before .before .before .before .args .s .q) 0) _ _ _ (c .before .before .before .before .before .before .begins .ensures) (s .root-in) (s .node-in) in
+      let e = here (c .before .before .before .before .before .before .before .before .before .before .before .pre .1 .1) .ends _ (past-of _ _ _ _ (s .tab) _ _ i _ (c .before .before .before .before .reach .ensures) _ (c .before .before .before .past-query .ensures)) in
       record { nodes = record { tab = s .tab; inside = λ v. absurd (omega arith); few = omega arith }; place = e .0; small = omega (arith, e .1, s .fewP) }
 
   pub returns : lts.Need-returns (calls t) (eval-query-at t) eval-query.Post
   returns c =
-      let s = c .before .before .before .before .before .before .before .before .before .before .before .pre .1 .0 in
-      let i = begins-in _ (getD (planOf (c .before .before .before .before .before .before .before .before .before .before .before .args .lent .now)) (c .before .before .before .before .before .before .before .before .before .before .before .args .s .q) 0) _ _ _ (c .before .before .before .before .before .before .begins .ensures) (s .root-in) (s .node-in) in
-      query-done _ _ _ _ _ _ _ _ (c .before .before .before .before .before .before .begins .ensures) (c .before .before .before .before .before .before .before .before .before .before .before .pre .1 .1) _ _ _ _ _ (past-of _ _ _ _ (s .tab) _ _ i _ (c .before .before .before .before .reach .ensures) _ (c .before .before .before .past-query .ensures)) refl (c .to-registers .ensures) (λ v. absurd (v (c .before .if1 .taken)))
+      let s = c .before .before .before .before .before .before .before .before .before .before .before .before .pre .1 .0 in
+      let i = begins-in _ (getD (planOf (c .before .before .before .before .before .before .before .before .before .before .before .before .args .lent .now)) (c .before .before .before .before .before .before .before .before .before .before .before .before .args .s .q) 0) _ _ _ (c .before .before .before .before .before .before .before .begins .ensures) (s .root-in) (s .node-in) in
+      query-done _ _ _ _ _ _ _ _ (c .before .before .before .before .before .before .before .begins .ensures) (c .before .before .before .before .before .before .before .before .before .before .before .before .pre .1 .1) _ _ _ _ _ (past-of _ _ _ _ (s .tab) _ _ i _ (c .before .before .before .before .before .reach .ensures) _ (c .before .before .before .before .past-query .ensures)) refl (c .to-registers .ensures) (found-lost _ _ _ _ (s .tab) _ _ i _ (c .before .before .before .before .before .reach .ensures) (not-true _ (c .before .if1 .taken)) (getD (planOf (c .before .before .before .before .before .before .before .before .before .before .before .before .args .lent .now)) (c .before .before .before .before .past-query .result) 0))
+
+  pub shared-slice-read-if2 : lts.Need-shared-slice-read-if2 (calls t) (eval-query-at t) eval-query.Post
+  shared-slice-read-if2 c =
+      let h = here (c .before .before .before .before .before .before .before .before .before .before .before .before .pre .1 .1) in
+      let y = c .before .before .before .before .before .reach .ensures .front (h .f) (h .k) (h .at) in
+      segments-in _ _ _ _ _ (y .at)
 
   pub to-registers-requires-2 : lts.Need-to-registers-requires-2 (calls t) (eval-query-at t) eval-query.Post
   to-registers-requires-2 c κs =
-      let s = c .before .before .before .before .before .before .before .before .before .before .before .before .pre .1 .0 in
-      let i = begins-in _ (getD (planOf (c .before .before .before .before .before .before .before .before .before .before .before .before .args .lent .now)) (c .before .before .before .before .before .before .before .before .before .before .before .before .args .s .q) 0) _ _ _ (c .before .before .before .before .before .before .before .begins .ensures) (s .root-in) (s .node-in) in
-      let e = here (c .before .before .before .before .before .before .before .before .before .before .before .before .pre .1 .1) .ends _ (past-of _ _ _ _ (s .tab) _ _ i _ (c .before .before .before .before .before .reach .ensures) _ (c .before .before .before .before .past-query .ensures)) in
-      record { nodes = record { tab = s .tab; inside = λ v. absurd (omega arith); few = omega arith }; place = e .0; small = omega (arith, e .1, s .fewP) }
+      let s = c .before .before .before .before .before .before .before .before .before .before .before .before .before .pre .1 .0 in
+      let i = begins-in _ (getD (planOf (c .before .before .before .before .before .before .before .before .before .before .before .before .before .args .lent .now)) (c .before .before .before .before .before .before .before .before .before .before .before .before .before .args .s .q) 0) _ _ _ (c .before .before .before .before .before .before .before .before .begins .ensures) (s .root-in) (s .node-in) in
+      let e = here (c .before .before .before .before .before .before .before .before .before .before .before .before .before .pre .1 .1) .ends _ (past-of _ _ _ _ (s .tab) _ _ i _ (c .before .before .before .before .before .before .reach .ensures) _ (c .before .before .before .before .before .past-query .ensures)) in
+      record { nodes = record { tab = s .tab; inside = λ v. c .before .before .before .before .before .before .reach .ensures .node-in; few = omega arith }; place = e .0; small = omega (arith, e .1, s .fewP) }
 
   pub returns-2 : lts.Need-returns-2 (calls t) (eval-query-at t) eval-query.Post
   returns-2 c =
-      let s = c .before .before .before .before .before .before .before .before .before .before .before .before .before .pre .1 .0 in
-      let i = begins-in _ (getD (planOf (c .before .before .before .before .before .before .before .before .before .before .before .before .before .args .lent .now)) (c .before .before .before .before .before .before .before .before .before .before .before .before .before .args .s .q) 0) _ _ _ (c .before .before .before .before .before .before .before .before .begins .ensures) (s .root-in) (s .node-in) in
-      query-done _ _ _ _ _ _ _ _ (c .before .before .before .before .before .before .before .before .begins .ensures) (c .before .before .before .before .before .before .before .before .before .before .before .before .before .pre .1 .1) _ _ _ _ _ (past-of _ _ _ _ (s .tab) _ _ i _ (c .before .before .before .before .before .before .reach .ensures) _ (c .before .before .before .before .before .past-query .ensures)) refl (c .to-registers2 .ensures) (λ v. found-lost _ _ _ _ (s .tab) _ _ i _ (c .before .before .before .before .before .before .reach .ensures) (not-true _ (c .before .if2 .taken)) (getD (planOf (c .before .before .before .before .before .before .before .before .before .before .before .before .before .args .lent .now)) (c .before .before .before .before .before .past-query .result) 0))
-
-  pub shared-slice-read-if3 : lts.Need-shared-slice-read-if3 (calls t) (eval-query-at t) eval-query.Post
-  shared-slice-read-if3 c =
-      let h = here (c .before .before .before .before .before .before .before .before .before .before .before .before .before .pre .1 .1) in
-      let y = c .before .before .before .before .before .before .reach .ensures .front (h .f) (h .k) (h .at) in
-      segments-in _ _ _ _ _ (y .at)
-
-  pub to-registers-requires-3 : lts.Need-to-registers-requires-3 (calls t) (eval-query-at t) eval-query.Post
-  to-registers-requires-3 c κs =
       let s = c .before .before .before .before .before .before .before .before .before .before .before .before .before .before .pre .1 .0 in
       let i = begins-in _ (getD (planOf (c .before .before .before .before .before .before .before .before .before .before .before .before .before .before .args .lent .now)) (c .before .before .before .before .before .before .before .before .before .before .before .before .before .before .args .s .q) 0) _ _ _ (c .before .before .before .before .before .before .before .before .before .begins .ensures) (s .root-in) (s .node-in) in
-      let e = here (c .before .before .before .before .before .before .before .before .before .before .before .before .before .before .pre .1 .1) .ends _ (past-of _ _ _ _ (s .tab) _ _ i _ (c .before .before .before .before .before .before .before .reach .ensures) _ (c .before .before .before .before .before .before .past-query .ensures)) in
-      record { nodes = record { tab = s .tab; inside = λ v. c .before .before .before .before .before .before .before .reach .ensures .node-in; few = omega arith }; place = e .0; small = omega (arith, e .1, s .fewP) }
-
-  pub returns-3 : lts.Need-returns-3 (calls t) (eval-query-at t) eval-query.Post
-  returns-3 c =
-      let s = c .before .before .before .before .before .before .before .before .before .before .before .before .before .before .before .pre .1 .0 in
-      let i = begins-in _ (getD (planOf (c .before .before .before .before .before .before .before .before .before .before .before .before .before .before .before .args .lent .now)) (c .before .before .before .before .before .before .before .before .before .before .before .before .before .before .before .args .s .q) 0) _ _ _ (c .before .before .before .before .before .before .before .before .before .before .begins .ensures) (s .root-in) (s .node-in) in
-      query-done _ _ _ _ _ _ _ _ (c .before .before .before .before .before .before .before .before .before .before .begins .ensures) (c .before .before .before .before .before .before .before .before .before .before .before .before .before .before .before .pre .1 .1) _ _ _ _ _ (past-of _ _ _ _ (s .tab) _ _ i _ (c .before .before .before .before .before .before .before .before .reach .ensures) _ (c .before .before .before .before .before .before .before .past-query .ensures)) refl (c .to-registers3 .ensures) (λ v. found-one _ _ _ _ (s .tab) _ _ i _ (c .before .before .before .before .before .before .before .before .reach .ensures) (not-false _ (c .before .before .before .if2 .left)) (c .before .if3 .taken) (getD (planOf (c .before .before .before .before .before .before .before .before .before .before .before .before .before .before .before .args .lent .now)) (c .before .before .before .before .before .before .before .past-query .result) 0))
+      query-done _ _ _ _ _ _ _ _ (c .before .before .before .before .before .before .before .before .before .begins .ensures) (c .before .before .before .before .before .before .before .before .before .before .before .before .before .before .pre .1 .1) _ _ _ _ _ (past-of _ _ _ _ (s .tab) _ _ i _ (c .before .before .before .before .before .before .before .reach .ensures) _ (c .before .before .before .before .before .before .past-query .ensures)) refl (c .to-registers2 .ensures) (found-one _ _ _ _ (s .tab) _ _ i _ (c .before .before .before .before .before .before .before .reach .ensures) (not-false _ (c .before .before .before .if1 .left)) (c .before .if2 .taken) (getD (planOf (c .before .before .before .before .before .before .before .before .before .before .before .before .before .before .args .lent .now)) (c .before .before .before .before .before .before .past-query .result) 0))
 
   pub cap-of-requires : lts.Need-cap-of-requires (calls t) (eval-query-at t) eval-query.Post
   cap-of-requires c κs = search needs
@@ -122,12 +109,12 @@ module _ (t : ℕ) where
 
   pub evaluate-segment-requires : lts.Need-evaluate-segment-requires (calls t) (eval-query-at t) eval-query.Post
   evaluate-segment-requires c κs =
-      let s = c .before .before .before .before .before .before .before .before .before .before .before .before .before .before .before .before .before .before .pre .1 .0 in
-      let h = here (c .before .before .before .before .before .before .before .before .before .before .before .before .before .before .before .before .before .before .pre .1 .1) in
-      let y = c .before .before .before .before .before .before .before .before .before .before .before .reach .ensures .front (h .f) (h .k) (h .at) in
-      let i = begins-in _ (getD (planOf (c .before .before .before .before .before .before .before .before .before .before .before .before .before .before .before .before .before .before .args .lent .now)) (c .before .before .before .before .before .before .before .before .before .before .before .before .before .before .before .before .before .before .args .s .q) 0) _ _ _ (c .before .before .before .before .before .before .before .before .before .before .before .before .before .begins .ensures) (s .root-in) (s .node-in) in
-      let m = cap-small _ (getD (planOf (c .before .before .before .before .before .before .before .before .before .before .before .before .before .before .before .before .before .before .args .lent .now)) (c .before .before .before .before .before .before .before .before .before .before .past-query .result) 0) (c .before .before .before .cap-of .ensures) in
-      (omega (arith, h .inside, c .before .before .before .before .before .before .before .before .before .before .before .reach .ensures .later), (record { given = record { fewP = s .fewP; fewL = s .fewL; tab = s .tab }; root-in = i; room = omega arith; wide = omega arith; small = omega arith; three = refl }, record { node-in = c .before .before .before .before .before .before .before .before .before .before .before .reach .ensures .node-in; query = record { f = y .g; k = y .j; at = y .at } }))
+      let s = c .before .before .before .before .before .before .before .before .before .before .before .before .before .before .before .before .before .pre .1 .0 in
+      let h = here (c .before .before .before .before .before .before .before .before .before .before .before .before .before .before .before .before .before .pre .1 .1) in
+      let y = c .before .before .before .before .before .before .before .before .before .before .reach .ensures .front (h .f) (h .k) (h .at) in
+      let i = begins-in _ (getD (planOf (c .before .before .before .before .before .before .before .before .before .before .before .before .before .before .before .before .before .args .lent .now)) (c .before .before .before .before .before .before .before .before .before .before .before .before .before .before .before .before .before .args .s .q) 0) _ _ _ (c .before .before .before .before .before .before .before .before .before .before .before .before .begins .ensures) (s .root-in) (s .node-in) in
+      let m = cap-small _ (getD (planOf (c .before .before .before .before .before .before .before .before .before .before .before .before .before .before .before .before .before .args .lent .now)) (c .before .before .before .before .before .before .before .before .before .past-query .result) 0) (c .before .before .before .cap-of .ensures) in
+      (omega (arith, h .inside, c .before .before .before .before .before .before .before .before .before .before .reach .ensures .later), (record { given = record { fewP = s .fewP; fewL = s .fewL; tab = s .tab }; root-in = i; room = omega arith; wide = omega arith; small = omega arith; three = refl }, record { node-in = c .before .before .before .before .before .before .before .before .before .before .reach .ensures .node-in; query = record { f = y .g; k = y .j; at = y .at } }))
 
   pub array-read-n : lts.Need-array-read-n (calls t) (eval-query-at t) eval-query.Post
   array-read-n c = omega (arith, c .evaluate-segment .ensures .0 .three)
@@ -137,32 +124,32 @@ module _ (t : ℕ) where
 
   pub cast-to-registers : lts.Need-cast-to-registers (calls t) (eval-query-at t) eval-query.Post
   cast-to-registers c =
-      let s = c .before .before .before .before .before .before .before .before .before .before .before .before .before .before .before .before .before .before .before .before .before .pre .1 .0 in
-      let h = here (c .before .before .before .before .before .before .before .before .before .before .before .before .before .before .before .before .before .before .before .before .before .pre .1 .1) in
-      let i = begins-in _ (getD (planOf (c .before .before .before .before .before .before .before .before .before .before .before .before .before .before .before .before .before .before .before .before .before .args .lent .now)) (c .before .before .before .before .before .before .before .before .before .before .before .before .before .before .before .before .before .before .before .before .before .args .s .q) 0) _ _ _ (c .before .before .before .before .before .before .before .before .before .before .before .before .before .before .before .before .begins .ensures) (s .root-in) (s .node-in) in
-      let f = walk-found _ _ _ _ (s .tab) _ _ i _ (c .before .before .before .before .before .before .before .before .before .before .before .before .before .before .reach .ensures) (not-false _ (c .before .before .before .before .before .before .before .before .before .if2 .left)) _ _ _ (λ g j a. c .before .before .evaluate-segment .ensures .1 .emits (record { f = g; k = j; at = a }) _ _ refl refl) in
+      let s = c .before .before .before .before .before .before .before .before .before .before .before .before .before .before .before .before .before .before .before .before .pre .1 .0 in
+      let h = here (c .before .before .before .before .before .before .before .before .before .before .before .before .before .before .before .before .before .before .before .before .pre .1 .1) in
+      let i = begins-in _ (getD (planOf (c .before .before .before .before .before .before .before .before .before .before .before .before .before .before .before .before .before .before .before .before .args .lent .now)) (c .before .before .before .before .before .before .before .before .before .before .before .before .before .before .before .before .before .before .before .before .args .s .q) 0) _ _ _ (c .before .before .before .before .before .before .before .before .before .before .before .before .before .before .before .begins .ensures) (s .root-in) (s .node-in) in
+      let f = walk-found _ _ _ _ (s .tab) _ _ i _ (c .before .before .before .before .before .before .before .before .before .before .before .before .before .reach .ensures) (not-false _ (c .before .before .before .before .before .before .before .before .before .if1 .left)) _ _ _ (λ g j a. c .before .before .evaluate-segment .ensures .1 .emits (record { f = g; k = j; at = a }) _ _ refl refl) in
       let y = nested-head _ _ (s .tab) _ _ i _ _ (h .f) (f (h .f) (h .k) (h .at)) in
       omega (arith, y, s .tab .size .few)
 
-  pub to-registers-requires-4 : lts.Need-to-registers-requires-4 (calls t) (eval-query-at t) eval-query.Post
-  to-registers-requires-4 c κs =
-      let s = c .before .before .before .before .before .before .before .before .before .before .before .before .before .before .before .before .before .before .before .before .before .pre .1 .0 in
-      let z = c .before .before .before .before .before .before .before .before .before .before .before .before .before .before .before .before .before .before .before .before .before .pre .1 .1 in
+  pub to-registers-requires-3 : lts.Need-to-registers-requires-3 (calls t) (eval-query-at t) eval-query.Post
+  to-registers-requires-3 c κs =
+      let s = c .before .before .before .before .before .before .before .before .before .before .before .before .before .before .before .before .before .before .before .before .pre .1 .0 in
+      let z = c .before .before .before .before .before .before .before .before .before .before .before .before .before .before .before .before .before .before .before .before .pre .1 .1 in
       let h = here z in
-      let i = begins-in _ (getD (planOf (c .before .before .before .before .before .before .before .before .before .before .before .before .before .before .before .before .before .before .before .before .before .args .lent .now)) (c .before .before .before .before .before .before .before .before .before .before .before .before .before .before .before .before .before .before .before .before .before .args .s .q) 0) _ _ _ (c .before .before .before .before .before .before .before .before .before .before .before .before .before .before .before .before .begins .ensures) (s .root-in) (s .node-in) in
-      let e = h .ends _ (past-of _ _ _ _ (s .tab) _ _ i _ (c .before .before .before .before .before .before .before .before .before .before .before .before .before .before .reach .ensures) _ (c .before .before .before .before .before .before .before .before .before .before .before .before .before .past-query .ensures)) in
-      let w = walk-found _ _ _ _ (s .tab) _ _ i _ (c .before .before .before .before .before .before .before .before .before .before .before .before .before .before .reach .ensures) (not-false _ (c .before .before .before .before .before .before .before .before .before .if2 .left)) _ _ _ (λ g j a. c .before .before .evaluate-segment .ensures .1 .emits (record { f = g; k = j; at = a }) _ _ refl refl) in
-      let f = nested-found _ _ _ _ (s .tab) _ _ (getD (planOf (c .before .before .before .before .before .before .before .before .before .before .before .before .before .before .before .before .before .before .before .before .before .args .lent .now)) (c .before .before .before .before .before .before .before .before .before .before .before .before .before .past-query .result) 0) _ i (c .before .before .before .before .before .before .cap-of .ensures) _ _ w in
+      let i = begins-in _ (getD (planOf (c .before .before .before .before .before .before .before .before .before .before .before .before .before .before .before .before .before .before .before .before .args .lent .now)) (c .before .before .before .before .before .before .before .before .before .before .before .before .before .before .before .before .before .before .before .before .args .s .q) 0) _ _ _ (c .before .before .before .before .before .before .before .before .before .before .before .before .before .before .before .begins .ensures) (s .root-in) (s .node-in) in
+      let e = h .ends _ (past-of _ _ _ _ (s .tab) _ _ i _ (c .before .before .before .before .before .before .before .before .before .before .before .before .before .reach .ensures) _ (c .before .before .before .before .before .before .before .before .before .before .before .before .past-query .ensures)) in
+      let w = walk-found _ _ _ _ (s .tab) _ _ i _ (c .before .before .before .before .before .before .before .before .before .before .before .before .before .reach .ensures) (not-false _ (c .before .before .before .before .before .before .before .before .before .if1 .left)) _ _ _ (λ g j a. c .before .before .evaluate-segment .ensures .1 .emits (record { f = g; k = j; at = a }) _ _ refl refl) in
+      let f = nested-found _ _ _ _ (s .tab) _ _ (getD (planOf (c .before .before .before .before .before .before .before .before .before .before .before .before .before .before .before .before .before .before .before .before .args .lent .now)) (c .before .before .before .before .before .before .before .before .before .before .before .before .past-query .result) 0) _ i (c .before .before .before .before .before .before .cap-of .ensures) _ _ w in
       let y = f (h .f) (h .k) (h .at) in
       let n = y .number in
-      let m = cap-small _ (getD (planOf (c .before .before .before .before .before .before .before .before .before .before .before .before .before .before .before .before .before .before .before .before .before .args .lent .now)) (c .before .before .before .before .before .before .before .before .before .before .before .before .before .past-query .result) 0) (c .before .before .before .before .before .before .cap-of .ensures) in
+      let m = cap-small _ (getD (planOf (c .before .before .before .before .before .before .before .before .before .before .before .before .before .before .before .before .before .before .before .before .args .lent .now)) (c .before .before .before .before .before .before .before .before .before .before .before .before .past-query .result) 0) (c .before .before .before .before .before .before .cap-of .ensures) in
       record { nodes = record { tab = s .tab; inside = y .inside; few = omega (arith, c .before .before .before .before .before .before .cap-of .ensures) }; place = e .0; small = omega (arith, e .1, s .fewP) }
 
-  pub returns-4 : lts.Need-returns-4 (calls t) (eval-query-at t) eval-query.Post
-  returns-4 c =
-      let s = c .before .before .before .before .before .before .before .before .before .before .before .before .before .before .before .before .before .before .before .before .before .before .pre .1 .0 in
-      let z = c .before .before .before .before .before .before .before .before .before .before .before .before .before .before .before .before .before .before .before .before .before .before .pre .1 .1 in
-      let i = begins-in _ (getD (planOf (c .before .before .before .before .before .before .before .before .before .before .before .before .before .before .before .before .before .before .before .before .before .before .args .lent .now)) (c .before .before .before .before .before .before .before .before .before .before .before .before .before .before .before .before .before .before .before .before .before .before .args .s .q) 0) _ _ _ (c .before .before .before .before .before .before .before .before .before .before .before .before .before .before .before .before .before .begins .ensures) (s .root-in) (s .node-in) in
-      let w = walk-found _ _ _ _ (s .tab) _ _ i _ (c .before .before .before .before .before .before .before .before .before .before .before .before .before .before .before .reach .ensures) (not-false _ (c .before .before .before .before .before .before .before .before .before .before .if2 .left)) _ _ _ (λ g j a. c .before .before .before .evaluate-segment .ensures .1 .emits (record { f = g; k = j; at = a }) _ _ refl refl) in
-      let f = nested-found _ _ _ _ (s .tab) _ _ (getD (planOf (c .before .before .before .before .before .before .before .before .before .before .before .before .before .before .before .before .before .before .before .before .before .before .args .lent .now)) (c .before .before .before .before .before .before .before .before .before .before .before .before .before .before .past-query .result) 0) _ i (c .before .before .before .before .before .before .before .cap-of .ensures) _ _ w in
-      query-done _ _ _ _ _ _ _ _ (c .before .before .before .before .before .before .before .before .before .before .before .before .before .before .before .before .before .begins .ensures) z _ _ _ _ _ (past-of _ _ _ _ (s .tab) _ _ i _ (c .before .before .before .before .before .before .before .before .before .before .before .before .before .before .before .reach .ensures) _ (c .before .before .before .before .before .before .before .before .before .before .before .before .before .before .past-query .ensures)) refl (c .to-registers4 .ensures) (λ v. f)
+  pub returns-3 : lts.Need-returns-3 (calls t) (eval-query-at t) eval-query.Post
+  returns-3 c =
+      let s = c .before .before .before .before .before .before .before .before .before .before .before .before .before .before .before .before .before .before .before .before .before .pre .1 .0 in
+      let z = c .before .before .before .before .before .before .before .before .before .before .before .before .before .before .before .before .before .before .before .before .before .pre .1 .1 in
+      let i = begins-in _ (getD (planOf (c .before .before .before .before .before .before .before .before .before .before .before .before .before .before .before .before .before .before .before .before .before .args .lent .now)) (c .before .before .before .before .before .before .before .before .before .before .before .before .before .before .before .before .before .before .before .before .before .args .s .q) 0) _ _ _ (c .before .before .before .before .before .before .before .before .before .before .before .before .before .before .before .before .begins .ensures) (s .root-in) (s .node-in) in
+      let w = walk-found _ _ _ _ (s .tab) _ _ i _ (c .before .before .before .before .before .before .before .before .before .before .before .before .before .before .reach .ensures) (not-false _ (c .before .before .before .before .before .before .before .before .before .before .if1 .left)) _ _ _ (λ g j a. c .before .before .before .evaluate-segment .ensures .1 .emits (record { f = g; k = j; at = a }) _ _ refl refl) in
+      let f = nested-found _ _ _ _ (s .tab) _ _ (getD (planOf (c .before .before .before .before .before .before .before .before .before .before .before .before .before .before .before .before .before .before .before .before .before .args .lent .now)) (c .before .before .before .before .before .before .before .before .before .before .before .before .before .past-query .result) 0) _ i (c .before .before .before .before .before .before .before .cap-of .ensures) _ _ w in
+      query-done _ _ _ _ _ _ _ _ (c .before .before .before .before .before .before .before .before .before .before .before .before .before .before .before .before .begins .ensures) z _ _ _ _ _ (past-of _ _ _ _ (s .tab) _ _ i _ (c .before .before .before .before .before .before .before .before .before .before .before .before .before .before .reach .ensures) _ (c .before .before .before .before .before .before .before .before .before .before .before .before .before .past-query .ensures)) refl (c .to-registers3 .ensures) f

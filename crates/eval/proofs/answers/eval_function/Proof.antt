@@ -5,7 +5,7 @@ use Rattle.eval.proofs.answers.eval_function.Tie as tie
 use native.Mathlib.Omega.{arith}
 use mir.Syntax.{w64}
 use mir.ValLaws.{toZ-pos}
-use Rattle.eval.specs.Answers.{function-count, function-length, function-value, function-null}
+use Rattle.eval.specs.Answers.{function-count, function-value, function-null}
 
 cast-count : tie.Need-cast-count
 cast-count c = search needs
@@ -13,18 +13,15 @@ cast-count c = search needs
 returns : tie.Need-returns
 returns c = function-count _ _ _ _ _ (c .if1 .taken) _ (toZ-pos w64 _ (omega (arith, c .before .before .before .pre .few)))
 
-returns-2 : tie.Need-returns-2
-returns-2 c = function-length _ _ _ _ _ (c .if2 .taken)
-
 node-value-requires : tie.Need-node-value-requires
-node-value-requires c κs = (c .before .before .before .before .before .pre .tab, c .before .before .before .before .before .pre .inside (omega arith))
+node-value-requires c κs = (c .before .before .before .before .pre .tab, c .before .before .before .before .pre .inside (omega arith))
+
+returns-2 : tie.Need-returns-2
+returns-2 c = function-value _ _ _ _ _ (c .before .before .if1 .left) (c .before .if2 .taken) _ (c .node-value .ensures)
 
 returns-3 : tie.Need-returns-3
-returns-3 c = function-value _ _ _ _ _ (c .before .before .before .if1 .left) (c .before .before .if2 .left) (c .before .if3 .taken) _ (c .node-value .ensures)
-
-returns-4 : tie.Need-returns-4
-returns-4 c = function-null _ _ _ _ _ (c .before .before .if1 .left) (c .before .if2 .left) (c .if3 .left)
+returns-3 c = function-null _ _ _ _ _ (c .before .if1 .left) (c .if2 .left)
 
 pub eval-function-spec : {M : Type 1} → statement M
 eval-function-spec =
-    tie.close (tie.spec cast-count returns returns-2 node-value-requires returns-3 returns-4)
+    tie.close (tie.spec cast-count returns node-value-requires returns-2 returns-3)

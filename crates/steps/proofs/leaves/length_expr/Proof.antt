@@ -3,7 +3,7 @@ use mir.ValLaws.{toZ-pos}
 use mir.Syntax.{w64}
 use lib.ListN.{length}
 use native.Mathlib.Omega.{arith}
-use Rattle.equal.specs.Values.{inside-of}
+use Rattle.equal.specs.Values.{inside-of, parts-of}
 use Rattle.steps.specs.OpLaws.{op-in, done-length, length-small}
 use Rattle.steps.proofs.leaves.length_expr.Statement.{statement}
 use Rattle.steps.proofs.leaves.length_expr.Tie as tie
@@ -14,7 +14,8 @@ use Rattle.equal.proofs.operands.length.Reads as length-reads
 length-requires : tie.Need-length-requires
 length-requires c κs =
     let s = c .before .before .before .before in
-    inside-of (s .args .table .now) (s .args .text .now) (s .args .pool .now) (s .pre .tab) (s .args .s .y) (s .pre .pair .second)
+    let w = s .pre .pair .second in
+    (inside-of (s .args .table .now) (s .args .text .now) (s .args .pool .now) (s .pre .tab) (s .args .s .y) w, parts-of (s .args .table .now) (s .args .text .now) (s .args .pool .now) (s .pre .tab) (s .args .s .y) w)
 
 cast-t13 : tie.Need-cast-t13
 cast-t13 c =
