@@ -3,14 +3,15 @@
 use Prim.Native.Nat.{ℕ, suc, _+_, _≤_, _<_, compare, Ordering, Ordering·lt, Ordering·eq, Ordering·gt}
 use native.Mathlib.Numerals.{add-one}
 use native.Mathlib.Omega.{arith}
-use mathlib.Core.Path.{_≡_, refl}
+use mathlib.Core.Path.{_≡_, refl, _∙_}
 use mathlib.Core.Bool.{true, false, true≢false, false≢true}
-use mathlib.Core.List.{List, _∷_}
+use mathlib.Core.List.{List, [], _∷_, _++_}
 use borrow.Author.Tests.{eq-eqb, ne-eqb, le-leb, lt-leb}
 use lib.Dec.{isLe, isEq}
 use lib.ListN.{length, drop, getD, drop-of-length-le}
 use lib.Seq.{drop-cons}
-use Rattle.definition.specs.Bytes.{orderBytes}
+use Rattle.definition.specs.Bytes.{part, orderBytes}
+use Rattle.text.proofs.Same.{part-rest}
 
 -- ---- how two numbers compare
 
@@ -61,7 +62,16 @@ head-gt : (x y : ℕ) (s t : List ℕ) → y < x → orderBytes (x ∷ s) (y ∷
 unfolding orderBytes
 head-gt x y s t h = rw (compare-gt x y h, orderBytes) refl
 
+-- a common front decides nothing
+order-append : (p s t : List ℕ) → orderBytes (p ++ s) (p ++ t) ≡ orderBytes s t
+order-append [] s t = refl
+order-append (x ∷ p) s t = head-eq x x (p ++ s) (p ++ t) refl ∙ order-append p s t
+
 -- ---- along two texts
+
+-- equal parts decide nothing
+pub order-past : (s t : List ℕ) (i n : ℕ) → part s i n ≡ part t i n → orderBytes (drop i s) (drop i t) ≡ orderBytes (drop (i + n) s) (drop (i + n) t)
+order-past s t i n e = rw (← part-rest s i n, ← part-rest t i n, e) (order-append (part t i n) (drop (i + n) s) (drop (i + n) t))
 
 module _ (s t : List ℕ) (i : ℕ) where
   -- a lower byte decides

@@ -6,7 +6,7 @@ ghost use mathlib.Core.List.{List};
 ghost use lib.ListN.{length};
 ghost use Rattle.definition.specs.Bytes.{part, sameBytes, orderBytes};
 ghost use Rattle.reading.specs.Reads.{Wrote};
-ghost use Rattle.text.specs.Orders.{answer};
+ghost use Rattle.text.specs.Orders.{answer, Front};
 ghost use Rattle.text.specs.Ends.{EndsOf};
 
 // How one text stands to another.
@@ -156,11 +156,36 @@ pub fn part_has_ends(s: &[u8], a: usize, m: usize, n: usize, low: usize, high: u
     has_ends(&s[a..a + m], n, low, high)
 }
 
-// The order of a and b that the first unlike byte decides, the shorter first where there is none.
+// The lesser of two lengths.
+fn shorter(n: usize, m: usize) -> usize
+    ensures { λ r. ⌜ (r ≤ n) × (r ≤ m) ⌝ }
+{
+    if n < m {
+        return n;
+    }
+    m
+}
+
+// How many bytes of a and b, from the first on, are found to be the same, eight at a time: those before the first unlike word, or before where a text has less than a word left.
+fn same_front(a: &[u8], b: &[u8]) -> usize
+    ensures { λ r. ⌜ Front (now (a .entry)) (now (b .entry)) r ⌝ }
+{
+    let n = shorter(a.len(), b.len());
+    let mut i = 0;
+    while 8 <= n - i {
+        if bytes::word64(a, i) != bytes::word64(b, i) {
+            return i;
+        }
+        i += 8;
+    }
+    i
+}
+
+// The order of a and b that the first unlike byte decides, the shorter first where there is none. Words that are the same are passed at once.
 pub fn order_bytes(a: &[u8], b: &[u8]) -> Order
     ensures { λ r. ⌜ r ≡ answer (orderBytes (now (a .entry)) (now (b .entry))) ⌝ }
 {
-    let mut i = 0;
+    let mut i = same_front(a, b);
     while i < a.len() {
         if b.len() <= i {
             return Order::Greater;

@@ -4,7 +4,7 @@ use borrow.Author.Needs.{needs}
 use Rattle.text.proofs.parts.order_bytes.Statement.{statement}
 use Rattle.text.proofs.parts.order_bytes.Tie as tie
 use native.Mathlib.Omega.{arith}
-use mathlib.Core.Path.{_≡_, refl, sym, ap, _∙_}
+use mathlib.Core.Path.{_≡_, sym, ap, _∙_}
 use Prim.Native.Nat.{_≤_, _-_}
 use lib.ListN.{length, drop}
 use Rattle.definition.specs.Bytes.{orderBytes}
@@ -17,12 +17,17 @@ Inv-loop a b i₀ i = (i ≤ length a) × (i ≤ length b) × (orderBytes a b �
 abbrev μ-loop : tie.MeasureT-loop
 μ-loop a b i₀ i = length a - i
 
+same-front-requires : tie.Need-same-front-requires Inv-loop μ-loop
+same-front-requires c κs = search needs
+
 loop-holds : tie.Need-loop-holds Inv-loop μ-loop
-loop-holds c = (omega arith, omega arith, refl)
+loop-holds c =
+    let f = c .same-front .ensures in
+    (f .first, f .second, f .rest)
 
 returns : tie.Need-returns Inv-loop μ-loop
 returns c =
-    let a = c .before .before .before .args in
+    let a = c .before .before .before .before .before .before .args in
     let l = c .before .before .loop in
     sym (ap answer (l .inv .2 ∙ order-longer (a .a .now) (a .b .now) (l .i) (omega arith) (omega arith)))
 
@@ -34,13 +39,13 @@ shared-slice-read-y c = search needs
 
 returns-2 : tie.Need-returns-2 Inv-loop μ-loop
 returns-2 c =
-    let a = c .before .before .before .before .before .before .args in
+    let a = c .before .before .before .before .before .before .before .before .before .args in
     let l = c .before .before .before .before .before .loop in
     sym (ap answer (l .inv .2 ∙ order-lower (a .a .now) (a .b .now) (l .i) (omega arith) (omega arith) (c .if2 .taken)))
 
 returns-3 : tie.Need-returns-3 Inv-loop μ-loop
 returns-3 c =
-    let a = c .before .before .before .before .before .before .before .args in
+    let a = c .before .before .before .before .before .before .before .before .before .before .args in
     let l = c .before .before .before .before .before .before .loop in
     sym (ap answer (l .inv .2 ∙ order-higher (a .a .now) (a .b .now) (l .i) (omega arith) (omega arith) (c .if3 .taken)))
 
@@ -52,19 +57,19 @@ loop-less c = search needs
 
 loop-again : tie.Need-loop-again Inv-loop μ-loop
 loop-again c =
-    let a = c .before .before .before .before .before .before .before .args in
+    let a = c .before .before .before .before .before .before .before .before .before .before .args in
     let l = c .before .before .before .before .before .before .loop in
     (omega arith, omega arith, l .inv .2 ∙ order-on (a .a .now) (a .b .now) (l .i) (omega arith) (omega arith) (omega arith))
 
 returns-4 : tie.Need-returns-4 Inv-loop μ-loop
 returns-4 c =
-    let a = c .before .before .before .args in
+    let a = c .before .before .before .before .before .before .args in
     let l = c .before .before .loop in
     sym (ap answer (l .inv .2 ∙ order-shorter (a .a .now) (a .b .now) (l .i) (omega arith) (omega arith)))
 
 returns-5 : tie.Need-returns-5 Inv-loop μ-loop
 returns-5 c =
-    let a = c .before .before .before .args in
+    let a = c .before .before .before .before .before .before .args in
     let l = c .before .before .loop in
     sym (ap answer (l .inv .2 ∙ order-ends (a .a .now) (a .b .now) (l .i) (omega arith) (omega arith)))
 
@@ -74,6 +79,7 @@ order-bytes-spec =
     (tie.spec
     Inv-loop
     μ-loop
+    same-front-requires
     loop-holds
     returns
     shared-slice-read-x
