@@ -2,7 +2,7 @@
 use Prim.Native.Nat.{ℕ, zero, suc, _+_, _-_, _≤_, _<_}
 use native.Mathlib.Omega.{arith}
 use mathlib.Core.Bool.{Bool, true, false}
-use mathlib.Core.Path.{_≡_, refl, sym, ap, _∙_}
+use mathlib.Core.Path.{_≡_, refl, sym, ap, _∙_, subst}
 use Rattle.definition.specs.Bytes.{part, sameBytes}
 use Rattle.definition.specs.Tables.{keyBytes}
 use mathlib.Core.List.{List}
@@ -31,6 +31,10 @@ Between j c Nothing = Unit {0}
 pub record Looked (S X : List ℕ) (j c : ℕ) (k : List ℕ) (r : Member) : Type 0 where
   pub is : lookup k (kids S X j c) ≡ memberOf S X r
   pub inside : Between j c r
+
+-- the same name, read in another way
+pub looked-as : {S X : List ℕ} {j c : ℕ} {k l : List ℕ} {r : Member} → k ≡ l → Looked S X j c k r → Looked S X j c l r
+looked-as {S} {X} {j} {c} {k} {l} {r} e w = subst (λ (z : List ℕ). Looked S X j c z r) e w
 
 -- a key that is read by its start and its length
 pub key-same : (S X k : List ℕ) (m a n : ℕ) (r : Bool) → a ≡ keyStart S m → n ≡ keyLength S m → r ≡ sameBytes (part X a n) k → r ≡ sameBytes (keyBytes S X m) k

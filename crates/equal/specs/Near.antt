@@ -56,3 +56,11 @@ module _ {S X : List ℕ} (tab : Accepted S X) {node : ℕ} (h : node < nodeCoun
       let g = near-less in
       let p = lookup-passed S X k (lowWord S node) (childCount S node) near (omega arith) (λ x b. subst (λ (z : List ℕ). sameBytes (keyBytes S X (lowWord S node + x)) z ≡ false) q (near-apart x b)) in
       record { map = m; less = g; looked = lookup-found S X k (lowWord S node) (childCount S node) near p g r y t }
+
+-- a member at a place of a map is found there by its name
+pub near-found : {S X : List ℕ} → Accepted S X → {node : ℕ} → node < nodeCount S → kindAt S node ≡ kindMap → (k : List ℕ) (first count near : ℕ) → first ≡ lowWord S node → count ≡ childCount S node → near < count → true ≡ sameBytes (keyBytes S X (first + near)) k
+    → Looked S X first count k (At (first + near))
+near-found {S} {X} tab {node} h m k first count near p q l d =
+    let g : near < childCount S node = omega (arith, q) in
+    let w = near-is tab h m (count-map S node m) g k (lowWord S node + near) refl true (d ∙ ap (λ (f : ℕ). sameBytes (keyBytes S X (f + near)) k) p) refl in
+    subst (λ (c : ℕ). Looked S X first c k (At (first + near))) (sym q) (subst (λ (f : ℕ). Looked S X f (childCount S node) k (At (f + near))) (sym p) (w .looked))

@@ -66,6 +66,17 @@ rankIn X L (Pool a n) y = rankTexts (some (part L a n)) (textIn X L y)
 rankIn X L (Text a n) y = rankTexts (some (part X a n)) (textIn X L y)
 rankIn X L (Node i) y = Unlike
 
+-- a number or a text
+abbrev pub rankedIs : Operand → Bits
+rankedIs Nothing = false
+rankedIs Null = false
+rankedIs (Bool b) = false
+rankedIs (Int z) = true
+rankedIs (Float x) = true
+rankedIs (Pool a n) = true
+rankedIs (Text a n) = true
+rankedIs (Node i) = false
+
 abbrev pub isRankLess : Rank → Bits
 isRankLess Unlike = false
 isRankLess Less = true

@@ -2,7 +2,7 @@
 use Prim.Native.Nat.{ℕ, zero, suc, _+_, _-_, _*_, _≤_, _<_}
 use mathlib.Core.Path.{_≡_, refl, sym, ap, _∙_, subst}
 use mathlib.Core.List.{List}
-use mathlib.Core.Bool.{Bool as Bits, true, false, not, _||_, _&&_}
+use mathlib.Core.Bool.{Bool as Bits, true, false, not, _||_, _&&_, false≢true}
 use mathlib.Core.Option.{Option, none, some}
 use native.Mathlib.Omega.{arith}
 use borrow.Author.Tests.{ne-eqb, eq-eqb}
@@ -26,7 +26,7 @@ use lib.IntN.{ℤ}
 use lib.Ieee.{Float as Floating}
 use Rattle.definition.specs.Bytes.{part}
 use Rattle.equal.specs.Means.{meaning, Fine, Pair, OfNode, IsNode, height, nullIs, isThat, nodeIn}
-use Rattle.equal.specs.Ranks.{rank, rankIn, isRankEqual}
+use Rattle.equal.specs.Ranks.{rank, rankIn, rankedIs, isRankEqual}
 use Rattle.equal.specs.Alike.{sameAt, sameElementsAt, sameMembersAt, memberAt, foundSame, differ, Compares, Both}
 use Rattle.equal.specs.Members.{Members, Looked, Between, memberOf}
 use Rattle.equal.specs.Values.{Nested, nested, nested-value, value-list, value-map, null-means, that-means, rank-means, rank-integer, rank-float, rank-text}
@@ -299,6 +299,24 @@ module _ (S X L : List ℕ) (tab : Accepted S X) (x y : Operand) (p : Pair S X L
   pub with-text : (a n : ℕ) → x ≡ Text a n → (r : Bits) → r ≡ isRankEqual (rankIn X L x y) → r ≡ same (meaning S X L x) (meaning S X L y)
   with-text a n e r t = ranked-as r t ∙ ap (λ (o : Operand). isRankEqual (rank (meaning S X L o) (meaning S X L y))) e ∙ rank-text (part X a n) (meaning S X L y) ∙ ap (λ (o : Operand). same (meaning S X L o) (meaning S X L y)) (sym e)
 
+  -- a number or a text is equal where it ranks so
+  pub with-ranked : (q : Bits) → q ≡ rankedIs x → q ≡ true → (r : Bits) → r ≡ isRankEqual (rankIn X L x y) → r ≡ same (meaning S X L x) (meaning S X L y)
+  with-ranked q u v r t = go x refl (sym u ∙ v)
+    where
+      go : (z : Operand) → x ≡ z → rankedIs z ≡ true → r ≡ same (meaning S X L x) (meaning S X L y)
+      go Nothing e w = absurd (false≢true w)
+      go Null e w = absurd (false≢true w)
+      go (Bool b) e w = absurd (false≢true w)
+      go (Int z) e w = with-int z e r t
+      go (Float z) e w = with-float z e r t
+      go (Pool a n) e w = with-pool a n e r t
+      go (Text a n) e w = with-text a n e r t
+      go (Node i) e w = absurd (false≢true w)
+
+  -- and any other value is none
+  pub not-ranked : (q : Bits) → q ≡ rankedIs x → q ≡ false → (z : Operand) → x ≡ z → rankedIs z ≡ true → ⊥
+  not-ranked q u v z e w = false≢true (sym v ∙ u ∙ ap rankedIs e ∙ w)
+
   node-back : (z : Operand) (j : ℕ) → nodeIn z ≡ At j → z ≡ Node j
   node-back Nothing j e = cc
   node-back Null j e = cc
@@ -353,9 +371,6 @@ height-by S i (Node m) e = let g : depthAt S m ≡ depthAt S i = ap (depthAt S) 
 
 pub child-height : (S X : List ℕ) → Accepted S X → (i m t : ℕ) (r : Operand) → OfNode S X m r → m < nodeCount S → depthAt S m ≡ depthAt S i + 1 → 4 * (64 - depthAt S i) + 1 ≡ t → height S r < t
 child-height S X tab i m t r o h d e = omega (arith, height-by S m r (o .itself), tab .depths m h)
-
-pub member-height : (S X : List ℕ) (m t : ℕ) (r : Operand) → OfNode S X m r → 4 * (64 - depthAt S m) + 4 ≡ t → height S r < t
-member-height S X m t r o e = omega (arith, height-by S m r (o .itself))
 
 -- two nodes as operands
 pub of-nodes : (S X L : List ℕ) (i j : ℕ) (x y : Operand) → OfNode S X i x → OfNode S X j y → Pair S X L x y

@@ -312,13 +312,17 @@ equal-bytes (x ∷ s) (y ∷ t) = go (compare x y) (equal-bytes s t)
     go Ordering·eq h = h
     go Ordering·gt h = refl
 
+-- and rank so
+pub equal-spelled : (s t : List ℕ) → isRankEqual (ranked (orderBytes s t)) ≡ sameBytes s t
+equal-spelled s t = equal-ranked (orderBytes s t) ∙ equal-bytes s t
+
 equal-texts : (a : List ℕ) (w : Value) → isRankEqual (rankTexts (some a) (textOf w)) ≡ sameText a w
 unfolding sameText
 equal-texts a w = go (textOf w)
   where
     go : (o : Option (List ℕ)) → isRankEqual (rankTexts (some a) o) ≡ elim o [ none ↦ false | some b ↦ sameBytes a b ]
     go none = refl
-    go (some b) = equal-ranked (orderBytes a b) ∙ equal-bytes a b
+    go (some b) = equal-spelled a b
 
 -- numbers and texts are equal where they rank so
 pub rank-integer : (z : ℤ) (w : Value) → isRankEqual (rank (Value.integer z) w) ≡ same (Value.integer z) w

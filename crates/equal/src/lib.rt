@@ -14,7 +14,7 @@ ghost use Rattle.definition.specs.Compare.{same, lessOrSame};
 ghost use Rattle.definition.specs.Tables.{nodeCount, kindAt, kindList, kindMap, childCount, nodeAt};
 ghost use Rattle.tables.specs.Accepted.{Accepted};
 ghost use Rattle.equal.specs.Means.{meaning, Fine, Pair};
-ghost use Rattle.equal.specs.Alike.{Compares, Both, AskMember, sameAt, sameElementsAt, sameMembersAt, memberAt, differ};
+ghost use Rattle.equal.specs.Alike.{Compares, Both, sameAt, sameElementsAt, sameMembersAt, differ};
 
 pub mod members;
 pub mod operands;
@@ -45,20 +45,23 @@ pub enum Operand {
     Node(usize),
 }
 
-// Whether two values are equal.
+// Whether two values are equal. Numbers and texts are told first, at one place, so that a compiler puts their comparison there.
 pub fn same_values(table: &[u8], text: &[u8], pool: &[u8], x: Operand, y: Operand) -> bool
     requires { ⌜ Accepted (now table) (now text) ⌝ }
     requires { ⌜ Pair (now table) (now text) (now pool) x y ⌝ }
     ensures { λ r. ⌜ r ≡ same (meaning (now (table .entry)) (now (text .entry)) (now (pool .entry)) x) (meaning (now (table .entry)) (now (text .entry)) (now (pool .entry)) y) ⌝ }
 {
+    if ranks::is_ranked(x) {
+        return ranks::is_equal(text, pool, x, y);
+    }
     match x {
         Operand::Nothing => false,
         Operand::Null => operands::is_null(y),
         Operand::Bool(b) => operands::is_bool(b, y),
-        Operand::Int(_) => ranks::is_equal(text, pool, x, y),
-        Operand::Float(_) => ranks::is_equal(text, pool, x, y),
-        Operand::Pool(_, _) => ranks::is_equal(text, pool, x, y),
-        Operand::Text(_, _) => ranks::is_equal(text, pool, x, y),
+        Operand::Int(_) => false,
+        Operand::Float(_) => false,
+        Operand::Pool(_, _) => false,
+        Operand::Text(_, _) => false,
         Operand::Node(i) => match operands::as_node(y) {
             Member::At(j) => same_nodes(table, text, pool, i, j),
             Member::Nothing => false,
@@ -106,42 +109,32 @@ fn same_elements(table: &[u8], text: &[u8], pool: &[u8], i: usize, j: usize) -> 
     true
 }
 
-// Whether each member of one map has an equal one of its name in another.
+// Whether each member of one map has an equal one of its name in another. Maps of one shape have their members in one order: each is looked for first behind the one that was found last.
 fn same_members(table: &[u8], text: &[u8], pool: &[u8], i: usize, j: usize) -> bool
     requires { ⌜ Accepted (now table) (now text) ⌝ }
     requires { ⌜ Both (now table) i j × (kindAt (now table) i ≡ kindMap) × (kindAt (now table) j ≡ kindMap) ⌝ }
     ensures { λ r. ⌜ r ≡ sameMembersAt (now (table .entry)) (now (text .entry)) i j ⌝ }
 {
     let a = records::low_word(table, i) as usize;
+    let b = records::low_word(table, j) as usize;
     let count = records::child_count(table, i) as usize;
+    let many = records::child_count(table, j) as usize;
+    let mut near = 0;
     let mut k = 0;
     while k < count {
-        if !same_member(table, text, pool, a + k, j) {
+        let found = members::partner(table, text, a + k, j, b, many, near);
+        let Member::At(h) = found else {
+            return false;
+        };
+        let x = operands::node_value(table, text, a + k);
+        let y = operands::node_value(table, text, h);
+        if !same_values(table, text, pool, x, y) {
             return false;
         }
+        near = h - b + 1;
         k += 1;
     }
     true
-}
-
-// Whether the member m of a map has an equal one of its name in the map j.
-fn same_member(table: &[u8], text: &[u8], pool: &[u8], m: usize, j: usize) -> bool
-    requires { ⌜ Accepted (now table) (now text) ⌝ }
-    requires { ⌜ AskMember (now table) (now text) m j ⌝ }
-    ensures { λ r. ⌜ r ≡ memberAt (now (table .entry)) (now (text .entry)) m j ⌝ }
-{
-    let b = records::low_word(table, j) as usize;
-    let count = records::child_count(table, j) as usize;
-    let start = records::key_start(table, m) as usize;
-    let size = records::key_length(table, m) as usize;
-    match members::find_member(table, text, b, count, text, start, size) {
-        Member::At(h) => {
-            let x = operands::node_value(table, text, m);
-            let y = operands::node_value(table, text, h);
-            same_values(table, text, pool, x, y)
-        }
-        Member::Nothing => false,
-    }
 }
 
 // "`<=` and `>=` also hold between equal values of any kind but booleans".

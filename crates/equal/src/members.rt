@@ -6,10 +6,11 @@ ghost use mathlib.Core.Bool.{true};
 ghost use Prim.Native.Nat.{_+_, _≤_, _<_};
 ghost use lib.ListN.{length};
 ghost use Rattle.definition.specs.Bytes.{part, sameBytes};
-ghost use Rattle.definition.specs.Tables.{nodeCount, keyStart, keyLength, keyBytes};
+ghost use Rattle.definition.specs.Tables.{nodeCount, keyStart, keyLength, keyBytes, lowWord, childCount};
 ghost use Rattle.tables.specs.Accepted.{Accepted};
 ghost use Rattle.equal.specs.Members.{Members, Looked};
 ghost use Rattle.equal.specs.Near.{DoneNear};
+ghost use Rattle.equal.specs.Alike.{AskMember};
 
 const KIND_MAP: u8 = 7;
 
@@ -119,4 +120,50 @@ pub fn is_near(
     }
     let member = records::low_word(table, node) as usize + near;
     is_named(table, text, member, s, a, n)
+}
+
+// Whether the member at place `near` of `count` from `first` on has the name that is the n bytes of the text from a on.
+fn is_at(
+    table: &[u8],
+    text: &[u8],
+    first: usize,
+    count: usize,
+    near: usize,
+    a: usize,
+    n: usize,
+) -> bool
+    requires { ⌜ Members (now table) (now text) first count ⌝ }
+    requires { ⌜ a + n ≤ length (now text) ⌝ }
+    ensures { λ r. ⌜ (r ≡ true → (near < count) × (true ≡ sameBytes (keyBytes (now (table .entry)) (now (text .entry)) (first + near)) (part (now (text .entry)) a n))) ⌝ }
+{
+    if count <= near {
+        return false;
+    }
+    is_named(table, text, first + near, text, a, n)
+}
+
+// The member of the map j, whose `count` members begin at `first`, that has the name of the node m. The one at place `near` is looked at first: members of one map have different names, so
+// that one with the name is the one that a search finds.
+pub fn partner(
+    table: &[u8],
+    text: &[u8],
+    m: usize,
+    j: usize,
+    first: usize,
+    count: usize,
+    near: usize,
+) -> Member
+    requires { ⌜ Accepted (now table) (now text) × AskMember (now table) (now text) m j ⌝ }
+    requires { ⌜ (first ≡ lowWord (now table) j) × (count ≡ childCount (now table) j) ⌝ }
+    ensures { λ r. ⌜ Looked (now (table .entry)) (now (text .entry)) first count (keyBytes (now (table .entry)) (now (text .entry)) m) r ⌝ }
+{
+    let start = records::key_start(table, m) as usize;
+    let size = records::key_length(table, m) as usize;
+    if is_at(table, text, first, count, near, start, size) {
+        return Member::At(first + near);
+    }
+    if is_short(size) {
+        return find_short(table, text, first, count, text, start, size);
+    }
+    find_member(table, text, first, count, text, start, size)
 }

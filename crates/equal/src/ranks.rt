@@ -10,7 +10,7 @@ ghost use lib.ListN.{length};
 ghost use lib.Ieee.Scale.{finite};
 ghost use Rattle.definition.specs.Bytes.{part};
 ghost use Rattle.definition.specs.Compare.{wholeFraction, floatFraction};
-ghost use Rattle.equal.specs.Ranks.{rankNumbers, rankTexts, rankIn, ordered, spelled, isRankLess, isRankEqual};
+ghost use Rattle.equal.specs.Ranks.{rankNumbers, rankTexts, rankIn, rankedIs, ordered, spelled, isRankLess, isRankEqual};
 ghost use Rattle.equal.specs.Means.{Finite, Parts, Ranked, numberIn, textIn};
 
 // How one value stands to another; `Unlike` where there is no order between them.
@@ -126,15 +126,83 @@ pub fn is_less(text: &[u8], pool: &[u8], x: Operand, y: Operand) -> bool
     }
 }
 
-// Whether two numbers or two texts are equal.
-pub fn is_equal(text: &[u8], pool: &[u8], x: Operand, y: Operand) -> bool
-    requires { ⌜ Ranked (now text) (now pool) x y ⌝ }
-    ensures { λ r. ⌜ r ≡ isRankEqual (rankIn (now (text .entry)) (now (pool .entry)) x y) ⌝ }
+// Whether a value is a number or a text.
+pub fn is_ranked(x: Operand) -> bool
+    ensures { λ r. ⌜ r ≡ rankedIs x ⌝ }
 {
-    match rank_of(text, pool, x, y) {
+    match x {
+        Operand::Int(_) => true,
+        Operand::Float(_) => true,
+        Operand::Pool(_, _) => true,
+        Operand::Text(_, _) => true,
+        Operand::Nothing => false,
+        Operand::Null => false,
+        Operand::Bool(_) => false,
+        Operand::Node(_) => false,
+    }
+}
+
+// Whether a rank is that of equal values.
+fn is_same(k: Rank) -> bool
+    ensures { λ r. ⌜ r ≡ isRankEqual k ⌝ }
+{
+    match k {
         Rank::Equal => true,
         Rank::Unlike => false,
         Rank::Less => false,
         Rank::Greater => false,
+    }
+}
+
+// Whether the n bytes of the pool from a on are the text of a value. There are two such functions because a compiler puts a function into its caller where it has one.
+fn is_pool_text(text: &[u8], pool: &[u8], a: usize, n: usize, y: Operand) -> bool
+    requires { ⌜ a + n ≤ length (now pool) ⌝ }
+    requires { ⌜ Parts (now text) (now pool) y ⌝ }
+    ensures { λ r. ⌜ r ≡ isRankEqual (rankTexts (some (part (now (pool .entry)) a n)) (textIn (now (text .entry)) (now (pool .entry)) y)) ⌝ }
+{
+    match y {
+        Operand::Pool(b, m) => parts::same_part(pool, a, n, pool, b, m),
+        Operand::Text(b, m) => parts::same_part(pool, a, n, text, b, m),
+        Operand::Nothing => false,
+        Operand::Null => false,
+        Operand::Bool(_) => false,
+        Operand::Int(_) => false,
+        Operand::Float(_) => false,
+        Operand::Node(_) => false,
+    }
+}
+
+// The same of the n bytes of the text from a on.
+fn is_own_text(text: &[u8], pool: &[u8], a: usize, n: usize, y: Operand) -> bool
+    requires { ⌜ a + n ≤ length (now text) ⌝ }
+    requires { ⌜ Parts (now text) (now pool) y ⌝ }
+    ensures { λ r. ⌜ r ≡ isRankEqual (rankTexts (some (part (now (text .entry)) a n)) (textIn (now (text .entry)) (now (pool .entry)) y)) ⌝ }
+{
+    match y {
+        Operand::Pool(b, m) => parts::same_part(text, a, n, pool, b, m),
+        Operand::Text(b, m) => parts::same_part(text, a, n, text, b, m),
+        Operand::Nothing => false,
+        Operand::Null => false,
+        Operand::Bool(_) => false,
+        Operand::Int(_) => false,
+        Operand::Float(_) => false,
+        Operand::Node(_) => false,
+    }
+}
+
+// Whether two numbers or two texts are equal. Texts of unlike lengths are not looked at.
+pub fn is_equal(text: &[u8], pool: &[u8], x: Operand, y: Operand) -> bool
+    requires { ⌜ Ranked (now text) (now pool) x y ⌝ }
+    ensures { λ r. ⌜ r ≡ isRankEqual (rankIn (now (text .entry)) (now (pool .entry)) x y) ⌝ }
+{
+    match x {
+        Operand::Int(a) => is_same(rank_int(a, y)),
+        Operand::Float(a) => is_same(rank_float(a, y)),
+        Operand::Pool(a, n) => is_pool_text(text, pool, a, n, y),
+        Operand::Text(a, n) => is_own_text(text, pool, a, n, y),
+        Operand::Nothing => false,
+        Operand::Null => false,
+        Operand::Bool(_) => false,
+        Operand::Node(_) => false,
     }
 }

@@ -1,6 +1,6 @@
--- The answers of `same_elements` in the cycle of calls {same_elements, same_member, same_members, same_nodes, same_values}.
-use Rattle.equal.specs.Same.{not-taken, not-left, with-nothing, with-null, with-bool, with-int, with-float, with-pool, with-text, with-node, node-node, node-else, node-height, child-height, member-height, of-nodes, at-nodes, found-node, found-nothing, found-in, members-of, kinds-differ, counts-differ, lists-same, maps-same, map-else, kids-start, elements-start, elements-step, elements-stop, elements-end, members-step, members-stop, members-end, elements-are, members-are, child-key, key-read}
-use Rattle.equal.specs.Same.{not-taken, not-left, with-nothing, with-null, with-bool, with-int, with-float, with-pool, with-text, with-node, node-node, node-else, node-height, child-height, member-height, of-nodes, at-nodes, found-node, found-nothing, found-in, members-of, kinds-differ, counts-differ, lists-same, maps-same, map-else, kids-start, elements-start, elements-step, elements-stop, elements-end, members-step, members-stop, members-end, elements-are, members-are, child-key, key-read}
+-- The answers of `same_elements` in the cycle of calls {same_elements, same_members, same_nodes, same_values}.
+use Rattle.equal.specs.Same.{not-taken, not-left, with-nothing, with-null, with-bool, with-int, with-float, with-pool, with-text, with-node, node-node, node-else, node-height, child-height, of-nodes, at-nodes, found-node, found-nothing, found-in, members-of, kinds-differ, counts-differ, lists-same, maps-same, map-else, kids-start, elements-start, elements-step, elements-stop, elements-end, members-step, members-stop, members-end, elements-are, members-are, child-key, key-read}
+use Rattle.equal.specs.Same.{not-taken, not-left, with-nothing, with-null, with-bool, with-int, with-float, with-pool, with-text, with-node, node-node, node-else, node-height, child-height, of-nodes, at-nodes, found-node, found-nothing, found-in, members-of, kinds-differ, counts-differ, lists-same, maps-same, map-else, kids-start, elements-start, elements-step, elements-stop, elements-end, members-step, members-stop, members-end, elements-are, members-are, child-key, key-read}
 use Rattle.walks.specs.Ranges.{range-of, child-at}
 use Rattle.walks.specs.Nodes.{kids}
 use Rattle.definition.specs.Compare.{sameElements}
@@ -9,14 +9,14 @@ use Prim.Native.Nat.{_+_, _-_, _≤_}
 use borrow.Author.Needs.{needs}
 use native.Mathlib.Omega.{arith}
 use mathlib.Core.Path.{_≡_, _∙_}
-use Rattle.equal.proofs.+same_elements+same_member+same_members+same_nodes+same_values.Lts-same_elements as lts
+use Rattle.equal.proofs.+same_elements+same_members+same_nodes+same_values.Lts-same_elements as lts
 use Prim.Native.Nat.{ℕ}
 use Rattle.equal.proofs.same_elements.Reads as same-elements
 use Rattle.equal.proofs.same_values.Reads as same-values
 use Rattle.equal.proofs.operands.node_value.Reads as node-value-reads
 use Rattle.table.proofs.records.child_count.Reads as child-count-reads
 use Rattle.table.proofs.records.low_word.Reads as low-word-reads
-use Rattle.equal.proofs.+same_elements+same_member+same_members+same_nodes+same_values.Proof.Base.{same-elements-at, same-values-below}
+use Rattle.equal.proofs.+same_elements+same_members+same_nodes+same_values.Proof.Base.{same-elements-at, same-values-below}
 
 abbrev pub calls : ℕ → lts.Claims
 calls t = (low-word-reads.Asked, low-word-reads.Learnt, child-count-reads.Asked, child-count-reads.Learnt, node-value-reads.Asked, node-value-reads.Learnt, same-values-below t, same-values.Post)

@@ -1,4 +1,4 @@
--- The measures of the cycle of calls {same_elements, same_member, same_members, same_nodes, same_values}, and what each member is given and asks.
+-- The measures of the cycle of calls {same_elements, same_members, same_nodes, same_values}, and what each member is given and asks.
 use Prim.Native.Nat.{ℕ, _+_, _-_, _*_, _<_}
 use Rattle.definition.specs.Tables.{depthAt}
 use Rattle.equal.specs.Means.{height}
@@ -6,8 +6,6 @@ use borrow.Fn.Kinds.{In}
 use borrow.Fn.PlainCycle.{Measures, is, falls, and}
 use Rattle.equal.proofs.same_elements.Reads as same-elements
 use Rattle.equal.proofs.same_elements.Kinds as same-elements-kinds
-use Rattle.equal.proofs.same_member.Reads as same-member
-use Rattle.equal.proofs.same_member.Kinds as same-member-kinds
 use Rattle.equal.proofs.same_members.Reads as same-members
 use Rattle.equal.proofs.same_members.Kinds as same-members-kinds
 use Rattle.equal.proofs.same_nodes.Reads as same-nodes
@@ -17,9 +15,6 @@ use Rattle.equal.proofs.same_values.Kinds as same-values-kinds
 
 abbrev pub μ-same-elements : Measures 3 same-elements-kinds.ps ℕ
 μ-same-elements κs a = 4 * (64 - depthAt (a .0 .now) (a .1 .1 .1 .0)) + 1
-
-abbrev pub μ-same-member : Measures 3 same-member-kinds.ps ℕ
-μ-same-member κs a = 4 * (64 - depthAt (a .0 .now) (a .1 .1 .1 .0)) + 4
 
 abbrev pub μ-same-members : Measures 3 same-members-kinds.ps ℕ
 μ-same-members κs a = 4 * (64 - depthAt (a .0 .now) (a .1 .1 .1 .0)) + 1
@@ -35,12 +30,6 @@ same-elements-at t = and 3 same-elements-kinds.ps (is 3 same-elements-kinds.ps �
 
 abbrev pub same-elements-below : ℕ → In 3 same-elements-kinds.ps
 same-elements-below t = and 3 same-elements-kinds.ps (falls 3 same-elements-kinds.ps _<_ μ-same-elements t) same-elements.Pre
-
-abbrev pub same-member-at : ℕ → In 3 same-member-kinds.ps
-same-member-at t = and 3 same-member-kinds.ps (is 3 same-member-kinds.ps μ-same-member t) same-member.Pre
-
-abbrev pub same-member-below : ℕ → In 3 same-member-kinds.ps
-same-member-below t = and 3 same-member-kinds.ps (falls 3 same-member-kinds.ps _<_ μ-same-member t) same-member.Pre
 
 abbrev pub same-members-at : ℕ → In 3 same-members-kinds.ps
 same-members-at t = and 3 same-members-kinds.ps (is 3 same-members-kinds.ps μ-same-members t) same-members.Pre

@@ -1,16 +1,16 @@
--- The answers of `same_nodes` in the cycle of calls {same_elements, same_member, same_members, same_nodes, same_values}.
-use Rattle.equal.specs.Same.{not-taken, not-left, with-nothing, with-null, with-bool, with-int, with-float, with-pool, with-text, with-node, node-node, node-else, node-height, child-height, member-height, of-nodes, at-nodes, found-node, found-nothing, found-in, members-of, kinds-differ, counts-differ, lists-same, maps-same, map-else, kids-start, elements-start, elements-step, elements-stop, elements-end, members-step, members-stop, members-end, elements-are, members-are, child-key, key-read}
-use Rattle.equal.specs.Same.{not-taken, not-left, with-nothing, with-null, with-bool, with-int, with-float, with-pool, with-text, with-node, node-node, node-else, node-height, child-height, member-height, of-nodes, at-nodes, found-node, found-nothing, found-in, members-of, kinds-differ, counts-differ, lists-same, maps-same, map-else, kids-start, elements-start, elements-step, elements-stop, elements-end, members-step, members-stop, members-end, elements-are, members-are, child-key, key-read}
+-- The answers of `same_nodes` in the cycle of calls {same_elements, same_members, same_nodes, same_values}.
+use Rattle.equal.specs.Same.{not-taken, not-left, with-nothing, with-null, with-bool, with-int, with-float, with-pool, with-text, with-node, node-node, node-else, node-height, child-height, of-nodes, at-nodes, found-node, found-nothing, found-in, members-of, kinds-differ, counts-differ, lists-same, maps-same, map-else, kids-start, elements-start, elements-step, elements-stop, elements-end, members-step, members-stop, members-end, elements-are, members-are, child-key, key-read}
+use Rattle.equal.specs.Same.{not-taken, not-left, with-nothing, with-null, with-bool, with-int, with-float, with-pool, with-text, with-node, node-node, node-else, node-height, child-height, of-nodes, at-nodes, found-node, found-nothing, found-in, members-of, kinds-differ, counts-differ, lists-same, maps-same, map-else, kids-start, elements-start, elements-step, elements-stop, elements-end, members-step, members-stop, members-end, elements-are, members-are, child-key, key-read}
 use native.Mathlib.Omega.{arith}
 use mathlib.Core.Path.{_∙_}
-use Rattle.equal.proofs.+same_elements+same_member+same_members+same_nodes+same_values.Lts-same_nodes as lts
+use Rattle.equal.proofs.+same_elements+same_members+same_nodes+same_values.Lts-same_nodes as lts
 use Prim.Native.Nat.{ℕ}
 use Rattle.equal.proofs.same_elements.Reads as same-elements
 use Rattle.equal.proofs.same_members.Reads as same-members
 use Rattle.equal.proofs.same_nodes.Reads as same-nodes
 use Rattle.table.proofs.records.child_count.Reads as child-count-reads
 use Rattle.table.proofs.records.kind.Reads as kind-reads
-use Rattle.equal.proofs.+same_elements+same_member+same_members+same_nodes+same_values.Proof.Base.{same-elements-below, same-members-below, same-nodes-at}
+use Rattle.equal.proofs.+same_elements+same_members+same_nodes+same_values.Proof.Base.{same-elements-below, same-members-below, same-nodes-at}
 
 abbrev pub calls : ℕ → lts.Claims
 calls t = (kind-reads.Asked, kind-reads.Learnt, child-count-reads.Asked, child-count-reads.Learnt, same-elements-below t, same-elements.Post, same-members-below t, same-members.Post)
