@@ -1,5 +1,8 @@
 pub mod Queries
+pub mod Numbers
 pub mod Tests
+pub mod Kinds
+pub mod Pairs
 pub mod Kept
 pub mod Atoms
 pub mod Keeps

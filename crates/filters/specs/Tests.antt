@@ -54,95 +54,14 @@ use Rattle.filters.specs.Queries.{begins-root, begins-node, past-of, fou
 use Rattle.filters.specs.declared.Told.{Told}
 use Rattle.filters.specs.declared.Nodes.{Nodes}
 
--- ---- two integers
-
--- whether ==, !=, < or <= holds between numbers in that order
-abbrev pub saysOf : ℕ → Order → Bits
-saysOf op Less = not (eqb op 0)
-saysOf op Equal = cond (eqb op 0) true (eqb op 3)
-saysOf op Greater = eqb op 1
-
-eq-says : (t : Ordering) → saysOf 0 (answer t) ≡ isEq t
-eq-says Ordering·lt = refl
-eq-says Ordering·eq = refl
-eq-says Ordering·gt = refl
-
-ne-says : (t : Ordering) → saysOf 1 (answer t) ≡ not (isEq t)
-ne-says Ordering·lt = refl
-ne-says Ordering·eq = refl
-ne-says Ordering·gt = refl
-
-lt-says : (t : Ordering) → saysOf 2 (answer t) ≡ (isLess t || false)
-unfolding isLess
-lt-says Ordering·lt = refl
-lt-says Ordering·eq = refl
-lt-says Ordering·gt = refl
-
-le-says : (t : Ordering) → saysOf 3 (answer t) ≡ ((isLess t || false) || (isEq t && true))
-unfolding isLess
-le-says Ordering·lt = refl
-le-says Ordering·eq = refl
-le-says Ordering·gt = refl
-
-module _ (a b : ℤ) where
-  ints-eq : saysOf 0 (answer (orderOf (ofInteger a) (ofInteger b))) ≡ same (Value.integer a) (Value.integer b)
-  unfolding same sameNumber numberOf
-  ints-eq = eq-says (orderOf (ofInteger a) (ofInteger b))
-
-  ints-ne : saysOf 1 (answer (orderOf (ofInteger a) (ofInteger b))) ≡ differ (Value.integer a) (Value.integer b)
-  unfolding isSome same sameNumber numberOf
-  ints-ne = ne-says (orderOf (ofInteger a) (ofInteger b))
-
-  ints-lt : saysOf 2 (answer (orderOf (ofInteger a) (ofInteger b))) ≡ less (Value.integer a) (Value.integer b)
-  unfolding less numbersLess textsLess numberOf textOf isLess
-  ints-lt = lt-says (orderOf (ofInteger a) (ofInteger b))
-
-  ints-le : saysOf 3 (answer (orderOf (ofInteger a) (ofInteger b))) ≡ lessOrSame (Value.integer a) (Value.integer b)
-  unfolding lessOrSame isBoolean booleanOf less numbersLess textsLess numberOf textOf isLess same sameNumber
-  ints-le = le-says (orderOf (ofInteger a) (ofInteger b))
-
-  -- ==, !=, < and <= in that order; > and >= in the other
-  ints-low : (op : ℕ) → op ≤ 3 → Compares (Value.integer a) (Value.integer b) op (saysOf op (answer (orderOf (ofInteger a) (ofInteger b))))
-  unfolding compareValues operatorByte
-  ints-low op l eq e = rw (sym e) ints-eq
-  ints-low op l ne e = rw (sym e) ints-ne
-  ints-low op l lt e = rw (sym e) ints-lt
-  ints-low op l le e = rw (sym e) ints-le
-  ints-low op l gt e = absurd (omega arith)
-  ints-low op l ge e = absurd (omega arith)
-
-ints-high : (a b : ℤ) (op : ℕ) → 3 < op → Compares (Value.integer a) (Value.integer b) op (saysOf (op - 2) (answer (orderOf (ofInteger b) (ofInteger a))))
-unfolding compareValues operatorByte
-ints-high a b op l eq e = absurd (omega arith)
-ints-high a b op l ne e = absurd (omega arith)
-ints-high a b op l lt e = absurd (omega arith)
-ints-high a b op l le e = absurd (omega arith)
-ints-high a b op l gt e = rw (sym e) (ints-lt b a)
-ints-high a b op l ge e = rw (sym e) (ints-le b a)
-
--- the same of numbers that are those numbers
-pub ints-low-by : (op : ℕ) → op ≤ 3 → (a b a′ b′ : ℤ) (o : Order) (r : Bits) → a′ ≡ a → b′ ≡ b → o ≡ answer (orderOf (ofInteger a′) (ofInteger b′)) → r ≡ saysOf op o → Compares (Value.integer a) (Value.integer b) op r
-ints-low-by op l a b a′ b′ o r i j d e =
-    let t : r ≡ saysOf op (answer (orderOf (ofInteger a) (ofInteger b))) = e ∙ ap (saysOf op) (d ∙ ap (λ (x : ℤ). answer (orderOf (ofInteger x) (ofInteger b′))) i ∙ ap (λ (x : ℤ). answer (orderOf (ofInteger a) (ofInteger x))) j) in
-    λ x y. t ∙ ints-low a b op l x y
-
-pub ints-high-by : (op : ℕ) → 3 < op → (a b a′ b′ : ℤ) (o : Order) (r : Bits) → a′ ≡ a → b′ ≡ b → o ≡ answer (orderOf (ofInteger b′) (ofInteger a′)) → r ≡ saysOf (op - 2) o → Compares (Value.integer a) (Value.integer b) op r
-ints-high-by op l a b a′ b′ o r i j d e =
-    let t : r ≡ saysOf (op - 2) (answer (orderOf (ofInteger b) (ofInteger a))) = e ∙ ap (saysOf (op - 2)) (d ∙ ap (λ (x : ℤ). answer (orderOf (ofInteger b′) (ofInteger x))) i ∙ ap (λ (x : ℤ). answer (orderOf (ofInteger x) (ofInteger a))) j) in
-    λ x y. t ∙ ints-high a b op l x y
-
-pub says-yes : (op : ℕ) → op ≡ 0 → true ≡ saysOf op Equal
-says-yes op e = rw (eq-eqb op 0 e)
-
-pub says-no : (op : ℕ) → (op ≡ 0 → ⊥) → eqb op 3 ≡ saysOf op Equal
-says-no op e = rw (ne-eqb op 0 e)
+-- ---- values that are those values
 
 pub compares-as : {v v′ w w′ : Value} (op : ℕ) (b : Bits) → v ≡ v′ → w ≡ w′ → Compares v w op b → Compares v′ w′ op b
 compares-as {v} {v′} {w} {w′} op b i j c = λ o e. c o e ∙ ap (λ (x : Value). compareValues o x w) i ∙ ap (compareValues o v′) j
 
 -- ---- nothing compares
 
-none-same : (w : Value) → same w Value.nothing ≡ false
+pub none-same : (w : Value) → same w Value.nothing ≡ false
 unfolding same isNull sameBoolean booleanOf sameNumber numberOf sameText textOf listOf mapOf
 none-same Value.nothing = refl
 none-same Value.null = refl
@@ -153,7 +72,7 @@ none-same (Value.text s) = refl
 none-same (Value.list ks) = refl
 none-same (Value.map ks) = refl
 
-none-below : (w : Value) → less w Value.nothing ≡ false
+pub none-below : (w : Value) → less w Value.nothing ≡ false
 unfolding less numbersLess textsLess numberOf textOf
 none-below Value.nothing = refl
 none-below Value.null = refl
@@ -391,7 +310,7 @@ module _ {P L S X : List ℕ} {n first z e : ℕ} (a : AskAgainst P L S X n firs
 -- ---- a query and what is asked of it
 
 module _ {P L S X : List ℕ} {root node q e : ℕ} (a : AskShort P L S X root node q e) (from : ℕ) (b : from ≡ beginsAt (getD P q 0) root node) where
-  query-at : (acc want : Bits) → Left P L q e (nodeAt S X root) (nodeAt S X node) acc want → QueryAt P L q e (nodeAt S X root) (nodeAt S X node) acc Value.nothing Value.nothing want (nodeAt S X from)
+  pub query-at : (acc want : Bits) → Left P L q e (nodeAt S X root) (nodeAt S X node) acc want → QueryAt P L q e (nodeAt S X root) (nodeAt S X node) acc Value.nothing Value.nothing want (nodeAt S X from)
   query-at acc want t =
       at-query P L q e (nodeAt S X root) (nodeAt S X node) acc Value.nothing Value.nothing want t (a .more) (a .kind) (nodeAt S X from)
       (λ z. ap (nodeAt S X) (b ∙ begins-root _ root node z)) (λ z. ap (nodeAt S X) (b ∙ begins-node _ root node z))
@@ -417,11 +336,11 @@ module _ {P L S X : List ℕ} {root node q e : ℕ} (a : AskShort P L S X root n
               (y .is-test (subst (λ (x : ℕ). getD P x 0 ≡ 0x18) p c) t (u ∙ found-test S X _ _ (r .n) (r .first) (d .found s (y .f) (y .k) (y .at))));
         }
 
-    module _ (lo : 0x10 ≤ getD P (r .z) 0) (hi : getD P (r .z) 0 ≤ 0x13) where
-      first-is : (f : Segments) (k : ℕ) → SegmentsAt P L (q + 1) k f → FirstIs S X (r .n) (r .first) (firstValue (evalSegments f (nodeAt S X from) (nodeAt S X from ∷ [])))
+    module _ (under : getD P (r .z) 0 < 0x18) where
+      pub first-is : (f : Segments) (k : ℕ) → SegmentsAt P L (q + 1) k f → FirstIs S X (r .n) (r .first) (firstValue (evalSegments f (nodeAt S X from) (nodeAt S X from ∷ [])))
       first-is f k h = let g = d .found s f k h in record { none = λ i. sym (found-none S X _ _ (r .n) (r .first) g i); some = λ i. sym (found-first S X _ _ (r .n) (r .first) g i) }
 
-      valued : (acc want : Bits) (l : Left P L q e (nodeAt S X root) (nodeAt S X node) acc want)
+      pub valued : (acc want : Bits) (l : Left P L q e (nodeAt S X root) (nodeAt S X node) acc want)
           → Todo P L (r .z) e (nodeAt S X root) (nodeAt S X node) acc Value.nothing (firstValue (evalSegments (query-at acc want l .f) (nodeAt S X from) (nodeAt S X from ∷ []))) want
       valued acc want l =
           let y = query-at acc want l in
@@ -430,6 +349,7 @@ module _ {P L S X : List ℕ} {root node q e : ℕ} (a : AskShort P L S X root n
           todo-to P L _ (r .z) e _ _ acc acc _ _ _ _ want p refl refl refl
           (y .is-first (λ i. absurd (omega arith)) (λ i. absurd (omega arith)) (λ i. absurd (omega arith)) _ refl)
 
+    module _ (lo : 0x10 ≤ getD P (r .z) 0) (hi : getD P (r .z) 0 ≤ 0x13) where
       pub short-asked : AskAgainst P L S X (r .n) (r .first) (r .z) e
       short-asked =
           record {
@@ -442,7 +362,7 @@ module _ {P L S X : List ℕ} {root node q e : ℕ} (a : AskShort P L S X root n
             acc = _;
             v = _;
             want = _;
-            todo = valued (a .acc) (a .want) (a .todo);
+            todo = valued (omega arith) (a .acc) (a .want) (a .todo);
             low = lo;
             high = hi;
           }
@@ -451,7 +371,7 @@ module _ {P L S X : List ℕ} {root node q e : ℕ} (a : AskShort P L S X root n
       short-compared t g =
           record {
             further = λ i. omega (arith, g .further i, short-mode .0);
-            goes = λ i acc want l. let y = query-at acc want l in g .goes i _ _ acc _ want (first-is (y .f) (y .k) (y .at)) (valued acc want l);
+            goes = λ i acc want l. let y = query-at acc want l in g .goes i _ _ acc _ want (first-is (omega arith) (y .f) (y .k) (y .at)) (valued (omega arith) acc want l);
           }
 
 -- ---- the operators between tests

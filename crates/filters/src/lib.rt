@@ -1,6 +1,8 @@
-// What a filter's code says of a node, told without registers: a test of a query of names and indices, its comparison with a literal, the number of all children
+// What a filter's code says of a node, told without registers: a test of a query of names and indices, its comparison with a literal or with another, the number of all children
 // of its node compared with a literal, and the operators between such tests. Everything else is left to the code's registers.
 //
+//   kinds      a node and a literal by their kinds
+//   pairs      two queries of names and indices, compared with each other
 //   atoms      a test of one member, read from the plan once
 //   kept       the nodes of a range that a filter keeps whose test is read once
 use compare::Order;
@@ -18,10 +20,15 @@ ghost use Rattle.definition.specs.Compare.{Value};
 ghost use Rattle.definition.specs.Tables.{kindAt};
 ghost use Rattle.equal.specs.Alike.{Compares};
 ghost use Rattle.visits.specs.Visits.{AskReach};
-ghost use Rattle.filters.specs.Tests.{literalKind, logicKind, saysOf, AskNode, DoneNode, AskAgainst, DoneAgainst, DonePlain, AskChildren, DoneChildren, AskCount, DoneCount, AskCounted, DoneCounted, AskCounting, AskShort, DoneShort, AskLogic, DoneLogic};
+ghost use Rattle.filters.specs.Numbers.{saysOf};
+ghost use Rattle.filters.specs.Tests.{literalKind, logicKind, AskNode, DoneNode, AskAgainst, DoneAgainst, DonePlain, AskChildren, DoneChildren, AskCount, DoneCount, AskCounted, DoneCounted, AskCounting, AskShort, DoneShort, AskLogic, DoneLogic};
 
 pub mod atoms;
 pub mod kept;
+pub mod kinds;
+pub mod pairs;
+
+const CURRENT: u8 = 0x02;
 
 const CHILD: u8 = 0x03;
 
@@ -152,7 +159,7 @@ fn compare_operands(
     equal::compare_values(table, text, pool, op, x, y)
 }
 
-// The same; two integers, and the equality of two texts, need no operands.
+// The same; two integers, and the equality of two texts, come first.
 fn compare_node(
     plan: &[u8],
     pool: &[u8],
@@ -174,12 +181,16 @@ fn compare_node(
     }
     if k == TEXT {
         if kind == KIND_TEXT {
-            if op == EQ {
-                return same_text(plan, pool, table, text, m, q);
+            if op <= NE {
+                let b = same_text(plan, pool, table, text, m, q);
+                if op == EQ {
+                    return b;
+                }
+                return !b;
             }
         }
     }
-    compare_operands(plan, pool, table, text, op, m, q)
+    kinds::by_kinds(plan, pool, table, text, op, m, q)
 }
 
 // Whether a byte begins a literal.
@@ -398,7 +409,7 @@ fn count_test(
     count_against(plan, pool, table, text, n, c + 6, e)
 }
 
-// The query at q that is tested or compared with a literal, in code that ends at e.
+// The query at q that is tested, or compared with a literal or with another query, in code that ends at e.
 pub fn short_test(
     plan: &[u8],
     pool: &[u8],
@@ -426,6 +437,9 @@ pub fn short_test(
             q: z + 1,
             some: true,
         };
+    }
+    if mode <= CURRENT {
+        return pairs::beside(plan, pool, table, text, root, node, n, v.first, z, e);
     }
     if !is_literal(mode) {
         return Told {

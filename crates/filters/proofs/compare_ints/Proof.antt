@@ -2,7 +2,7 @@
 use mir.Syntax.{w64}
 use mir.ValLaws.{toZ-ofZ}
 use borrow.Author.Needs.{needs}
-use Rattle.filters.specs.Tests.{ints-low-by, ints-high-by}
+use Rattle.filters.specs.Numbers.{integer-at, numbers-low, numbers-high}
 use Rattle.filters.proofs.compare_ints.Statement.{statement}
 use Rattle.filters.proofs.compare_ints.Tie as tie
 
@@ -15,7 +15,7 @@ says-requires c κs = search needs
 returns : tie.Need-returns
 returns c =
     let s = c .before .before .before in
-    ints-low-by _ (c .before .before .if1 .taken) _ _ _ _ _ _ (toZ-ofZ w64 (s .args .a) (s .fits .a)) (toZ-ofZ w64 (s .args .b) (s .fits .b)) (c .before .compare-i64 .ensures) (c .says .ensures)
+    numbers-low (integer-at _ _ (toZ-ofZ w64 (s .args .a) (s .fits .a))) (integer-at _ _ (toZ-ofZ w64 (s .args .b) (s .fits .b))) _ (c .before .before .if1 .taken) _ _ (c .before .compare-i64 .ensures) (c .says .ensures)
 
 sub-says : tie.Need-sub-says
 sub-says c = search needs
@@ -29,7 +29,7 @@ says-requires-2 c κs = search needs
 returns-2 : tie.Need-returns-2
 returns-2 c =
     let s = c .before .before .before in
-    ints-high-by _ (c .before .before .if1 .left) _ _ _ _ _ _ (toZ-ofZ w64 (s .args .a) (s .fits .a)) (toZ-ofZ w64 (s .args .b) (s .fits .b)) (c .before .compare-i642 .ensures) (c .says2 .ensures)
+    numbers-high (integer-at _ _ (toZ-ofZ w64 (s .args .b) (s .fits .b))) (integer-at _ _ (toZ-ofZ w64 (s .args .a) (s .fits .a))) _ (c .before .before .if1 .left) _ _ (c .before .compare-i642 .ensures) (c .says2 .ensures)
 
 pub compare-ints-spec : {M : Type 1} → statement M
 compare-ints-spec =

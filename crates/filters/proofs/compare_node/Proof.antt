@@ -1,21 +1,23 @@
 -- `compare_node` meets its contract. Assumes nothing.
 use Rattle.filters.specs.Tests.{DoneNode}
+use Rattle.filters.specs.Kinds.{differs-done}
 use Rattle.steps.specs.LeafLaws.{literal-room}
 use native.Mathlib.Omega.{arith}
 use Prim.Native.Nat.{ℕ}
-use mathlib.Core.Path.{_≡_, sym, subst}
+use mathlib.Core.Logic.{⊎-elim}
+use mathlib.Core.Path.{_≡_, sym, subst, _∙_}
 use borrow.Author.Needs.{needs}
 use Rattle.filters.proofs.compare_node.Statement.{statement}
 use Rattle.filters.proofs.compare_node.Tie as tie
 use Rattle.filters.proofs.compare_node.Reads as reads
 use Rattle.filters.proofs.compare_node.Lts as lts
 use Rattle.filters.proofs.compare_integers.Reads as compare-integers-reads
-use Rattle.filters.proofs.compare_operands.Reads as compare-operands-reads
+use Rattle.filters.proofs.kinds.by_kinds.Reads as by-kinds-reads
 use Rattle.filters.proofs.same_text.Reads as same-text-reads
 use Rattle.table.proofs.records.kind.Reads as kind-reads
 
 shared-slice-read-k : tie.Need-shared-slice-read-k
-shared-slice-read-k c = omega (arith, literal-room (c .before .before .before .before .before .args .plan .now) (c .before .before .before .before .before .args .pool .now) (c .before .before .before .before .before .args .q) (c .before .before .before .before .before .pre .literal) .two-bytes)
+shared-slice-read-k c = omega (arith, literal-room _ _ _ (c .before .before .before .before .before .pre .literal) .two-bytes)
 
 kind-requires : tie.Need-kind-requires
 kind-requires c κs = search needs
@@ -30,15 +32,16 @@ same-text-requires : tie.Need-same-text-requires
 same-text-requires c κs = search needs
 
 returns-2 : tie.Need-returns-2
-returns-2 c =
-    let s = c .before .before .before .before .before .before .before .before .before .before .before in
-    subst (λ (o : ℕ). DoneNode (s .args .plan .now) (s .args .pool .now) (s .args .table .now) (s .args .text .now) (s .args .m) (s .args .q) o (c .same-text .result)) (sym (c .before .if5 .taken)) (c .same-text .ensures)
-
-compare-operands-requires : tie.Need-compare-operands-requires
-compare-operands-requires c κs = search needs
+returns-2 c = let s = c .before .before .before .before .before .before .before .before .before .before .before .before in subst (λ (o : ℕ). DoneNode (s .args .plan .now) (s .args .pool .now) (s .args .table .now) (s .args .text .now) (s .args .m) (s .args .q) o (c .before .same-text .result)) (sym (c .if6 .taken)) (c .before .same-text .ensures)
 
 returns-3 : tie.Need-returns-3
-returns-3 c = search needs
+returns-3 c = differs-done (c .before .before .before .before .before .before .before .before .before .before .before .before .pre) _ (c .before .same-text .ensures) _ (omega (arith, c .before .before .if5 .taken, c .if6 .left))
+
+by-kinds-requires : tie.Need-by-kinds-requires
+by-kinds-requires c κs = (c .before .before .before .before .before .before .before .before .pre, λ e k. ⊎-elim (λ w. w .1 .left (c .before .before .kind .ensures ∙ k)) (λ w. w .left e) (c .before .if1 .came))
+
+returns-4 : tie.Need-returns-4
+returns-4 c = search needs
 
 pub compare-node-spec : {M : Type 1} → statement M
 compare-node-spec =
@@ -50,5 +53,6 @@ compare-node-spec =
     returns
     same-text-requires
     returns-2
-    compare-operands-requires
-    returns-3)
+    returns-3
+    by-kinds-requires
+    returns-4)

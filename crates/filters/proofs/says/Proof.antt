@@ -1,5 +1,5 @@
 -- `says` meets its contract, order by order. Assumes nothing.
-use Rattle.filters.specs.Tests.{saysOf, says-yes, says-no}
+use Rattle.filters.specs.Numbers.{saysOf, says-yes, says-no}
 use mathlib.Core.Path.{sym, ap, _∙_}
 use borrow.Author.Needs.{needs}
 use Rattle.filters.proofs.says.Statement.{statement}

@@ -1,5 +1,6 @@
 -- `short_test` meets its contract. Assumes nothing.
 use Rattle.filters.specs.Tests.{literal-kind, short-in, short-query, short-mode, short-tested, short-asked, short-compared, short-none}
+use Rattle.filters.specs.Pairs.{short-beside, beside-short}
 use Rattle.filters.specs.Queries.{begins-in}
 use lib.ListN.{getD}
 use borrow.Author.Tests.{not-true, not-false}
@@ -10,11 +11,6 @@ use Rattle.filters.proofs.short_test.Statement.{statement}
 use Rattle.filters.proofs.short_test.Tie as tie
 use Rattle.filters.proofs.short_test.Reads as reads
 use Rattle.filters.proofs.short_test.Lts as lts
-use Rattle.filters.proofs.against.Reads as against-reads
-use Rattle.filters.proofs.count_test.Reads as count-test-reads
-use Rattle.filters.proofs.is_literal.Reads as is-literal-reads
-use Rattle.filters.proofs.plain_nodes.Reads as plain-nodes-reads
-use Rattle.steps.proofs.leaves.begins.Reads as begins-reads
 
 shared-slice-read-begins : tie.Need-shared-slice-read-begins
 shared-slice-read-begins c = short-in (c .before .before .before .before .before .pre) _ refl
@@ -40,17 +36,23 @@ add-t19 c = omega (arith, short-mode (c .before .before .before .before .before 
 returns-2 : tie.Need-returns-2
 returns-2 c = short-tested (c .before .before .before .before .before .before .before .before .before .before .before .pre) _ (c .before .before .before .before .before .begins .ensures) _ (c .before .before .before .before .plain-nodes .ensures) (not-false _ (c .before .before .if1 .left)) (c .if2 .taken) _ refl
 
+beside-requires : tie.Need-beside-requires
+beside-requires c κs = short-beside (c .before .before .before .before .before .before .before .before .before .before .before .before .pre) _ (c .before .before .before .before .before .before .begins .ensures) _ (c .before .before .before .before .before .plain-nodes .ensures) (not-false _ (c .before .before .before .if1 .left)) (c .if3 .taken)
+
+returns-3 : tie.Need-returns-3
+returns-3 c = beside-short (c .before .before .before .before .before .before .before .before .before .before .before .before .before .pre) _ (c .before .before .before .before .before .before .before .begins .ensures) _ (c .before .before .before .before .before .before .plain-nodes .ensures) (not-false _ (c .before .before .before .before .if1 .left)) (c .before .if3 .taken) _ (c .beside .ensures)
+
 is-literal-requires : tie.Need-is-literal-requires
 is-literal-requires c κs = search needs
 
-returns-3 : tie.Need-returns-3
-returns-3 c = short-none _ _ _ _ _ _ _ _ _
+returns-4 : tie.Need-returns-4
+returns-4 c = short-none _ _ _ _ _ _ _ _ _
 
 against-requires : tie.Need-against-requires
-against-requires c κs = let k = literal-kind _ (sym (c .before .is-literal .ensures) ∙ not-false _ (c .if3 .left)) in short-asked (c .before .before .before .before .before .before .before .before .before .before .before .before .before .pre) _ (c .before .before .before .before .before .before .before .begins .ensures) _ (c .before .before .before .before .before .before .plain-nodes .ensures) (not-false _ (c .before .before .before .before .if1 .left)) (k .0) (k .1)
+against-requires c κs = let k = literal-kind _ (sym (c .before .is-literal .ensures) ∙ not-false _ (c .if4 .left)) in short-asked (c .before .before .before .before .before .before .before .before .before .before .before .before .before .before .pre) _ (c .before .before .before .before .before .before .before .before .begins .ensures) _ (c .before .before .before .before .before .before .before .plain-nodes .ensures) (not-false _ (c .before .before .before .before .before .if1 .left)) (k .0) (k .1)
 
-returns-4 : tie.Need-returns-4
-returns-4 c = let k = literal-kind _ (sym (c .before .before .is-literal .ensures) ∙ not-false _ (c .before .if3 .left)) in short-compared (c .before .before .before .before .before .before .before .before .before .before .before .before .before .before .pre) _ (c .before .before .before .before .before .before .before .before .begins .ensures) _ (c .before .before .before .before .before .before .before .plain-nodes .ensures) (not-false _ (c .before .before .before .before .before .if1 .left)) (k .0) (k .1) _ (c .against .ensures)
+returns-5 : tie.Need-returns-5
+returns-5 c = let k = literal-kind _ (sym (c .before .before .is-literal .ensures) ∙ not-false _ (c .before .if4 .left)) in short-compared (c .before .before .before .before .before .before .before .before .before .before .before .before .before .before .before .pre) _ (c .before .before .before .before .before .before .before .before .before .begins .ensures) _ (c .before .before .before .before .before .before .before .before .plain-nodes .ensures) (not-false _ (c .before .before .before .before .before .before .if1 .left)) (k .0) (k .1) _ (c .against .ensures)
 
 pub short-test-spec : {M : Type 1} → statement M
 short-test-spec =
@@ -64,7 +66,9 @@ short-test-spec =
     shared-slice-read-mode
     add-t19
     returns-2
-    is-literal-requires
+    beside-requires
     returns-3
+    is-literal-requires
+    returns-4
     against-requires
-    returns-4)
+    returns-5)
