@@ -187,6 +187,12 @@ each v rest i e x R = over (x .f) (nodeAt (tableOf v) (textOf v) R) one-of (tabl
 abbrev pub DoneEach : List (RefT (List ℕ)) → ℕ → ℕ → ℕ → List ℕ → List ℕ → List ℕ → List ℕ → Type 0
 DoneEach v i e rest s l s′ l′ = Gives (Query (planOf v) (poolOf v) rest) (each v rest i e) s l s′ l′
 
+-- the same from the first node on that needs a call
+pub record DoneAhead (v : List (RefT (List ℕ))) (i e rest : ℕ) (s l s′ l′ : List ℕ) (r : ℕ) : Type 0 where
+  pub low : i ≤ r
+  pub room : atOf s′ ≤ capOf s + 1
+  pub goes : (x : Query (planOf v) (poolOf v) rest) (R C : ℕ) → rootOf s ≡ R → capOf s ≡ C → each v rest r e x R (st C l′ (atOf s′)) ≡ each v rest i e x R (st C l (atOf s))
+
 -- ---- the first node from i on for which the test from p up to z holds
 
 pub record AskNext (v : List (RefT (List ℕ))) (root i e p z : ℕ) : Type 0 where

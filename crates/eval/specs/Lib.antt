@@ -8,3 +8,4 @@ pub mod Queries
 pub mod Loops
 pub mod Fronts
 pub mod Alone
+pub mod Aheads

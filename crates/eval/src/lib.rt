@@ -13,7 +13,7 @@ ghost use Rattle.filters.specs.Queries.{Within};
 ghost use Rattle.filters.specs.Kept.{AskTest, DoneTest};
 ghost use Rattle.filters.specs.Tests.{AskRest, DoneRest};
 ghost use Rattle.eval.specs.Lent.{planOf, poolOf, tableOf, textOf};
-ghost use Rattle.eval.specs.Asks.{Begins, AskSegments, DoneSegments, Asked, Steady, AskSegment, DoneSegment, AskEnter, Entered, AskSelectors, DoneSelectors, AskDescent, DoneDescent, AskSelector, DoneSelector, AskKind, AskEach, DoneEach, AskFlats, DoneFlats, DoneKeep, AskNext, DoneNext, AskQuery, DoneQuery};
+ghost use Rattle.eval.specs.Asks.{Begins, AskSegments, DoneSegments, Asked, Steady, AskSegment, DoneSegment, AskEnter, Entered, AskSelectors, DoneSelectors, AskDescent, DoneDescent, AskSelector, DoneSelector, AskKind, AskEach, DoneEach, DoneAhead, AskFlats, DoneFlats, DoneKeep, AskNext, DoneNext, AskQuery, DoneQuery};
 use equal::Operand;
 use equal::members::Member;
 use filters::kept;
@@ -134,10 +134,46 @@ fn first(lent: &[&[u8]; 4], state: &mut [usize; 3], list: &mut &mut [u32], node:
         let table = lent[TABLE];
         let i = records::first_child(table, node) as usize;
         let n = records::child_count(table, node) as usize;
-        each_child(lent, state, list, i, i + n, pc + 4);
+        let j = ahead(lent, state, list, i, i + n, pc + 4);
+        each_child(lent, state, list, j, i + n, pc + 4);
         return;
     }
     evaluate_segment(lent, state, list, node, pc);
+}
+
+// The first node from i on that needs a call with the segments at rest, or e. What names and indices up to the end lead to from those before it is pushed.
+fn ahead(
+    lent: &[&[u8]; 4],
+    state: &mut [usize; 3],
+    list: &mut &mut [u32],
+    i: usize,
+    e: usize,
+    rest: usize,
+) -> usize
+    requires { ⌜ Asked (now lent) (now state) (now (now list)) ⌝ }
+    requires { ⌜ AskEach (now lent) i e rest ⌝ }
+    ensures { λ r. ⌜ Steady (now (state .entry)) (now (list .entry)) (now (state .exit)) (now (list .exit)) ⌝ }
+    ensures { λ r. ⌜ DoneAhead (now (lent .entry)) i e rest (now (state .entry)) (now (now (list .entry))) (now (state .exit)) (now (now (list .exit))) r ⌝ }
+{
+    let plan = lent[PLAN];
+    if !straight::leads(plan, rest) {
+        return i;
+    }
+    let at = state[AT];
+    let r = straight::push_along(
+        plan,
+        lent[POOL],
+        lent[TABLE],
+        lent[TEXT],
+        i,
+        e,
+        rest,
+        *list,
+        at,
+        state[CAP],
+    );
+    state[AT] = r.at;
+    r.i
 }
 
 // One node with the segments at pc.

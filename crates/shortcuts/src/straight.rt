@@ -1,14 +1,27 @@
-// A child segment of one slice at the end of a query: its places are pushed.
+// A child segment of one slice at the end of a query: its places are pushed. A range of nodes with names and indices behind it: what they lead to is pushed.
 use steps::leaves;
 use table::records;
 use text::bytes;
+ghost use Prim.Native.Nat.{_≤_};
 ghost use lib.ListN.{length};
+ghost use Rattle.definition.specs.Limits.{maxPlan};
+ghost use Rattle.shortcuts.specs.Alongs.{AskAlong, DoneAlong};
 ghost use Rattle.shortcuts.specs.Straights.{AskLast, DoneLast, LastSlice, AskStraight, DoneSlice};
 
 // The first four bytes of a child segment of one selector, as a number: the segment's kind, the number of its selectors, and the selector's kind.
+const NAME_HEAD: usize = 0x05000103;
+
+const INDEX_HEAD: usize = 0x06000103;
+
 const SLICE_HEAD: usize = 0x07000103;
 
 const END: u8 = 0x0A;
+
+// The first node of a range that is left, and the next place of the list of nodes.
+pub struct Passed {
+    pub i: usize,
+    pub at: usize,
+}
 
 // Whether the segment at pc is a child segment of one slice and the query ends behind it.
 pub fn is_last_slice(plan: &[u8], pc: usize) -> bool
@@ -41,4 +54,58 @@ pub fn push_slice(
     let first = records::low_word(table, node) as usize;
     let v = visits::placed(table, first, w);
     visits::push_places(list, v, at, cap)
+}
+
+// Whether names and indices, one at least, lead from rest to the last byte of the plan. It only says which way is the faster one.
+pub fn leads(plan: &[u8], rest: usize) -> bool
+    requires { ⌜ (length (now plan) ≤ maxPlan) × (rest ≤ length (now plan)) ⌝ }
+{
+    let mut q = rest;
+    while q + 8 <= plan.len() {
+        let head = bytes::word32(plan, q);
+        if head == NAME_HEAD {
+            q += 8;
+        } else {
+            if head != INDEX_HEAD {
+                return false;
+            }
+            q += 12;
+        }
+    }
+    if q == rest {
+        return false;
+    }
+    q + 1 == plan.len()
+}
+
+// The nodes from i up to e with the query at rest, up to the first that needs more than names and indices.
+pub fn push_along(
+    plan: &[u8],
+    pool: &[u8],
+    table: &[u8],
+    text: &[u8],
+    i: usize,
+    e: usize,
+    rest: usize,
+    list: &mut [u32],
+    at: usize,
+    cap: usize,
+) -> Passed
+    requires { ⌜ AskAlong (now plan) (now pool) (now table) (now text) i e rest (length (now list)) at cap ⌝ }
+    ensures { λ r. ⌜ DoneAlong (now (plan .entry)) (now (pool .entry)) (now (table .entry)) (now (text .entry)) i e rest cap (now (list .entry)) at (now (list .exit)) r ⌝ }
+{
+    let mut a = at;
+    let mut j = i;
+    while j < e {
+        if cap < a {
+            return Passed { i: j, at: a };
+        }
+        let v = visits::visit(plan, pool, table, text, j, rest, list, a, cap);
+        if v.more {
+            return Passed { i: j, at: a };
+        }
+        a = v.at;
+        j += 1;
+    }
+    Passed { i: j, at: a }
 }

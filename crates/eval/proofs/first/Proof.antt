@@ -4,6 +4,7 @@ use Rattle.eval.proofs.first.Statement.{statement}
 use Rattle.eval.proofs.first.Tie as tie
 use Rattle.eval.proofs.first.Reads as reads
 use Rattle.eval.proofs.first.Lts as lts
+use Rattle.eval.proofs.ahead.Reads as ahead-reads
 use Rattle.eval.proofs.each_child.Reads as each-child-reads
 use Rattle.eval.proofs.each_place.Reads as each-place-reads
 use Rattle.eval.proofs.eval_filter.Reads as eval-filter-reads
@@ -21,6 +22,7 @@ use borrow.Author.Tests.{not-true, not-false}
 use Rattle.walks.specs.Ranges.{range-of}
 use Rattle.eval.specs.Steady.{steady-then, asked-later}
 use Rattle.eval.specs.Kinds.{rest-in, each-asked, wildcard-done, kept-after, kept-room}
+use Rattle.eval.specs.Aheads.{ahead-each, ahead-then}
 use Rattle.eval.specs.Alone.{enter-bound, enter-head, enter-selector, enter-done, slice-ends, wildcard-ends, filter-fits, filter-ends}
 
 element-copy-out-plan : tie.Need-element-copy-out-plan
@@ -125,14 +127,14 @@ child-count-requires c κs = c .before .before .before .before .before .before .
 cast-n : tie.Need-cast-n
 cast-n c = search needs
 
-add-each-child : tie.Need-add-each-child
-add-each-child c = omega (arith, c .before .before .before .first-child .ok, c .before .before .child-count .ok)
+add-ahead : tie.Need-add-ahead
+add-ahead c = omega (arith, c .before .before .before .first-child .ok, c .before .before .child-count .ok)
 
-add-each-child-2 : tie.Need-add-each-child-2
-add-each-child-2 c = let p = c .before .before .before .before .before .before .before .before .before .before .before .before .pre in omega (arith, enter-bound p, p .asked .given .fewP)
+add-ahead-2 : tie.Need-add-ahead-2
+add-ahead-2 c = let p = c .before .before .before .before .before .before .before .before .before .before .before .before .pre in omega (arith, enter-bound p, p .asked .given .fewP)
 
-each-child-requires : tie.Need-each-child-requires
-each-child-requires c κs =
+ahead-requires : tie.Need-ahead-requires
+ahead-requires c κs =
     let p = c .before .before .before .before .before .before .before .before .before .before .before .before .pre in
     let b : (k : ℕ) → getD (planOf (c .before .before .before .before .before .before .before .before .before .before .before .before .args .lent .now)) k 0 < 256 = λ k. c .before .before .before .before .before .before .before .before .before .before .shared-slice-known .given k .fits in
     let h = enter-head p 8 b (c .before .before .before .before .before .before .before .before .word32 .ensures) (c .before .before .before .before .before .if5 .taken) in
@@ -140,15 +142,32 @@ each-child-requires c κs =
     let g = range-of _ _ (p .asked .given .tab) _ (p .segment .node-in) _ _ (c .before .before .before .first-child .ensures) (c .before .before .child-count .ensures) in
     (p .asked, each-asked (p .asked) q g)
 
+add-each-child : tie.Need-add-each-child
+add-each-child c = omega (arith, c .before .before .before .before .before .before .first-child .ok, c .before .before .before .before .before .child-count .ok)
+
+add-each-child-2 : tie.Need-add-each-child-2
+add-each-child-2 c = let p = c .before .before .before .before .before .before .before .before .before .before .before .before .before .before .before .pre in omega (arith, enter-bound p, p .asked .given .fewP)
+
+each-child-requires : tie.Need-each-child-requires
+each-child-requires c κs =
+    let p = c .before .before .before .before .before .before .before .before .before .before .before .before .before .before .before .pre in
+    let b : (k : ℕ) → getD (planOf (c .before .before .before .before .before .before .before .before .before .before .before .before .before .before .before .args .lent .now)) k 0 < 256 = λ k. c .before .before .before .before .before .before .before .before .before .before .before .before .before .shared-slice-known .given k .fits in
+    let h = enter-head p 8 b (c .before .before .before .before .before .before .before .before .before .before .before .word32 .ensures) (c .before .before .before .before .before .before .before .before .if5 .taken) in
+    let q = enter-selector p h (wildcard-ends p b (c .before .before .before .before .before .before .before .before .before .before .before .word32 .ensures) (c .before .before .before .before .before .before .before .before .if5 .taken)) in
+    let g = range-of _ _ (p .asked .given .tab) _ (p .segment .node-in) _ _ (c .before .before .before .before .before .before .first-child .ensures) (c .before .before .before .before .before .child-count .ensures) in
+    let a = c .before .before .ahead .ensures in
+    (asked-later (a .0) (p .asked) (a .1 .room), ahead-each (a .1) (each-asked (p .asked) q g))
+
 returns-5 : tie.Need-returns-5
 returns-5 c =
-    let p = c .before .before .before .before .before .before .before .before .before .before .before .before .before .pre in
-    let b : (k : ℕ) → getD (planOf (c .before .before .before .before .before .before .before .before .before .before .before .before .before .args .lent .now)) k 0 < 256 = λ k. c .before .before .before .before .before .before .before .before .before .before .before .shared-slice-known .given k .fits in
-    let h = enter-head p 8 b (c .before .before .before .before .before .before .before .before .before .word32 .ensures) (c .before .before .before .before .before .before .if5 .taken) in
-    let q = enter-selector p h (wildcard-ends p b (c .before .before .before .before .before .before .before .before .before .word32 .ensures) (c .before .before .before .before .before .before .if5 .taken)) in
-    let g = range-of _ _ (p .asked .given .tab) _ (p .segment .node-in) _ _ (c .before .before .before .before .first-child .ensures) (c .before .before .before .child-count .ensures) in
+    let p = c .before .before .before .before .before .before .before .before .before .before .before .before .before .before .before .before .pre in
+    let b : (k : ℕ) → getD (planOf (c .before .before .before .before .before .before .before .before .before .before .before .before .before .before .before .before .args .lent .now)) k 0 < 256 = λ k. c .before .before .before .before .before .before .before .before .before .before .before .before .before .before .shared-slice-known .given k .fits in
+    let h = enter-head p 8 b (c .before .before .before .before .before .before .before .before .before .before .before .before .word32 .ensures) (c .before .before .before .before .before .before .before .before .before .if5 .taken) in
+    let q = enter-selector p h (wildcard-ends p b (c .before .before .before .before .before .before .before .before .before .before .before .before .word32 .ensures) (c .before .before .before .before .before .before .before .before .before .if5 .taken)) in
+    let g = range-of _ _ (p .asked .given .tab) _ (p .segment .node-in) _ _ (c .before .before .before .before .before .before .before .first-child .ensures) (c .before .before .before .before .before .before .child-count .ensures) in
+    let a = c .before .before .before .ahead .ensures in
     let d = c .each-child .ensures in
-    enter-done p h (wildcard-ends p b (c .before .before .before .before .before .before .before .before .before .word32 .ensures) (c .before .before .before .before .before .before .if5 .taken)) (d .0) (wildcard-done (p .asked) q g (h .kind-is) (d .1))
+    enter-done p h (wildcard-ends p b (c .before .before .before .before .before .before .before .before .before .before .before .before .word32 .ensures) (c .before .before .before .before .before .before .before .before .before .if5 .taken)) (steady-then (a .0) (d .0)) (wildcard-done (p .asked) q g (h .kind-is) (ahead-then (a .1) (a .0) (d .1)))
 
 evaluate-segment-requires-2 : tie.Need-evaluate-segment-requires-2
 evaluate-segment-requires-2 c κs = let p = c .before .before .before .before .before .before .before .before .before .pre in (p .asked, p .segment)
@@ -182,6 +201,9 @@ first-spec =
     cast-i
     child-count-requires
     cast-n
+    add-ahead
+    add-ahead-2
+    ahead-requires
     add-each-child
     add-each-child-2
     each-child-requires
