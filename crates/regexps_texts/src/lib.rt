@@ -1,0 +1,1 @@
+// Expressions and texts as UTF-8 bytes: what match and search say of two byte texts. No code.
