@@ -1,0 +1,4 @@
+pub mod OfChars
+pub mod OfItems
+pub mod OfCounts
+pub mod Stores
