@@ -1,0 +1,4 @@
+pub mod Parts
+pub mod OfClasses
+pub mod OfAtoms
+pub mod OfNested
