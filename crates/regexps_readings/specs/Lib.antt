@@ -1,0 +1,4 @@
+pub mod Steps
+pub mod Complete
+pub mod Sound
+pub mod Reading
