@@ -67,20 +67,10 @@ fn branch(s: &[u32], code: &mut [u32], st: State) -> Step
     loop {
         if stop_at(s, at) {
             code[len] = 0;
-            return Step::Next(State {
-                at,
-                len: len + 1,
-            });
+            return Step::Next(State { at, len: len + 1 });
         }
         code[len] = 2;
-        match piece(
-            s,
-            code,
-            State {
-                at,
-                len: len + 1,
-            },
-        ) {
+        match piece(s, code, State { at, len: len + 1 }) {
             Step::Stop => return Step::Stop,
             Step::Next(n) => {
                 at = n.at;
@@ -103,10 +93,7 @@ fn alts(s: &[u32], code: &mut [u32], st: State) -> Step
                 let end = n.at;
                 let out = n.len;
                 if !is(s, end, 0x7C) {
-                    return Step::Next(State {
-                        at: end,
-                        len: out,
-                    });
+                    return Step::Next(State { at: end, len: out });
                 }
                 insert(code, len, out, 3);
                 at = end + 1;
