@@ -1,31 +1,24 @@
 -- The scalar values of bytes, one byte at a time, and the expression of them. Assumes nothing.
 use mathlib.Core.Path.{_≡_, refl, ap, sym, _∙_}
-use mathlib.Core.Bool.{Bool, true, false, cond}
+use mathlib.Core.Bool.{true, false}
 use mathlib.Core.List.{List, [], _∷_, _++_, append-assoc, append-nil}
-use mathlib.Core.Option.{Option, none, some}
 use Prim.Native.Nat.{ℕ, zero, suc, _+_, _-_, _*_, _≤_, _<_}
 use native.Mathlib.Omega.{arith}
 use native.Mathlib.Numerals.{add-one}
 use borrow.Author.Tests.{lt-ltb, le-ltb, le-leb, lt-leb}
-use lib.Dec.{ltb, leb}
 use lib.ListN.{length, drop, take, getD, set, length-append, drop-of-length-le}
-use lib.Seq.{sets, length-sets, sets-eq, drop-cons, getD-drop, take-at}
+use lib.Seq.{sets-eq, drop-cons, getD-drop, take-at}
 use Rattle.definition.specs.Bytes.{within}
 use Rattle.utf8.specs.Unique.{point}
-use Rattle.utf8.specs.Decode.{marks2, marks3, marks4}
 use Rattle.reading.specs.Reads.{Wrote}
-use Rattle.regexps.specs.Chars.{maxExpression}
-use Rattle.regexps.specs.Regexp.{Regexp}
-use Rattle.regexps.specs.Read.{readRegexp}
 use Rattle.regexps_texts.specs.Scalars.{scalarsOf}
 use Rattle.regexps_texts.specs.Tests.{regexpOf}
-use Rattle.regex_leaves.proofs.Stores.{sets-append}
 use Rattle.regex_reader.specs.Reads.{ReadsWhole}
 use Rattle.regex_reader.specs.Reads.ReadsWhole.{code as whole-code, outside as whole-outside}
 use Rattle.regex_reader.specs.declared.nested.Reading.{Reading}
 use Rattle.regex_reader.specs.declared.nested.Reading.the-variants as reading
 use Rattle.regex_reader.proofs.Parts.{wrote-then}
-use Rattle.regex_bytes.specs.Bytes.{byteAt, OneMore, Scalars, ReadsBytes, IsCode}
+use Rattle.regex_bytes.specs.Bytes.{OneMore, Scalars, ReadsBytes}
 use Rattle.regex_bytes.specs.Bytes.ReadsBytes.{code, outside}
 
 -- behind the end stands nothing

@@ -1,11 +1,9 @@
 -- What the reader of bytes answers.
 use mathlib.Core.Path.{_≡_}
-use mathlib.Core.Bool.{Bool, true, false, cond}
-use mathlib.Core.List.{List, [], _∷_, _++_}
-use mathlib.Core.Option.{Option, none, some}
-use Prim.Native.Nat.{ℕ, _+_, _-_, _≤_, _<_}
+use mathlib.Core.List.{List, [], _++_}
+use mathlib.Core.Option.{none, some}
+use Prim.Native.Nat.{ℕ, _+_, _-_, _≤_}
 use lib.ListN.{length, drop, getD}
-use lib.Seq.{sets}
 use Rattle.reading.specs.Reads.{Wrote}
 use Rattle.regexps.specs.Regexp.{Regexp}
 use Rattle.regexps_texts.specs.Scalars.{scalarsOf}

@@ -1,14 +1,13 @@
 -- What `skip` answers at each kind of word. Assumes nothing.
-use mathlib.Core.Path.{_≡_, refl, ap, sym, _∙_, subst}
-use mathlib.Core.List.{List, [], _∷_, _++_}
+use mathlib.Core.Path.{_≡_, ap, sym, _∙_}
+use mathlib.Core.List.{List, _∷_}
 use mathlib.Core.Bool.{Bool}
-use Prim.Native.Nat.{ℕ, zero, suc, _+_, _-_, _*_, _≤_, _<_}
+use Prim.Native.Nat.{ℕ, _+_, _-_, _*_, _≤_, _<_}
 use native.Mathlib.Omega.{arith}
 use lib.ListN.{length, drop, getD, drop-of-length-le, length-drop}
 use lib.Seq.{drop-drop}
-use Rattle.regexps.specs.Words.{Most, upto, any}
-use Rattle.regexps.specs.Regexp.{Range, Regexp, empty, class, then, or, times}
-use Rattle.regex_code.specs.Flat.{flat, of-empty, of-class, of-then, of-or, of-upto, of-any, of-other, of-nothing, word, behind, word-of, flag, flatRanges, drop-ranges}
+use Rattle.regexps.specs.Regexp.{Range, class}
+use Rattle.regex_code.specs.Flat.{of-empty, of-class, of-then, of-or, of-upto, of-any, of-other, of-nothing, word, behind, word-of, flatRanges, drop-ranges}
 use Rattle.regex_code.specs.Skips.{Skips, SkipsClass}
 
 module _ (s : List ℕ) where

@@ -1,16 +1,16 @@
 -- What is read at a place, one level of the definition at a time: characters. Assumes nothing.
 use mathlib.Core.Path.{_≡_, refl, ap, sym, _∙_}
 use mathlib.Core.Bool.{Bool, true, false, cond, not}
-use mathlib.Core.List.{List, [], _∷_}
-use mathlib.Core.Option.{Option, none, some}
-use Prim.Native.Nat.{ℕ, suc, _+_, _-_, _≤_, _<_}
+use mathlib.Core.List.{List, _∷_}
+use mathlib.Core.Option.{Option}
+use Prim.Native.Nat.{ℕ, _+_, _-_, _≤_, _<_}
 use native.Mathlib.Omega.{arith}
 use native.Mathlib.Numerals.{add-one}
 use borrow.Author.Tests.{ltb-true, ltb-false}
-use lib.Dec.{eqb, leb, ltb}
+use lib.Dec.{eqb, ltb}
 use lib.ListN.{length, drop, getD, drop-of-length-le}
 use lib.Seq.{drop-cons}
-use Rattle.regexps.specs.Chars.{isNormal, isEscaped, isClassChar, escapeValue}
+use Rattle.regexps.specs.Chars.{isEscaped, isClassChar, escapeValue}
 use Rattle.regexps.specs.Read.{begins, rest, readEscape, readBare, readCCchar}
 use Rattle.regex_leaves.specs.Reads.{Is, ReadChar}
 use Rattle.regex_leaves.specs.Reads.ReadChar.{next, stop}

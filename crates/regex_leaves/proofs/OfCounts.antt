@@ -1,17 +1,16 @@
 -- What is read at a place, one level of the definition at a time: quantifiers. Assumes nothing.
-use mathlib.Core.Path.{_≡_, refl, ap, sym, _∙_}
-use mathlib.Core.Bool.{Bool, true, false, cond, not, _&&_, and-eq-true-iff}
-use mathlib.Core.List.{List, [], _∷_}
-use mathlib.Core.Option.{Option, none, some}
+use mathlib.Core.Path.{_≡_, refl, _∙_}
+use mathlib.Core.Bool.{true, false, and-eq-true-iff}
+use mathlib.Core.List.{List}
+use mathlib.Core.Option.{Option}
 use Prim.Native.Nat.{ℕ, _+_, _-_, _*_, _≤_, _<_}
 use native.Mathlib.Omega.{arith}
 use borrow.Author.Tests.{le-leb, lt-leb, leb-true}
 use lib.Dec.{leb}
 use lib.ListN.{length, drop, getD, drop-of-length-le}
 use Rattle.regexps.specs.Chars.{isDigit}
-use Rattle.regexps.specs.Words.{Most, upto, any}
-use Rattle.regexps.specs.Regexp.{Regexp, times}
-use Rattle.regexps.specs.Read.{begins, rest, andThen, beginsDigit, countFrom, readCount, readUpper, readBraces, readQuantifier}
+use Rattle.regexps.specs.Words.{Most}
+use Rattle.regexps.specs.Read.{begins, beginsDigit, countFrom, readCount, readUpper, readBraces, readQuantifier}
 use Rattle.regex_leaves.specs.Reads.{ReadChar, ReadBraces, ReadQuantifier}
 use Rattle.regex_leaves.specs.Reads.ReadChar.{next as char-next, stop as char-stop}
 use Rattle.regex_leaves.specs.Reads.ReadBraces.{bounded as braces-bounded, endless as braces-endless, stop as braces-none}

@@ -1,17 +1,16 @@
 -- What is read at a place, one level of the definition at a time: the items of a class. Assumes nothing.
-use mathlib.Core.Path.{_≡_, refl, ap, sym, _∙_}
-use mathlib.Core.Bool.{Bool, true, false, cond, not, _&&_}
-use mathlib.Core.List.{List, [], _∷_}
+use mathlib.Core.Path.{_≡_, _∙_}
+use mathlib.Core.Bool.{true, false}
+use mathlib.Core.List.{List}
 use mathlib.Core.Option.{Option, none, some}
-use Prim.Native.Nat.{ℕ, _+_, _-_, _≤_, _<_}
+use Prim.Native.Nat.{ℕ, _+_, _-_, _≤_}
 use native.Mathlib.Omega.{arith}
-use lib.ListN.{length, drop, getD}
+use lib.ListN.{length, drop}
 use Rattle.regexps.specs.Regexp.{Range}
-use Rattle.regexps.specs.Read.{begins, rest, andThen, readCCchar, readEnd, readItem, readFirst}
+use Rattle.regexps.specs.Read.{begins, readCCchar, readEnd, readItem, readFirst}
 use Rattle.regex_leaves.specs.Reads.{ReadChar, ReadItem}
 use Rattle.regex_leaves.specs.Reads.ReadChar.{next as char-next, stop as char-stop}
 use Rattle.regex_leaves.specs.Reads.ReadItem.{next, stop}
-use Rattle.regex_leaves.specs.declared.chars.Char.{Char}
 use Rattle.regex_leaves.specs.declared.chars.Char.the-variants as char
 use Rattle.regex_leaves.specs.declared.items.Item.{Item}
 use Rattle.regex_leaves.specs.declared.items.Item.the-variants as item

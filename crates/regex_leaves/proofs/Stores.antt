@@ -2,13 +2,11 @@
 use mathlib.Core.Path.{_≡_, refl, ap, sym, _∙_}
 use mathlib.Core.Logic.{_≢_}
 use mathlib.Core.List.{List, [], _∷_, _++_, append-assoc}
-use Prim.Native.Nat.{ℕ, zero, suc, _+_, _-_, _≤_, _<_}
+use Prim.Native.Nat.{ℕ, suc, _+_, _-_, _≤_, _<_}
 use native.Mathlib.Omega.{arith}
-use native.Mathlib.Nat.{add-zero, zero-add}
-use native.Mathlib.Numerals.{add-one}
+use native.Mathlib.Nat.{add-zero}
 use lib.ListN.{length, drop, take, getD, set, length-drop}
 use lib.Seq.{sets, length-sets, sets-eq, set-set, set-comm, take-suc, take-all, take-at, drop-at, length-take-le, getD-set-other, getD-take, getD-drop}
-use Rattle.reading.specs.Reads.{Wrote}
 use Rattle.regex_leaves.specs.Reads.{Inserted}
 
 -- two runs of stores, one behind the other

@@ -1,9 +1,9 @@
 -- What the leaves answer: `out` is what the definition reads at a place of the characters s; what is left begins no earlier than `from`.
 use mathlib.Core.Path.{_≡_}
 use mathlib.Core.Bool.{Bool, true}
-use mathlib.Core.List.{List, [], _∷_}
+use mathlib.Core.List.{List, _∷_}
 use mathlib.Core.Option.{Option, none, some}
-use Prim.Native.Nat.{ℕ, _+_, _-_, _≤_, _<_}
+use Prim.Native.Nat.{ℕ, _-_, _≤_, _<_}
 use lib.ListN.{length, drop}
 use Rattle.reading.specs.Reads.{Wrote}
 use Rattle.regexps.specs.Words.{Most, upto, any}

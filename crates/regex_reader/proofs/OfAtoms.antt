@@ -1,26 +1,23 @@
 -- Atoms that are no groups, and repeats, one level of the definition at a time. Assumes nothing.
-use mathlib.Core.Path.{_≡_, refl, ap, sym, _∙_}
-use mathlib.Core.Bool.{Bool, true, false, _||_, cond}
-use mathlib.Core.List.{List, [], _∷_, _++_}
-use mathlib.Core.Option.{Option, none, some}
-use Prim.Native.Nat.{ℕ, zero, suc, _+_, _-_, _*_, _≤_, _<_}
+use mathlib.Core.Path.{_≡_, refl, sym, _∙_}
+use mathlib.Core.Bool.{Bool, true, false, _||_}
+use mathlib.Core.List.{List, [], _∷_}
+use mathlib.Core.Option.{Option, some}
+use Prim.Native.Nat.{ℕ, _+_, _-_, _≤_, _<_}
 use native.Mathlib.Omega.{arith}
 use lib.Dec.{eqb}
-use lib.ListN.{length, drop, getD, set, drop-of-length-le}
+use lib.ListN.{length, drop, getD, drop-of-length-le}
 use Rattle.reading.specs.Reads.{Wrote}
 use Rattle.regexps.specs.Chars.{isNormal}
-use Rattle.regexps.specs.Regexp.{Range, Regexp, class}
-use Rattle.regexps.specs.Grammar.{only, char, dot}
-use Rattle.regexps.specs.Read.{begins, rest, andThen, stops, readEscape, readBare, readClass, readLeaf}
-use Rattle.regex_code.specs.Flat.{flat, flatRanges}
+use Rattle.regexps.specs.Regexp.{Regexp}
+use Rattle.regexps.specs.Grammar.{char, dot}
+use Rattle.regexps.specs.Read.{begins, andThen, stops, readEscape, readBare, readLeaf}
 use Rattle.regex_leaves.specs.Reads.{Is, ReadChar, Inserted}
 use Rattle.regex_leaves.specs.declared.chars.Char.{Char}
-use Rattle.regex_leaves.specs.declared.chars.Char.the-variants as ch
-use Rattle.regex_leaves.specs.declared.counts.Quant.{Quant}
 use Rattle.regex_leaves.specs.declared.counts.Quant.the-variants as quant
 use Rattle.regex_leaves.proofs.OfChars.{drop-at, behind}
 use Rattle.regex_leaves.proofs.OfItems.{char-is, char-none}
-use Rattle.regex_reader.specs.Reads.{Read, Post, PutChar, Repeats, outClass, outLeaf}
+use Rattle.regex_reader.specs.Reads.{Post, PutChar, Repeats, outClass, outLeaf}
 use Rattle.regex_reader.specs.Reads.Post.{next, stop}
 use Rattle.regex_reader.specs.Reads.PutChar.{next as put-next, stop as put-stop}
 use Rattle.regex_reader.specs.Reads.Repeats.{endless, bounded}

@@ -1,27 +1,24 @@
 -- A class, one level of the definition at a time. Assumes nothing.
 use mathlib.Core.Path.{_≡_, refl, ap, sym, _∙_}
-use mathlib.Core.Bool.{Bool, true, false, _&&_, cond}
+use mathlib.Core.Bool.{Bool, true, false, cond}
 use mathlib.Core.List.{List, [], _∷_, _++_, append-assoc, append-nil}
 use mathlib.Core.Option.{Option, none, some}
 use Prim.Native.Nat.{ℕ, zero, suc, _+_, _-_, _*_, _≤_, _<_}
 use native.Mathlib.Omega.{arith}
 use lib.ListN.{length, drop, set, length-append}
 use Rattle.reading.specs.Reads.{Wrote}
-use Rattle.regexps.specs.Regexp.{Range, Regexp, class}
+use Rattle.regexps.specs.Regexp.{Range, class}
 use Rattle.regexps.specs.Grammar.{only}
-use Rattle.regexps.specs.Read.{begins, rest, andThen, readItem, readFirst, readItems, readRanges, readClass}
+use Rattle.regexps.specs.Read.{begins, rest, readItem, readFirst, readItems, readRanges, readClass}
 use Rattle.regex_code.specs.Flat.{flag, flat, flatRanges, flat-ranges-append}
 use Rattle.regex_leaves.specs.Reads.{Is, ReadItem}
 use Rattle.regex_leaves.specs.Reads.ReadItem.{next as item-next, stop as item-stop}
-use Rattle.regex_leaves.specs.declared.items.Item.{Item}
 use Rattle.regex_leaves.specs.declared.items.Item.the-variants as item
 use Rattle.regex_leaves.proofs.OfChars.{rest-at, behind}
-use Rattle.regex_reader.specs.Reads.{IsEnd, ReadItems, PostRanges, Read, Post, isComplement, outRanges, outClass}
+use Rattle.regex_reader.specs.Reads.{IsEnd, ReadItems, PostRanges, Post, isComplement, outRanges, outClass}
 use Rattle.regex_reader.specs.Reads.PostRanges.{next as ranges-next, stop as ranges-stop}
 use Rattle.regex_reader.specs.Reads.Post.{next, stop}
-use Rattle.regex_reader.specs.declared.classes.More.{More}
 use Rattle.regex_reader.specs.declared.classes.More.the-variants as more
-use Rattle.regex_reader.specs.declared.steps.State.{State}
 use Rattle.regex_reader.specs.declared.steps.Step.{Step}
 use Rattle.regex_reader.specs.declared.steps.Step.the-variants as step
 use Rattle.regex_reader.proofs.Parts.{ranges-behind, length-ranges, wrote-then, third, same-post}

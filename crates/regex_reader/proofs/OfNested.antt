@@ -9,17 +9,16 @@ use native.Mathlib.Nat.{le-refl}
 use borrow.Author.Tests.{ltb-true, ltb-false}
 use lib.Dec.{ltb}
 use lib.ListN.{length, drop, set, length-set, length-append, drop-of-length-le}
-use lib.Seq.{sets}
 use Rattle.reading.specs.Reads.{Wrote}
-use Rattle.regexps.specs.Words.{Most, upto, any}
-use Rattle.regexps.specs.Regexp.{Range, Regexp, empty, then, or, times}
-use Rattle.regexps.specs.Read.{begins, rest, andThen, stops, allRead, readQuantifier, readLeaf, readAtom, readPiece, readBranch, readAlternatives, readRegexp}
+use Rattle.regexps.specs.Words.{upto, any}
+use Rattle.regexps.specs.Regexp.{Regexp, empty, then, or, times}
+use Rattle.regexps.specs.Read.{begins, rest, andThen, stops, readQuantifier, readLeaf, readAtom, readPiece, readBranch, readAlternatives, readRegexp}
 use Rattle.regex_code.specs.Flat.{flat}
 use Rattle.regex_leaves.specs.Reads.{Is, ReadQuantifier, Inserted}
 use Rattle.regex_leaves.specs.Reads.ReadQuantifier.{bounded as quant-bounded, endless as quant-endless, once as quant-once, stop as quant-none}
 use Rattle.regex_leaves.specs.declared.counts.Quant.{Quant}
 use Rattle.regex_leaves.proofs.OfChars.{drop-at, behind}
-use Rattle.regex_reader.specs.Reads.{Room, Read, Post, Repeats, outLeaf, outAtom, outPiece, outBranch, outAlternatives, ReadsWhole, IsCode}
+use Rattle.regex_reader.specs.Reads.{Room, Read, Post, Repeats, outLeaf, outAtom, outPiece, outBranch, outAlternatives, ReadsWhole}
 use Rattle.regex_reader.specs.Reads.Post.{next, stop}
 use Rattle.regex_reader.specs.Reads.Repeats.{once, endless, bounded, stop as repeat-none}
 use Rattle.regex_reader.specs.Reads.ReadsWhole.{code, outside}
@@ -27,7 +26,7 @@ use Rattle.regex_reader.specs.declared.steps.State.{State}
 use Rattle.regex_reader.specs.declared.steps.Step.{Step}
 use Rattle.regex_reader.specs.declared.steps.Step.the-variants as step
 use Rattle.regex_reader.specs.declared.nested.Reading.the-variants as reading
-use Rattle.regex_reader.proofs.Parts.{flat-behind, wrote-then, wrote-length, same-post}
+use Rattle.regex_reader.proofs.Parts.{flat-behind, wrote-then, wrote-length}
 use Rattle.regex_reader.proofs.OfAtoms.{stops-end}
 
 -- what an answer that is given says

@@ -1,20 +1,18 @@
 -- Words behind words, and answers handed on. Assumes nothing.
 use mathlib.Core.Path.{_≡_, refl, ap, sym, _∙_}
-use mathlib.Core.Bool.{Bool, true, false}
 use mathlib.Core.List.{List, [], _∷_, _++_, append-assoc}
-use mathlib.Core.Option.{Option, none, some}
-use Prim.Native.Nat.{ℕ, zero, suc, _+_, _-_, _*_, _≤_, _<_}
+use mathlib.Core.Option.{Option}
+use Prim.Native.Nat.{ℕ, suc, _+_, _-_, _*_, _≤_}
 use native.Mathlib.Omega.{arith}
-use lib.ListN.{length, drop, set, length-append}
+use lib.ListN.{length, set}
 use lib.Seq.{sets, set-set, length-sets}
 use Rattle.reading.specs.Reads.{Wrote}
-use Rattle.regexps.specs.Words.{Most, upto, any}
+use Rattle.regexps.specs.Words.{upto, any}
 use Rattle.regexps.specs.Regexp.{Range, Regexp, empty, class, then, or, times}
-use Rattle.regex_code.specs.Flat.{flag, flat, flatRanges, flatTimes}
+use Rattle.regex_code.specs.Flat.{flag, flat, flatRanges}
 use Rattle.regex_leaves.proofs.Stores.{sets-append, set-sets}
-use Rattle.regex_reader.specs.Reads.{Read, Post}
+use Rattle.regex_reader.specs.Reads.{Post}
 use Rattle.regex_reader.specs.Reads.Post.{next, stop}
-use Rattle.regex_reader.specs.declared.steps.State.{State}
 use Rattle.regex_reader.specs.declared.steps.Step.{Step}
 
 -- the words r behind those of ranges, and behind those of an expression

@@ -1,6 +1,6 @@
 -- What the reader's parts answer, and what they are lent. `out n` is what the definition reads in n steps from a place on.
 use mathlib.Core.Path.{_≡_}
-use mathlib.Core.Bool.{Bool, true, false, _&&_, cond}
+use mathlib.Core.Bool.{Bool, true, _&&_}
 use mathlib.Core.List.{List, [], _∷_, _++_}
 use mathlib.Core.Option.{Option, none, some}
 use Prim.Native.Nat.{ℕ, _+_, _-_, _*_, _≤_, _<_}
@@ -8,7 +8,7 @@ use lib.Dec.{eqb}
 use lib.ListN.{length, drop}
 use Rattle.reading.specs.Reads.{Wrote}
 use Rattle.regexps.specs.Regexp.{Range, Regexp}
-use Rattle.regexps.specs.Read.{begins, rest, stops, readItems, readClass, readRanges, readLeaf, readAtom, readPiece, readBranch, readAlternatives, readRegexp}
+use Rattle.regexps.specs.Read.{begins, rest, readItems, readClass, readRanges, readLeaf, readAtom, readPiece, readBranch, readAlternatives, readRegexp}
 use Rattle.regex_code.specs.Flat.{flat, flatRanges}
 use Rattle.regex_leaves.specs.declared.chars.Char.{Char}
 use Rattle.regex_leaves.specs.declared.chars.Char.the-variants as char

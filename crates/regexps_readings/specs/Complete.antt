@@ -1,18 +1,18 @@
 -- What a tree spells is read, and its meaning is what is read. Assumes nothing.
-use mathlib.Core.Path.{_≡_, refl, ap, sym, _∙_}
-use mathlib.Core.Bool.{Bool, true, false, cond, _&&_, _||_, not, and-eq-true-iff}
+use mathlib.Core.Path.{_≡_, refl, ap, _∙_}
+use mathlib.Core.Bool.{Bool, true, false, cond, _&&_, not, and-eq-true-iff}
 use mathlib.Core.List.{List, [], _∷_, _++_, append-assoc, append-nil}
-use mathlib.Core.Option.{Option, none, some}
+use mathlib.Core.Option.{some}
 use Prim.Native.Nat.{ℕ, zero, suc, _+_, _-_, _*_, _≤_, _<_}
 use native.Mathlib.Omega.{arith}
 use native.Mathlib.Nat.{le-refl}
 use borrow.Author.Tests.{eqb-true, le-leb, leb-true}
-use lib.Dec.{eqb, leb}
+use lib.Dec.{eqb}
 use lib.ListN.{length, length-append}
 use Rattle.regexps.specs.Chars.{every, isNormal, isClassChar, isDigit}
-use Rattle.regexps.specs.Regexp.{Range, Regexp, empty, class, then, or, times}
-use Rattle.regexps.specs.Grammar.{CCchar, bareChar, escapedChar, spellCCchar, charOf, CCE1, singleItem, rangeItem, spellItem, rangeOf, CCE1s, noItem, moreItems, spellItems, rangesOf, First, dashFirst, itemFirst, spellFirst, firstOf, spellLast, lastOf, beginsCaret, CharClassExpr, positiveClass, complementClass, spellRanges, spellClass, meaningClass, decimalFrom, Count, spellCount, countOf, Quantifier, star, plus, option, exactly, atLeast, between, spellQuantifier, least, most, Alternatives, lastBranch, moreBranches, Branch, noPiece, morePieces, Piece, plainPiece, repeatedPiece, Atom, charAtom, dotAtom, escapeAtom, classAtom, groupAtom, spellAlternatives, spellBranch, spellPiece, spellAtom, spell, meaning, meaningBranch, meaningPiece, meaningAtom}
-use Rattle.regexps.specs.Read.{begins, rest, andThen, stops, beginsDigit, allRead, steps, readCCchar, readEnd, readItem, readFirst, readItems, readRanges, readClass, countFrom, readCount, readUpper, readBraces, readQuantifier, readLeaf, readAtom, readPiece, readBranch, readAlternatives, readRegexp}
+use Rattle.regexps.specs.Regexp.{Range, Regexp, class, then, or, times}
+use Rattle.regexps.specs.Grammar.{CCchar, bareChar, escapedChar, spellCCchar, charOf, CCE1, singleItem, rangeItem, spellItem, rangeOf, CCE1s, noItem, moreItems, spellItems, rangesOf, First, dashFirst, itemFirst, spellFirst, firstOf, spellLast, lastOf, beginsCaret, positiveClass, complementClass, spellRanges, decimalFrom, Count, spellCount, countOf, Quantifier, star, plus, option, exactly, atLeast, between, spellQuantifier, least, most, Alternatives, lastBranch, moreBranches, Branch, noPiece, morePieces, Piece, plainPiece, repeatedPiece, Atom, charAtom, dotAtom, escapeAtom, classAtom, groupAtom, spellAlternatives, spellBranch, spellPiece, spellAtom, spell, meaning, meaningBranch, meaningPiece, meaningAtom}
+use Rattle.regexps.specs.Read.{begins, rest, stops, beginsDigit, steps, readCCchar, readEnd, readItem, readFirst, readItems, readRanges, readClass, countFrom, readCount, readUpper, readBraces, readQuantifier, readLeaf, readAtom, readPiece, readBranch, readAlternatives, readRegexp}
 use Rattle.regexps_readings.specs.Steps.{by-test, apart, alternatives-step, branch-step, piece-step, atom-step}
 
 -- ---- classes

@@ -1,16 +1,16 @@
 -- THE READING OF AN EXPRESSION IS THAT OF THE GRAMMAR: the characters s are read as the expression x exactly if a tree of the grammar spells
 -- them and means x. So there is one expression at most for each text, and none exactly where no tree spells it. Assumes nothing.
-use mathlib.Core.Path.{_≡_, refl, ap, sym, _∙_}
+use mathlib.Core.Path.{_≡_, ap, sym, _∙_}
 use mathlib.Core.List.{List, [], _∷_}
 use mathlib.Core.Logic.{_↔_}
 use mathlib.Core.Option.{Option, none, some}
 use Prim.Native.Nat.{ℕ}
 use Rattle.regexps.specs.Regexp.{Regexp}
-use Rattle.regexps.specs.Grammar.{Alternatives, spellAlternatives, spell, meaning, Spells}
+use Rattle.regexps.specs.Grammar.{Alternatives, spell, meaning, Spells}
 use Rattle.regexps.specs.Read.{allRead, steps, readAlternatives, readRegexp}
-use Rattle.regexps_readings.specs.Steps.{none-some, some-left, some-right}
+use Rattle.regexps_readings.specs.Steps.{none-some}
 use Rattle.regexps_readings.specs.Complete.{complete}
-use Rattle.regexps_readings.specs.Sound.{Sound, alternatives-sound}
+use Rattle.regexps_readings.specs.Sound.{alternatives-sound}
 
 -- all was read
 all-read : (o : Option (Regexp × List ℕ)) (x : Regexp) → allRead o ≡ some x → o ≡ some (x, [])

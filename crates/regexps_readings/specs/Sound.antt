@@ -1,19 +1,17 @@
 -- What is read, a tree spells, and its meaning is what was read. Assumes nothing.
 use mathlib.Core.Path.{_≡_, refl, ap, ap₂, sym, _∙_}
-use mathlib.Core.Bool.{Bool, true, false, cond, _&&_, _||_, not, and-eq-true-iff}
+use mathlib.Core.Bool.{Bool, true, false, cond, _&&_, not, and-eq-true-iff}
 use mathlib.Core.List.{List, [], _∷_, _++_, append-assoc, append-nil}
-use mathlib.Core.Logic.{_⊎_, inl, inr, ⊎-elim}
 use mathlib.Core.Option.{Option, none, some}
-use Prim.Native.Nat.{ℕ, zero, suc, _+_, _-_, _*_, _≤_, _<_}
+use Prim.Native.Nat.{ℕ, zero, suc, _+_, _-_, _*_, _≤_}
 use native.Mathlib.Omega.{arith}
 use borrow.Author.Tests.{le-leb, leb-true}
-use lib.Dec.{eqb, leb}
-use lib.ListN.{length}
+use lib.Dec.{leb}
 use Rattle.regexps.specs.Chars.{every, isNormal, isEscaped, isClassChar, isDigit, escapeValue}
 use Rattle.regexps.specs.Words.{Most, upto, any}
 use Rattle.regexps.specs.Regexp.{Range, Regexp, empty, class, then, or, times}
-use Rattle.regexps.specs.Grammar.{only, char, dot, CCchar, bareChar, escapedChar, spellCCchar, charOf, CCE1, singleItem, rangeItem, spellItem, rangeOf, CCE1s, noItem, moreItems, spellItems, rangesOf, First, dashFirst, itemFirst, spellFirst, firstOf, spellLast, lastOf, beginsCaret, CharClassExpr, positiveClass, complementClass, spellRanges, spellClass, meaningClass, decimalFrom, Count, spellCount, countOf, Quantifier, star, plus, option, exactly, atLeast, between, spellQuantifier, least, most, Alternatives, lastBranch, moreBranches, Branch, noPiece, morePieces, Piece, plainPiece, repeatedPiece, Atom, charAtom, dotAtom, escapeAtom, classAtom, groupAtom, spellAlternatives, spellBranch, spellPiece, spellAtom, spell, meaning, meaningBranch, meaningPiece, meaningAtom}
-use Rattle.regexps.specs.Read.{begins, rest, andThen, stops, beginsDigit, readEscape, readBare, readCCchar, readEnd, readItem, readFirst, readItems, readRanges, readClass, countFrom, readCount, readUpper, readBraces, readQuantifier, readLeaf, readAtom, readPiece, readBranch, readAlternatives}
+use Rattle.regexps.specs.Grammar.{only, char, dot, bareChar, escapedChar, spellCCchar, charOf, singleItem, rangeItem, spellItem, rangeOf, CCE1s, noItem, moreItems, spellItems, rangesOf, First, dashFirst, itemFirst, spellFirst, firstOf, spellLast, lastOf, beginsCaret, positiveClass, complementClass, spellRanges, spellClass, meaningClass, decimalFrom, Count, spellCount, countOf, Quantifier, star, plus, option, exactly, atLeast, between, spellQuantifier, least, most, lastBranch, moreBranches, noPiece, morePieces, plainPiece, repeatedPiece, charAtom, dotAtom, escapeAtom, classAtom, groupAtom, spellAlternatives, spellBranch, spellPiece, spellAtom, meaning, meaningBranch, meaningPiece, meaningAtom}
+use Rattle.regexps.specs.Read.{begins, rest, andThen, stops, readEscape, readBare, readCCchar, readEnd, readItem, readFirst, readItems, readRanges, readClass, countFrom, readCount, readUpper, readBraces, readQuantifier, readLeaf, readAtom, readPiece, readBranch, readAlternatives}
 use Rattle.regexps_readings.specs.Steps.{by-test, none-some, then-inv, some-left, some-right, begun}
 
 -- s is what a tree spells, with r behind it, and x is the tree's meaning

@@ -1,12 +1,9 @@
+-- `regex_bytes::byte_at` meets its contract. Assumes nothing.
 use Rattle.regex_bytes.proofs.OfBytes.{beyond}
 use native.Mathlib.Omega.{arith}
-use mathlib.Core.Path.{refl, sym, ap, _∙_}
 use borrow.Author.Needs.{needs}
 use Rattle.regex_bytes.proofs.byte_at.Statement.{statement}
 use Rattle.regex_bytes.proofs.byte_at.Tie as tie
-use Rattle.regex_bytes.proofs.byte_at.Reads as reads
-use Rattle.regex_bytes.proofs.byte_at.Lts as lts
-use Rattle.regex_bytes.proofs.wide.Reads as wide-reads
 
 -- src/lib.rt:25:9
 returns : tie.Need-returns

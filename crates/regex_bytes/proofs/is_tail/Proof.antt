@@ -1,11 +1,8 @@
+-- `regex_bytes::is_tail` meets its contract. Assumes nothing.
 use borrow.Author.Tests.{lt-leb, le-leb}
-use borrow.Author.Needs.{needs}
-use native.Mathlib.Omega.{arith}
-use mathlib.Core.Path.{refl, sym, ap, _∙_}
+use mathlib.Core.Path.{refl}
 use Rattle.regex_bytes.proofs.is_tail.Statement.{statement}
 use Rattle.regex_bytes.proofs.is_tail.Tie as tie
-use Rattle.regex_bytes.proofs.is_tail.Reads as reads
-use Rattle.regex_bytes.proofs.is_tail.Lts as lts
 
 -- src/lib.rt:60:9
 returns : tie.Need-returns

@@ -1,13 +1,8 @@
+-- `regex_bytes::point` meets its contract. Assumes nothing.
 use Rattle.regex_bytes.proofs.OfBytes.{point-one, point-two, point-three, point-four}
-use native.Mathlib.Omega.{arith}
-use mathlib.Core.Path.{refl, sym, ap, _∙_}
 use borrow.Author.Needs.{needs}
 use Rattle.regex_bytes.proofs.point.Statement.{statement}
 use Rattle.regex_bytes.proofs.point.Tie as tie
-use Rattle.regex_bytes.proofs.point.Reads as reads
-use Rattle.regex_bytes.proofs.point.Lts as lts
-use Rattle.regex_bytes.proofs.byte_at.Reads as byte-at-reads
-use Rattle.regex_bytes.proofs.minus.Reads as minus-reads
 
 -- src/lib.rt:39:9
 byte-at-requires : tie.Need-byte-at-requires

@@ -1,15 +1,11 @@
+-- `regex_bytes::read_bytes` meets its contract. Assumes nothing.
 use Rattle.regex_bytes.proofs.OfBytes.{written, counted, bytes-long, bytes-read}
 use lib.ListN.{length}
 use Prim.Native.Nat.{_≤_}
 use native.Mathlib.Omega.{arith}
-use mathlib.Core.Path.{refl, sym, ap, _∙_}
 use borrow.Author.Needs.{needs}
 use Rattle.regex_bytes.proofs.read_bytes.Statement.{statement}
 use Rattle.regex_bytes.proofs.read_bytes.Tie as tie
-use Rattle.regex_bytes.proofs.read_bytes.Reads as reads
-use Rattle.regex_bytes.proofs.read_bytes.Lts as lts
-use Rattle.regex_bytes.proofs.scalars.Reads as scalars-reads
-use Rattle.regex_reader.proofs.nested.read.Reads as read-reads
 
 -- src/lib.rt:103:9
 returns : tie.Need-returns

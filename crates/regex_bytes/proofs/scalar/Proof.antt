@@ -1,13 +1,9 @@
+-- `regex_bytes::scalar` meets its contract. Assumes nothing.
 use Rattle.regex_bytes.proofs.OfBytes.{one-none, one-some}
-use native.Mathlib.Omega.{arith}
-use mathlib.Core.Path.{refl, sym, ap, _∙_}
+use mathlib.Core.Path.{sym, _∙_}
 use borrow.Author.Needs.{needs}
 use Rattle.regex_bytes.proofs.scalar.Statement.{statement}
 use Rattle.regex_bytes.proofs.scalar.Tie as tie
-use Rattle.regex_bytes.proofs.scalar.Reads as reads
-use Rattle.regex_bytes.proofs.scalar.Lts as lts
-use Rattle.regex_bytes.proofs.is_tail.Reads as is-tail-reads
-use Rattle.regex_bytes.proofs.point.Reads as point-reads
 
 -- src/lib.rt:70:16
 shared-slice-read-is-tail : tie.Need-shared-slice-read-is-tail

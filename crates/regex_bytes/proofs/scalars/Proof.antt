@@ -1,15 +1,12 @@
+-- `regex_bytes::scalars` meets its contract. The loop's invariant: the characters of the bytes that were passed are written. The measure is what is left. Assumes nothing.
 use Rattle.regex_bytes.proofs.OfBytes.{Passed, passed-none, passed-more, passed-all}
 use Rattle.regex_reader.proofs.Parts.{wrote-length}
 use lib.ListN.{length}
 use Prim.Native.Nat.{_-_}
 use borrow.Author.Needs.{needs}
 use native.Mathlib.Omega.{arith}
-use mathlib.Core.Path.{refl, sym, ap, _∙_}
 use Rattle.regex_bytes.proofs.scalars.Statement.{statement}
 use Rattle.regex_bytes.proofs.scalars.Tie as tie
-use Rattle.regex_bytes.proofs.scalars.Reads as reads
-use Rattle.regex_bytes.proofs.scalars.Lts as lts
-use Rattle.regex_bytes.proofs.scalar.Reads as scalar-reads
 
 abbrev Inv-loop : tie.InvT-loop
 Inv-loop s chars₀ i₀ n₀ chars i n = Passed s chars₀ chars i n

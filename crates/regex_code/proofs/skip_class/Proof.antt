@@ -3,9 +3,6 @@ use Rattle.regex_code.proofs.Laws.{class-short, class-behind}
 use borrow.Author.Needs.{needs}
 use Rattle.regex_code.proofs.skip_class.Statement.{statement}
 use Rattle.regex_code.proofs.skip_class.Tie as tie
-use Rattle.regex_code.proofs.skip_class.Reads as reads
-use Rattle.regex_code.proofs.skip_class.Lts as lts
-use Rattle.regex_code.proofs.small.Reads as small-reads
 
 -- src/lib.rt:26:8
 sub-if1 : tie.Need-sub-if1

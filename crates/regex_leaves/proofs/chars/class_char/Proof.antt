@@ -1,16 +1,11 @@
+-- `regex_leaves::chars::class_char` meets its contract. Assumes nothing.
 use Rattle.regex_leaves.proofs.OfChars.{class-escape, class-bare, bare-end, bare-next, bare-none}
 use Rattle.regexps.specs.Chars.{isClassChar}
-use Rattle.regex_leaves.proofs.OfChars.{inside, class-escape, class-bare, bare-end, bare-next, bare-none}
-use native.Mathlib.Omega.{arith}
-use mathlib.Core.Path.{refl, sym, ap, _∙_}
+use Rattle.regex_leaves.proofs.OfChars.{class-escape, class-bare, bare-end, bare-next, bare-none}
+use mathlib.Core.Path.{sym, _∙_}
 use borrow.Author.Needs.{needs}
 use Rattle.regex_leaves.proofs.chars.class_char.Statement.{statement}
 use Rattle.regex_leaves.proofs.chars.class_char.Tie as tie
-use Rattle.regex_leaves.proofs.chars.class_char.Reads as reads
-use Rattle.regex_leaves.proofs.chars.class_char.Lts as lts
-use Rattle.regex_leaves.proofs.chars.escape.Reads as escape-reads
-use Rattle.regex_leaves.proofs.chars.is.Reads as is-reads
-use Rattle.regex_leaves.proofs.chars.is_class_char.Reads as is-class-char-reads
 
 -- src/chars.rt:159:8
 is-requires : tie.Need-is-requires

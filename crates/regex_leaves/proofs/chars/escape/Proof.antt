@@ -1,13 +1,9 @@
+-- `regex_leaves::chars::escape` meets its contract. Assumes nothing.
 use Rattle.regex_leaves.proofs.OfChars.{escape-end, escape-next, escape-none}
-use native.Mathlib.Omega.{arith}
-use mathlib.Core.Path.{refl, sym, ap, _∙_}
+use mathlib.Core.Path.{sym, _∙_}
 use borrow.Author.Needs.{needs}
 use Rattle.regex_leaves.proofs.chars.escape.Statement.{statement}
 use Rattle.regex_leaves.proofs.chars.escape.Tie as tie
-use Rattle.regex_leaves.proofs.chars.escape.Reads as reads
-use Rattle.regex_leaves.proofs.chars.escape.Lts as lts
-use Rattle.regex_leaves.proofs.chars.escape_value.Reads as escape-value-reads
-use Rattle.regex_leaves.proofs.chars.is_escaped.Reads as is-escaped-reads
 
 -- src/chars.rt:132:9
 returns : tie.Need-returns

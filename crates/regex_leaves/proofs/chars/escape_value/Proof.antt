@@ -1,11 +1,8 @@
-use native.Mathlib.Omega.{arith}
-use mathlib.Core.Path.{refl, sym, ap, _∙_}
+-- `regex_leaves::chars::escape_value` meets its contract. Assumes nothing.
+use mathlib.Core.Path.{refl, sym, _∙_}
 use borrow.Author.Needs.{needs}
 use Rattle.regex_leaves.proofs.chars.escape_value.Statement.{statement}
 use Rattle.regex_leaves.proofs.chars.escape_value.Tie as tie
-use Rattle.regex_leaves.proofs.chars.escape_value.Reads as reads
-use Rattle.regex_leaves.proofs.chars.escape_value.Lts as lts
-use Rattle.regex_leaves.proofs.chars.same.Reads as same-reads
 
 -- src/chars.rt:115:8
 same-requires : tie.Need-same-requires

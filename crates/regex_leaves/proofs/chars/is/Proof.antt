@@ -1,12 +1,8 @@
+-- `regex_leaves::chars::is` meets its contract. Assumes nothing.
 use Rattle.regex_leaves.proofs.OfChars.{is-beyond, is-there}
-use Rattle.regex_leaves.proofs.OfChars.{begins-end, begins-at}
-use native.Mathlib.Omega.{arith}
-use mathlib.Core.Path.{refl, sym, ap, _∙_}
 use borrow.Author.Needs.{needs}
 use Rattle.regex_leaves.proofs.chars.is.Statement.{statement}
 use Rattle.regex_leaves.proofs.chars.is.Tie as tie
-use Rattle.regex_leaves.proofs.chars.is.Reads as reads
-use Rattle.regex_leaves.proofs.chars.is.Lts as lts
 
 -- src/chars.rt:21:9
 returns : tie.Need-returns

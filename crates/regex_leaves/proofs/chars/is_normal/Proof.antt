@@ -1,11 +1,8 @@
-use native.Mathlib.Omega.{arith}
-use mathlib.Core.Path.{refl, sym, ap, _∙_}
+-- `regex_leaves::chars::is_normal` meets its contract. Assumes nothing.
+use mathlib.Core.Path.{refl, sym, _∙_}
 use borrow.Author.Needs.{needs}
 use Rattle.regex_leaves.proofs.chars.is_normal.Statement.{statement}
 use Rattle.regex_leaves.proofs.chars.is_normal.Tie as tie
-use Rattle.regex_leaves.proofs.chars.is_normal.Reads as reads
-use Rattle.regex_leaves.proofs.chars.is_normal.Lts as lts
-use Rattle.regex_leaves.proofs.chars.within.Reads as within-reads
 
 -- src/chars.rt:46:8
 within-requires : tie.Need-within-requires

@@ -1,13 +1,10 @@
+-- `regex_leaves::chars::normal` meets its contract. Assumes nothing.
 use Rattle.regexps.specs.Chars.{isNormal}
 use Rattle.regex_leaves.proofs.OfChars.{bare-end, bare-next, bare-none}
-use native.Mathlib.Omega.{arith}
-use mathlib.Core.Path.{refl, sym, ap, _∙_}
+use mathlib.Core.Path.{sym, _∙_}
 use borrow.Author.Needs.{needs}
 use Rattle.regex_leaves.proofs.chars.normal.Statement.{statement}
 use Rattle.regex_leaves.proofs.chars.normal.Tie as tie
-use Rattle.regex_leaves.proofs.chars.normal.Reads as reads
-use Rattle.regex_leaves.proofs.chars.normal.Lts as lts
-use Rattle.regex_leaves.proofs.chars.is_normal.Reads as is-normal-reads
 
 -- src/chars.rt:146:9
 returns : tie.Need-returns

@@ -1,11 +1,8 @@
-use borrow.Author.Needs.{needs}
+-- `regex_leaves::chars::within` meets its contract. Assumes nothing.
 use borrow.Author.Tests.{lt-leb, le-leb}
-use native.Mathlib.Omega.{arith}
-use mathlib.Core.Path.{refl, sym, ap, _∙_}
+use mathlib.Core.Path.{refl}
 use Rattle.regex_leaves.proofs.chars.within.Statement.{statement}
 use Rattle.regex_leaves.proofs.chars.within.Tie as tie
-use Rattle.regex_leaves.proofs.chars.within.Reads as reads
-use Rattle.regex_leaves.proofs.chars.within.Lts as lts
 
 -- src/chars.rt:31:9
 returns : tie.Need-returns

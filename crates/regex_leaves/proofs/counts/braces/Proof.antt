@@ -1,16 +1,10 @@
-use Rattle.regex_leaves.proofs.OfChars.{same-char}
+-- `regex_leaves::counts::braces` meets its contract. Assumes nothing.
 use Rattle.regex_leaves.proofs.OfCounts.{braces-stop, braces-one, braces-two, braces-other}
-use Rattle.regex_leaves.proofs.OfChars.{inside}
 use native.Mathlib.Omega.{arith}
-use mathlib.Core.Path.{refl, sym, ap, _∙_}
+use mathlib.Core.Path.{sym, _∙_}
 use borrow.Author.Needs.{needs}
 use Rattle.regex_leaves.proofs.counts.braces.Statement.{statement}
 use Rattle.regex_leaves.proofs.counts.braces.Tie as tie
-use Rattle.regex_leaves.proofs.counts.braces.Reads as reads
-use Rattle.regex_leaves.proofs.counts.braces.Lts as lts
-use Rattle.regex_leaves.proofs.chars.is.Reads as is-reads
-use Rattle.regex_leaves.proofs.counts.count.Reads as count-reads
-use Rattle.regex_leaves.proofs.counts.upper.Reads as upper-reads
 
 -- src/counts.rt:95:11
 count-requires : tie.Need-count-requires

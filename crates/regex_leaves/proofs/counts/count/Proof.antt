@@ -1,14 +1,10 @@
+-- `regex_leaves::counts::count` meets its contract. Assumes nothing.
 use Rattle.regex_leaves.proofs.OfCounts.{count-none, count-some}
 use Rattle.regex_leaves.proofs.OfChars.{off, on}
-use native.Mathlib.Omega.{arith}
-use mathlib.Core.Path.{refl, sym, ap, _∙_}
+use mathlib.Core.Path.{sym, _∙_}
 use borrow.Author.Needs.{needs}
 use Rattle.regex_leaves.proofs.counts.count.Statement.{statement}
 use Rattle.regex_leaves.proofs.counts.count.Tie as tie
-use Rattle.regex_leaves.proofs.counts.count.Reads as reads
-use Rattle.regex_leaves.proofs.counts.count.Lts as lts
-use Rattle.regex_leaves.proofs.counts.digit_at.Reads as digit-at-reads
-use Rattle.regex_leaves.proofs.counts.digits.Reads as digits-reads
 
 -- src/counts.rt:65:9
 digit-at-requires : tie.Need-digit-at-requires

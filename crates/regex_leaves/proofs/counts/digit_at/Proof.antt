@@ -1,12 +1,9 @@
+-- `regex_leaves::counts::digit_at` meets its contract. Assumes nothing.
 use Rattle.regex_leaves.proofs.OfCounts.{digit-end, digit-is}
-use native.Mathlib.Omega.{arith}
-use mathlib.Core.Path.{refl, sym, ap, _∙_}
+use mathlib.Core.Path.{sym, _∙_}
 use borrow.Author.Needs.{needs}
 use Rattle.regex_leaves.proofs.counts.digit_at.Statement.{statement}
 use Rattle.regex_leaves.proofs.counts.digit_at.Tie as tie
-use Rattle.regex_leaves.proofs.counts.digit_at.Reads as reads
-use Rattle.regex_leaves.proofs.counts.digit_at.Lts as lts
-use Rattle.regex_leaves.proofs.counts.is_digit.Reads as is-digit-reads
 
 -- src/counts.rt:34:9
 returns : tie.Need-returns

@@ -1,15 +1,12 @@
+-- `regex_leaves::counts::digits` meets its contract. The loop's invariant: the digits that were passed stand for the number so far. The measure is what is left. Assumes nothing.
 use borrow.Author.Needs.{needs}
 use Rattle.regex_leaves.proofs.OfCounts.{digit-bounds, Passed, passed-none, digits-end, digits-stop, digits-many, passed-more}
 use Rattle.regex_leaves.proofs.OfChars.{off, on}
 use lib.ListN.{length, getD}
 use Prim.Native.Nat.{_-_}
-use native.Mathlib.Omega.{arith}
-use mathlib.Core.Path.{refl, sym, ap, _∙_}
+use mathlib.Core.Path.{sym, _∙_}
 use Rattle.regex_leaves.proofs.counts.digits.Statement.{statement}
 use Rattle.regex_leaves.proofs.counts.digits.Tie as tie
-use Rattle.regex_leaves.proofs.counts.digits.Reads as reads
-use Rattle.regex_leaves.proofs.counts.digits.Lts as lts
-use Rattle.regex_leaves.proofs.counts.is_digit.Reads as is-digit-reads
 
 abbrev Inv-loop : tie.InvT-loop
 Inv-loop s at i₀ v₀ i v = Passed s at i v

@@ -1,15 +1,10 @@
-use Rattle.regex_leaves.proofs.OfChars.{same-char}
+-- `regex_leaves::counts::quantifier` meets its contract. Assumes nothing.
 use Rattle.regex_leaves.proofs.OfCounts.{star, plus, option, counted, once}
-use Rattle.regex_leaves.proofs.OfChars.{inside}
 use native.Mathlib.Omega.{arith}
-use mathlib.Core.Path.{refl, sym, ap, _∙_}
+use mathlib.Core.Path.{sym, _∙_}
 use borrow.Author.Needs.{needs}
 use Rattle.regex_leaves.proofs.counts.quantifier.Statement.{statement}
 use Rattle.regex_leaves.proofs.counts.quantifier.Tie as tie
-use Rattle.regex_leaves.proofs.counts.quantifier.Reads as reads
-use Rattle.regex_leaves.proofs.counts.quantifier.Lts as lts
-use Rattle.regex_leaves.proofs.chars.is.Reads as is-reads
-use Rattle.regex_leaves.proofs.counts.braces.Reads as braces-reads
 
 -- src/counts.rt:113:8
 is-requires : tie.Need-is-requires

@@ -1,15 +1,9 @@
-use Rattle.regex_leaves.proofs.OfChars.{same-char}
+-- `regex_leaves::counts::upper` meets its contract. Assumes nothing.
 use Rattle.regex_leaves.proofs.OfCounts.{upper-none, upper-stop, upper-next, upper-other}
-use Rattle.regex_leaves.proofs.OfChars.{inside}
-use native.Mathlib.Omega.{arith}
-use mathlib.Core.Path.{refl, sym, ap, _∙_}
+use mathlib.Core.Path.{sym, _∙_}
 use borrow.Author.Needs.{needs}
 use Rattle.regex_leaves.proofs.counts.upper.Statement.{statement}
 use Rattle.regex_leaves.proofs.counts.upper.Tie as tie
-use Rattle.regex_leaves.proofs.counts.upper.Reads as reads
-use Rattle.regex_leaves.proofs.counts.upper.Lts as lts
-use Rattle.regex_leaves.proofs.chars.is.Reads as is-reads
-use Rattle.regex_leaves.proofs.counts.count.Reads as count-reads
 
 -- src/counts.rt:76:8
 is-requires : tie.Need-is-requires

@@ -1,15 +1,9 @@
-use Rattle.regex_leaves.proofs.OfChars.{same-char}
+-- `regex_leaves::items::first` meets its contract. Assumes nothing.
 use Rattle.regex_leaves.proofs.OfItems.{first-dash, first-item}
-use Rattle.regex_leaves.proofs.OfChars.{inside}
-use native.Mathlib.Omega.{arith}
-use mathlib.Core.Path.{refl, sym, ap, _∙_}
+use mathlib.Core.Path.{sym, _∙_}
 use borrow.Author.Needs.{needs}
 use Rattle.regex_leaves.proofs.items.first.Statement.{statement}
 use Rattle.regex_leaves.proofs.items.first.Tie as tie
-use Rattle.regex_leaves.proofs.items.first.Reads as reads
-use Rattle.regex_leaves.proofs.items.first.Lts as lts
-use Rattle.regex_leaves.proofs.chars.is.Reads as is-reads
-use Rattle.regex_leaves.proofs.items.one_item.Reads as one-item-reads
 
 -- src/items.rt:47:8
 is-requires : tie.Need-is-requires

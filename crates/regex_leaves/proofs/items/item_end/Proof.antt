@@ -1,14 +1,10 @@
+-- `regex_leaves::items::item_end` meets its contract. Assumes nothing.
 use Rattle.regex_leaves.proofs.OfItems.{end-alone, end-last, end-next, end-none}
 use Rattle.regex_leaves.proofs.OfChars.{off, on}
-use native.Mathlib.Omega.{arith}
-use mathlib.Core.Path.{refl, sym, ap, _∙_}
+use mathlib.Core.Path.{sym, _∙_}
 use borrow.Author.Needs.{needs}
 use Rattle.regex_leaves.proofs.items.item_end.Statement.{statement}
 use Rattle.regex_leaves.proofs.items.item_end.Tie as tie
-use Rattle.regex_leaves.proofs.items.item_end.Reads as reads
-use Rattle.regex_leaves.proofs.items.item_end.Lts as lts
-use Rattle.regex_leaves.proofs.chars.class_char.Reads as class-char-reads
-use Rattle.regex_leaves.proofs.chars.is.Reads as is-reads
 
 -- src/items.rt:21:9
 is-requires : tie.Need-is-requires

@@ -1,13 +1,8 @@
+-- `regex_leaves::items::one_item` meets its contract. Assumes nothing.
 use Rattle.regex_leaves.proofs.OfItems.{char-is, item-next, item-none}
-use native.Mathlib.Omega.{arith}
-use mathlib.Core.Path.{refl, sym, ap, _∙_}
 use borrow.Author.Needs.{needs}
 use Rattle.regex_leaves.proofs.items.one_item.Statement.{statement}
 use Rattle.regex_leaves.proofs.items.one_item.Tie as tie
-use Rattle.regex_leaves.proofs.items.one_item.Reads as reads
-use Rattle.regex_leaves.proofs.items.one_item.Lts as lts
-use Rattle.regex_leaves.proofs.chars.class_char.Reads as class-char-reads
-use Rattle.regex_leaves.proofs.items.item_end.Reads as item-end-reads
 
 -- src/items.rt:37:11
 class-char-requires : tie.Need-class-char-requires

@@ -1,13 +1,10 @@
+-- `regex_leaves::words::insert` meets its contract. The loop's invariant: the words before i have moved up by one, and the one that i takes is carried. The measure is what is left. Assumes nothing.
 use borrow.Author.Needs.{needs}
 use Rattle.regex_leaves.proofs.Stores.{Carry, carry-length, carry-none, carry-more, inserted}
 use lib.ListN.{length-set}
 use Prim.Native.Nat.{_-_}
-use native.Mathlib.Omega.{arith}
-use mathlib.Core.Path.{refl, sym, ap, _∙_}
 use Rattle.regex_leaves.proofs.words.insert.Statement.{statement}
 use Rattle.regex_leaves.proofs.words.insert.Tie as tie
-use Rattle.regex_leaves.proofs.words.insert.Reads as reads
-use Rattle.regex_leaves.proofs.words.insert.Lts as lts
 
 abbrev Inv-loop : tie.InvT-loop
 Inv-loop code₀ from to x i₀ carried₀ code i carried = Carry code₀ from to x code i carried

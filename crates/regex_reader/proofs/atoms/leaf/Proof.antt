@@ -1,18 +1,8 @@
+-- `regex_reader::atoms::leaf` meets its contract. Assumes nothing.
 use Rattle.regex_reader.proofs.OfAtoms.{leaf-class, leaf-dot, leaf-escape, leaf-normal}
-use borrow.Author.Needs.{fits-under}
-use native.Mathlib.Omega.{arith}
-use mathlib.Core.Path.{refl, sym, ap, _∙_}
 use borrow.Author.Needs.{needs}
 use Rattle.regex_reader.proofs.atoms.leaf.Statement.{statement}
 use Rattle.regex_reader.proofs.atoms.leaf.Tie as tie
-use Rattle.regex_reader.proofs.atoms.leaf.Reads as reads
-use Rattle.regex_reader.proofs.atoms.leaf.Lts as lts
-use Rattle.regex_leaves.proofs.chars.escape.Reads as escape-reads
-use Rattle.regex_leaves.proofs.chars.is.Reads as is-reads
-use Rattle.regex_leaves.proofs.chars.normal.Reads as normal-reads
-use Rattle.regex_reader.proofs.atoms.put_dot.Reads as put-dot-reads
-use Rattle.regex_reader.proofs.atoms.put_read.Reads as put-read-reads
-use Rattle.regex_reader.proofs.classes.class.Reads as class-reads
 
 -- src/atoms.rt:82:8
 is-requires : tie.Need-is-requires

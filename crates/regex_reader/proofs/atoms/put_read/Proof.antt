@@ -1,13 +1,8 @@
-use borrow.Author.Needs.{fits-under}
+-- `regex_reader::atoms::put_read` meets its contract. Assumes nothing.
 use Rattle.regex_reader.specs.Reads.PutChar.{next, stop}
-use native.Mathlib.Omega.{arith}
-use mathlib.Core.Path.{refl, sym, ap, _∙_}
 use borrow.Author.Needs.{needs}
 use Rattle.regex_reader.proofs.atoms.put_read.Statement.{statement}
 use Rattle.regex_reader.proofs.atoms.put_read.Tie as tie
-use Rattle.regex_reader.proofs.atoms.put_read.Reads as reads
-use Rattle.regex_reader.proofs.atoms.put_read.Lts as lts
-use Rattle.regex_reader.proofs.atoms.put_char.Reads as put-char-reads
 
 -- src/atoms.rt:64:23
 enum-told : tie.Need-enum-told

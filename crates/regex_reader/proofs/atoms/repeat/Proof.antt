@@ -1,14 +1,10 @@
-use borrow.Author.Needs.{fits-under}
+-- `regex_reader::atoms::repeat` meets its contract. Assumes nothing.
 use Rattle.regex_reader.proofs.OfAtoms.{repeat-endless, repeat-bounded}
 use Rattle.regex_reader.specs.Reads.Repeats.{once, stop}
-use native.Mathlib.Omega.{arith}
-use mathlib.Core.Path.{refl, sym, ap, _∙_}
+use mathlib.Core.Path.{refl}
 use borrow.Author.Needs.{needs}
 use Rattle.regex_reader.proofs.atoms.repeat.Statement.{statement}
 use Rattle.regex_reader.proofs.atoms.repeat.Tie as tie
-use Rattle.regex_reader.proofs.atoms.repeat.Reads as reads
-use Rattle.regex_reader.proofs.atoms.repeat.Lts as lts
-use Rattle.regex_leaves.proofs.words.insert.Reads as insert-reads
 
 -- src/atoms.rt:107:24
 enum-told : tie.Need-enum-told

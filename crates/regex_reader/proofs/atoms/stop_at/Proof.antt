@@ -1,13 +1,9 @@
-use borrow.Author.Needs.{fits-under}
+-- `regex_reader::atoms::stop_at` meets its contract. Assumes nothing.
 use Rattle.regex_reader.proofs.OfAtoms.{stops-end, stops-bar, stops-other}
-use native.Mathlib.Omega.{arith}
-use mathlib.Core.Path.{refl, sym, ap, _∙_}
+use mathlib.Core.Path.{sym, _∙_}
 use borrow.Author.Needs.{needs}
 use Rattle.regex_reader.proofs.atoms.stop_at.Statement.{statement}
 use Rattle.regex_reader.proofs.atoms.stop_at.Tie as tie
-use Rattle.regex_reader.proofs.atoms.stop_at.Reads as reads
-use Rattle.regex_reader.proofs.atoms.stop_at.Lts as lts
-use Rattle.regex_leaves.proofs.chars.same.Reads as same-reads
 
 -- src/atoms.rt:25:9
 returns : tie.Need-returns

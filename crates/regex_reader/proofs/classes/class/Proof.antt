@@ -1,15 +1,10 @@
+-- `regex_reader::classes::class` meets its contract. Assumes nothing.
 use Rattle.regex_reader.proofs.OfNested.{room-on, room-less}
 use Rattle.regex_reader.proofs.OfClasses.{class-complement, class-plain}
-use borrow.Author.Needs.{fits-under}
-use native.Mathlib.Omega.{arith}
-use mathlib.Core.Path.{refl, sym, ap, _∙_}
+use mathlib.Core.Path.{refl}
 use borrow.Author.Needs.{needs}
 use Rattle.regex_reader.proofs.classes.class.Statement.{statement}
 use Rattle.regex_reader.proofs.classes.class.Tie as tie
-use Rattle.regex_reader.proofs.classes.class.Reads as reads
-use Rattle.regex_reader.proofs.classes.class.Lts as lts
-use Rattle.regex_leaves.proofs.chars.is.Reads as is-reads
-use Rattle.regex_reader.proofs.classes.ranges.Reads as ranges-reads
 
 -- src/classes.rt:112:8
 is-requires : tie.Need-is-requires

@@ -1,14 +1,10 @@
-use borrow.Author.Needs.{fits-under}
+-- `regex_reader::classes::dash_end` meets its contract. Assumes nothing.
 use Rattle.regex_reader.proofs.OfClasses.{end-none, end-some}
 use Rattle.regex_leaves.proofs.OfChars.{off, on}
-use native.Mathlib.Omega.{arith}
-use mathlib.Core.Path.{refl, sym, ap, _∙_}
+use mathlib.Core.Path.{sym, _∙_}
 use borrow.Author.Needs.{needs}
 use Rattle.regex_reader.proofs.classes.dash_end.Statement.{statement}
 use Rattle.regex_reader.proofs.classes.dash_end.Tie as tie
-use Rattle.regex_reader.proofs.classes.dash_end.Reads as reads
-use Rattle.regex_reader.proofs.classes.dash_end.Lts as lts
-use Rattle.regex_leaves.proofs.chars.is.Reads as is-reads
 
 -- src/classes.rt:28:9
 is-requires : tie.Need-is-requires

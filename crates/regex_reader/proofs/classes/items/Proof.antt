@@ -1,3 +1,4 @@
+-- `regex_reader::classes::items` meets its contract. The loop's invariant: the items that were passed have the ranges that are written. The measure is what is left. Assumes nothing.
 use borrow.Author.Needs.{fits-under}
 use Rattle.regex_reader.proofs.OfClasses.{item-is, Going, going-none, ranges-close, ranges-dash, ranges-none, going-more}
 use Rattle.regex_reader.proofs.Parts.{wrote-length}
@@ -5,15 +6,9 @@ use lib.ListN.{length}
 use Prim.Native.Nat.{_-_}
 use borrow.Author.Needs.{needs}
 use native.Mathlib.Omega.{arith}
-use mathlib.Core.Path.{refl, sym, ap, _∙_}
+use mathlib.Core.Path.{_∙_}
 use Rattle.regex_reader.proofs.classes.items.Statement.{statement}
 use Rattle.regex_reader.proofs.classes.items.Tie as tie
-use Rattle.regex_reader.proofs.classes.items.Reads as reads
-use Rattle.regex_reader.proofs.classes.items.Lts as lts
-use Rattle.regex_leaves.proofs.chars.is.Reads as is-reads
-use Rattle.regex_leaves.proofs.items.one_item.Reads as one-item-reads
-use Rattle.regex_reader.proofs.classes.dash_end.Reads as dash-end-reads
-use Rattle.regex_reader.proofs.classes.put_range.Reads as put-range-reads
 
 abbrev Inv-loop : tie.InvT-loop
 Inv-loop s code₀ at len i₀ n₀ code i n = Going s code₀ at len code i n

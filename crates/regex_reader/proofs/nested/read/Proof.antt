@@ -1,13 +1,8 @@
+-- `regex_reader::nested::read` meets its contract. Assumes nothing.
 use Rattle.regex_reader.proofs.OfNested.{read-is, whole-none, whole-left, whole-code}
-use borrow.Author.Needs.{fits-under}
-use native.Mathlib.Omega.{arith}
-use mathlib.Core.Path.{refl, sym, ap, _∙_}
 use borrow.Author.Needs.{needs}
 use Rattle.regex_reader.proofs.nested.read.Statement.{statement}
 use Rattle.regex_reader.proofs.nested.read.Tie as tie
-use Rattle.regex_reader.proofs.nested.read.Reads as reads
-use Rattle.regex_reader.proofs.nested.read.Lts as lts
-use Rattle.regex_reader.proofs.nested.alts.Reads as alts-reads
 
 -- src/nested.rt:124:11
 alts-requires : tie.Need-alts-requires

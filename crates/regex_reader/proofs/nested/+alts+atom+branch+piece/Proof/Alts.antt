@@ -7,7 +7,7 @@ use Prim.Native.Nat.{_-_}
 use borrow.Author.Needs.{fits-under}
 use borrow.Author.Needs.{needs}
 use native.Mathlib.Omega.{arith}
-use mathlib.Core.Path.{refl, sym, ap, _∙_}
+use mathlib.Core.Path.{_∙_}
 use Rattle.regex_reader.proofs.nested.+alts+atom+branch+piece.Lts-alts as lts
 use Prim.Native.Nat.{ℕ}
 use Rattle.regex_reader.proofs.nested.alts.Reads as alts

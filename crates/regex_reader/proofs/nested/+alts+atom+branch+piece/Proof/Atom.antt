@@ -4,7 +4,6 @@ use Rattle.regex_leaves.proofs.OfChars.{off, on}
 use borrow.Author.Needs.{fits-under}
 use borrow.Author.Needs.{needs}
 use native.Mathlib.Omega.{arith}
-use mathlib.Core.Path.{refl, sym, ap, _∙_}
 use Rattle.regex_reader.proofs.nested.+alts+atom+branch+piece.Lts-atom as lts
 use Prim.Native.Nat.{ℕ}
 use Rattle.regex_reader.proofs.nested.alts.Reads as alts

@@ -3,10 +3,9 @@ use Rattle.regex_reader.proofs.OfNested.{read-is, Branching, branching-
 use Rattle.regex_reader.proofs.Parts.{wrote-length}
 use lib.ListN.{length, length-set}
 use Prim.Native.Nat.{_-_}
-use borrow.Author.Needs.{fits-under}
 use borrow.Author.Needs.{needs}
 use native.Mathlib.Omega.{arith}
-use mathlib.Core.Path.{refl, sym, ap, _∙_}
+use mathlib.Core.Path.{sym, _∙_}
 use Rattle.regex_reader.proofs.nested.+alts+atom+branch+piece.Lts-branch as lts
 use Prim.Native.Nat.{ℕ}
 use Rattle.regex_reader.proofs.nested.branch.Reads as branch

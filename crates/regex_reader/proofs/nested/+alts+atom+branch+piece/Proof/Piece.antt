@@ -1,9 +1,7 @@
 -- The answers of `piece` in the cycle of calls {alts, atom, branch, piece}.
 use Rattle.regex_reader.proofs.OfNested.{read-is, piece-none, piece-of, room-repeat}
-use borrow.Author.Needs.{fits-under}
 use borrow.Author.Needs.{needs}
 use native.Mathlib.Omega.{arith}
-use mathlib.Core.Path.{refl, sym, ap, _∙_}
 use Rattle.regex_reader.proofs.nested.+alts+atom+branch+piece.Lts-piece as lts
 use Prim.Native.Nat.{ℕ}
 use Rattle.regex_reader.proofs.nested.atom.Reads as atom
