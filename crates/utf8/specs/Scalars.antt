@@ -78,7 +78,7 @@ module _ (c : ℕ) (r : List ℕ) (a : Apart r) where
   reads-three h =
       let e = begins-above (0xE0 + c / 4096) (omega arith) in
       let l : leading (0xE0 + c / 4096) ≡ c / 4096 =
-            rw (le-ltb (0xE0 + c / 4096) 0xC0 (omega arith), le-ltb (0xE0 + c / 4096) 0xE0 (omega arith), lt-ltb (0xE0 + c / 4096) 0xF0 (omega arith)) (omega arith) in
+      rw (le-ltb (0xE0 + c / 4096) 0xC0 (omega arith), le-ltb (0xE0 + c / 4096) 0xE0 (omega arith), lt-ltb (0xE0 + c / 4096) 0xF0 (omega arith)) (omega arith) in
       let m = more (c / 4096) (c / 64 % 64) ((0x80 + c % 64) ∷ r) (omega arith) in
       let n = more (c / 4096 * 64 + c / 64 % 64) (c % 64) r (omega arith) in
       let x = div-div-eq-div-mul c 64 64 in
@@ -90,7 +90,7 @@ module _ (c : ℕ) (r : List ℕ) (a : Apart r) where
   reads-four =
       let e = begins-above (0xF0 + c / 262144) (omega arith) in
       let l : leading (0xF0 + c / 262144) ≡ c / 262144 =
-            rw (le-ltb (0xF0 + c / 262144) 0xC0 (omega arith), le-ltb (0xF0 + c / 262144) 0xE0 (omega arith), le-ltb (0xF0 + c / 262144) 0xF0 (omega arith)) (omega arith) in
+      rw (le-ltb (0xF0 + c / 262144) 0xC0 (omega arith), le-ltb (0xF0 + c / 262144) 0xE0 (omega arith), le-ltb (0xF0 + c / 262144) 0xF0 (omega arith)) (omega arith) in
       let m = more (c / 262144) (c / 4096 % 64) ((0x80 + c / 64 % 64) ∷ (0x80 + c % 64) ∷ r) (omega arith) in
       let n = more (c / 262144 * 64 + c / 4096 % 64) (c / 64 % 64) ((0x80 + c % 64) ∷ r) (omega arith) in
       let o = more ((c / 262144 * 64 + c / 4096 % 64) * 64 + c / 64 % 64) (c % 64) r (omega arith) in
