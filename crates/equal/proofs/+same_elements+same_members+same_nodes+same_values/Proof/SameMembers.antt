@@ -89,7 +89,7 @@ module _ (t : ℕ) where
   pub node-value-requires-2 : lts.Need-node-value-requires-2 (calls t) (same-members-at t) same-members.Post Inv-loop μ-loop
   node-value-requires-2 c κs =
       let e = c .before .before .before .before .before .before .before .before .before .before .before .before .before .before in
-      (e .pre .1 .0, turn-between (e .pre .1 .0) (e .pre .1 .1) (c .before .before .before .before .before .before .before .before .before .before .low-word .ensures) (c .before .before .before .before .before .before .before .before .before .low-word2 .ensures) (c .before .before .before .before .before .before .before .before .child-count .ensures) (c .before .before .before .before .before .before .before .child-count2 .ensures) (c .before .before .before .before .before .loop-test .taken) (c .before .before .before .before .partner .ensures) (c .before .before .found .given .1) .1)
+      (e .pre .1 .0, omega (arith, turn-in (e .pre .1 .0) (e .pre .1 .1) (c .before .before .before .before .before .before .before .before .before .before .low-word .ensures) (c .before .before .before .before .before .before .before .before .before .low-word2 .ensures) (c .before .before .before .before .before .before .before .before .child-count .ensures) (c .before .before .before .before .before .before .before .child-count2 .ensures) (c .before .before .before .before .before .loop-test .taken), turn-between (e .pre .1 .0) (e .pre .1 .1) (c .before .before .before .before .before .before .before .before .before .before .low-word .ensures) (c .before .before .before .before .before .before .before .before .before .low-word2 .ensures) (c .before .before .before .before .before .before .before .before .child-count .ensures) (c .before .before .before .before .before .before .before .child-count2 .ensures) (c .before .before .before .before .before .loop-test .taken) (c .before .before .before .before .partner .ensures) (c .before .before .found .given .1) .1))
 
   pub same-values-requires : lts.Need-same-values-requires (calls t) (same-members-at t) same-members.Post Inv-loop μ-loop
   same-values-requires c κs =
