@@ -2,7 +2,7 @@
 //
 //   bytes      little-endian numbers in a slice, read and written
 //   parts      equality, order and copies of parts of texts
-//   encoding   whether bytes are UTF-8
+//   encoding   whether bytes are UTF-8, and how many scalar values a text has
 //   brackets   the bracket count of a query
 pub mod brackets;
 pub mod bytes;
