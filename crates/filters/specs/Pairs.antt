@@ -125,7 +125,7 @@ module _ {P L S X : List ℕ} {root node n first z e : ℕ} (a : AskBeside P L S
           let p = d .past s (y .f) (y .k) (y .at) in
           let i : getD P (r .z) 0 ≡ getD P (z + 1 + length (codeSegments (y .f) (y .k))) 0 = ap (λ (x : ℕ). getD P x 0) p in
           todo-to P L _ (r .z) e _ _ acc acc _ _ _ _ want p refl refl refl
-          (y .is-first (λ j. absurd (omega arith)) (λ j. absurd (omega arith)) (λ j. absurd (omega arith)) (λ j. absurd (omega arith)) _ refl)
+          (y .is-first (λ j. absurd (omega arith)) (λ j. absurd (omega arith)) (λ j. absurd (omega arith)) _ refl)
 
       pub beside-operator : r .z + 1 < length P
       beside-operator = at-compare P L (r .z) e _ _ _ _ _ _ (beside-valued (a .acc) (a .v) (a .want) (a .todo)) o c .bound
