@@ -1,0 +1,5 @@
+pub mod Turns
+pub mod Frames
+pub mod Hollow
+pub mod Laws
+pub mod Runs
