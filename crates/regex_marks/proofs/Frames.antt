@@ -1,16 +1,14 @@
 -- Marks outside a part's own say nothing of the part; and marks that are all 0 await nothing. Assumes nothing.
-use mathlib.Core.Path.{_≡_, refl, ap, sym, _∙_, subst}
-use mathlib.Core.Bool.{Bool, true, false}
-use mathlib.Core.List.{List, [], _∷_, _++_}
+use mathlib.Core.Path.{_≡_, sym, _∙_}
+use mathlib.Core.List.{List, []}
 use mathlib.Core.Logic.{_⊎_, inl, inr, ⊎-elim}
 use Prim.Native.Nat.{ℕ, zero, suc, pred, _+_, _-_, _≤_, _<_}
 use native.Mathlib.Omega.{arith}
 use lib.Dec.{eqb}
-use lib.ListN.{length, getD}
-use borrow.Author.Tests.{ne-eqb}
-use Rattle.regexps.specs.Words.{Join, Times, upto, any, Told, holds, fails}
+use lib.ListN.{getD}
+use Rattle.regexps.specs.Words.{Times, upto, any, Told, fails}
 use Rattle.regexps.specs.Regexp.{Regexp, empty, class, then, or, times, Describes}
-use Rattle.regexps.specs.Laws.{join-map, join-nil}
+use Rattle.regexps.specs.Laws.{join-map}
 use Rattle.regexps.specs.Agree.{told}
 use Rattle.regex_marks.specs.Marks.{size, copies, endless, Rest, RestUpto, RestAny, Good, GoodUpto, GoodAny}
 use Rattle.regex_marks.specs.Moves.{Kept}

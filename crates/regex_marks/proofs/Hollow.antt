@@ -1,13 +1,13 @@
 -- A part without marks describes the empty word at most, and awaits nothing; so its copies need no pass of their own. Assumes nothing.
 use mathlib.Core.Path.{_≡_, refl, ap, sym, _∙_, subst}
-use mathlib.Core.Bool.{Bool, true, false, _&&_, _||_}
+use mathlib.Core.Bool.{Bool, false, _&&_, _||_}
 use mathlib.Core.List.{List, [], _∷_, _++_}
 use mathlib.Core.Logic.{_⊎_, inl, inr, ⊎-elim}
-use Prim.Native.Nat.{ℕ, zero, suc, pred, _+_, _-_, _≤_, _<_, zero-le}
+use Prim.Native.Nat.{ℕ, zero, suc, _+_, _-_, _≤_, zero-le}
 use native.Mathlib.Omega.{arith}
 use native.Mathlib.Nat.{le-refl}
 use lib.Dec.{eqb, leb}
-use Rattle.regexps.specs.Words.{Join, Row, Times, upto, any, Told}
+use Rattle.regexps.specs.Words.{Row, Times, upto, any, Told}
 use Rattle.regexps.specs.Regexp.{Regexp, empty, class, then, or, times, Describes}
 use Rattle.regexps.specs.Laws.{join-nil, nil-join}
 use Rattle.regexps.specs.Agree.{told, both, either, leb-told}

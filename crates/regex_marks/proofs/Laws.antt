@@ -1,53 +1,23 @@
 -- What each answer of a step rests on. Assumes nothing.
 use mathlib.Core.Path.{_≡_, refl, ap, sym, _∙_, subst}
 use mathlib.Core.Bool.{Bool, true, false, _&&_, _||_}
-use mathlib.Core.List.{List, [], _∷_, _++_}
-use mathlib.Core.Logic.{_⊎_, inl, inr, ⊎-elim}
-use Prim.Native.Nat.{ℕ, zero, suc, pred, _+_, _-_, _≤_, _<_, zero-le}
+use mathlib.Core.List.{List, [], _∷_}
+use Prim.Native.Nat.{ℕ, zero, suc, pred, _+_, _-_, _≤_, _<_}
 use native.Mathlib.Omega.{arith}
 use lib.ListN.{length, drop, getD, set, length-drop, length-set, drop-of-length-le}
 use lib.Seq.{getD-set-same, getD-set-other}
 use lib.Dec.{eqb, leb}
-use borrow.Author.Tests.{eqb-true, eqb-false}
-use Rattle.regexps.specs.Words.{Join, Row, Times, upto, any, Told, holds, fails}
-use Rattle.regexps.specs.Regexp.{Regexp, empty, class, then, or, times, Describes, One}
-use Rattle.regexps.specs.Agree.{told}
-use Rattle.regex_code.specs.Flat.{
-  flat,
-  tail,
-  head,
-  of-empty,
-  of-class,
-  of-then,
-  of-or,
-  of-upto,
-  of-any,
-  of-other,
-  of-nothing,
-  word,
-  behind,
-  word-of,
-}
+use Rattle.regexps.specs.Words.{Times, upto, any, Told, holds}
+use Rattle.regexps.specs.Regexp.{Regexp, empty, class, then, or, times, Describes}
+use Rattle.regex_code.specs.Flat.{flat, head, of-empty, of-class, of-then, of-or, of-upto, of-any, of-other, of-nothing, word, behind, word-of}
 use Rattle.regex_code.specs.Skips.{Skips, SkipsClass}
 use Rattle.regex_marks.specs.Marks.{size, Rest, Good}
 use Rattle.regex_marks.specs.Turn.{Turn}
 use Rattle.regex_marks.specs.Moves.{Kept, Moved, Shifted, Copied, Endless}
-use Rattle.regex_marks.proofs.Turns.{
-  turn-same,
-  turn-none,
-  turn-or,
-  turn-then,
-  turn-zero,
-  turn-last,
-  turn-more,
-  turn-plus,
-  turn-next,
-  turn-class,
-  eqb-told,
-}
+use Rattle.regex_marks.proofs.Turns.{turn-same, turn-none, turn-or, turn-then, turn-zero, turn-last, turn-more, turn-plus, turn-next, turn-class, eqb-told}
 use Rattle.regex_marks.specs.Runs.{Entered}
 use Rattle.regex_marks.proofs.Hollow.{moved-bare}
-use Rattle.regex_marks.proofs.Frames.{Same, flip, narrow, below, above, frame, good-frame}
+use Rattle.regex_marks.proofs.Frames.{Same, flip, below, above, frame, good-frame}
 
 pub kept-refl : {lo hi : ℕ} {ms : List ℕ} → Kept lo hi ms ms
 kept-refl = record { low = λ i p. refl; high = λ i p. refl }

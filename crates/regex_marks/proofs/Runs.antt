@@ -1,41 +1,25 @@
 -- A run over a text, and the number of marks. Assumes nothing.
 use mathlib.Core.Path.{_≡_, refl, ap, sym, _∙_, subst}
-use mathlib.Core.Bool.{Bool, true, false, _&&_, _||_}
+use mathlib.Core.Bool.{Bool, true, false, _&&_}
 use mathlib.Core.List.{List, [], _∷_, _++_, append-nil, append-assoc}
 use mathlib.Core.Logic.{_⊎_, inl, inr, ⊎-elim}
-use Prim.Native.Nat.{ℕ, zero, suc, pred, _+_, _*_, _-_, _≤_, _<_, _^_, zero-le}
+use Prim.Native.Nat.{ℕ, zero, suc, pred, _+_, _*_, _-_, _≤_, _<_, _^_}
 use native.Mathlib.Omega.{arith}
 use native.Mathlib.Nat.{mul-suc, mul-zero, mul-le-mul-left, le-of-lt}
-use native.Mathlib.Numerals.{add-one}
-use lib.ListN.{length, drop, take, getD, set, length-drop, length-set, drop-of-length-le, List·getD-eq-default}
+use lib.ListN.{length, drop, getD, set, length-drop, drop-of-length-le, List·getD-eq-default}
 use lib.Seq.{slice, getD-set-same, getD-set-other}
-use Rattle.definition.specs.Utf8.{encode, encodeAll}
+use Rattle.definition.specs.Utf8.{encodeAll}
 use Rattle.regex_chars.specs.Chars.{Stands}
 use Rattle.regex_chars.specs.Classes.{Hits}
 use Rattle.regex_chars.specs.Laws.{slice-end, slice-nil, encodeAll-none, encodeAll-cons, encodeAll-nil}
 use lib.Dec.{eqb, leb}
 use borrow.Author.Tests.{eqb-true, eqb-false, eq-eqb, leb-true, leb-false}
-use Rattle.regexps.specs.Words.{upto, any, Told, holds, fails}
+use Rattle.regexps.specs.Words.{upto, any, Told}
 use Rattle.regexps.specs.Regexp.{Regexp, empty, class, then, or, times, Describes, hits}
 use Rattle.regexps.specs.Agree.{told}
-use Rattle.regex_code.specs.Flat.{
-  flat,
-  tail,
-  head,
-  of-empty,
-  of-class,
-  of-then,
-  of-or,
-  of-upto,
-  of-any,
-  of-other,
-  of-nothing,
-  word,
-  behind,
-  word-of,
-}
+use Rattle.regex_code.specs.Flat.{flat, head, of-empty, of-class, of-then, of-or, of-upto, of-any, of-other, of-nothing, word, behind, word-of}
 use Rattle.regex_code.specs.Skips.{SkipsClass}
-use Rattle.regex_marks.specs.Marks.{size, copies, endless, Rest, Good}
+use Rattle.regex_marks.specs.Marks.{size, copies, endless, Rest}
 use Rattle.regex_marks.specs.Moves.{Moved, Shifted}
 use Rattle.regex_marks.specs.Runs.{Clear, Reading, Read, Ran, Weighs, Capped, Entered}
 use Rattle.regex_marks.proofs.Frames.{rest-none, good-none}

@@ -1,29 +1,15 @@
 -- One character read by each way to make a set of words of others. Assumes nothing.
-use mathlib.Core.Path.{_≡_, refl, ap, sym, _∙_, subst}
+use mathlib.Core.Path.{_≡_, refl, ap}
 use mathlib.Core.Bool.{Bool, true, false, _&&_, _||_}
-use mathlib.Core.List.{List, [], _∷_, _++_}
+use mathlib.Core.List.{List, [], _∷_}
 use mathlib.Core.Logic.{_⊎_, inl, inr, ⊎-elim}
-use Prim.Native.Nat.{ℕ, zero, suc, pred, _+_, _-_, _≤_, _<_, zero-le, suc-le-suc}
+use Prim.Native.Nat.{ℕ, zero, suc, pred, _-_, _≤_, zero-le}
 use native.Mathlib.Omega.{arith}
-use native.Mathlib.Nat.{le-refl}
 use lib.Dec.{eqb, leb}
 use borrow.Author.Tests.{eqb-true, eqb-false}
 use Rattle.regexps.specs.Words.{Join, Row, Times, upto, any, Told, holds, fails}
 use Rattle.regexps.specs.Regexp.{One, Range, hits}
-use Rattle.regexps.specs.Laws.{
-  join,
-  join-nil,
-  join-cons,
-  cons-join,
-  nil-join,
-  join-map,
-  times-split,
-  times-join,
-  star-cons,
-  cons-star,
-  star-nil,
-  row-cons,
-}
+use Rattle.regexps.specs.Laws.{join-nil, join-cons, cons-join, nil-join, join-map, star-cons, cons-star, star-nil}
 use Rattle.regexps.specs.Agree.{told, both, either, told-true, true-told, leb-told, bool-told}
 use Rattle.regex_marks.specs.Turn.{Turn}
 

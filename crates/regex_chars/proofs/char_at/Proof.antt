@@ -1,158 +1,119 @@
+-- `regex_chars::char_at` meets its contract. Assumes nothing.
 use borrow.Author.Needs.{needs}
 use Rattle.regex_chars.proofs.Bytes.{stands-one, stands-two, stands-three, stands-four, stands-short-two, stands-short-three, stands-short-four}
 use mathlib.Core.Path.{refl}
 use native.Mathlib.Omega.{arith}
 use Rattle.regex_chars.proofs.char_at.Statement.{statement}
 use Rattle.regex_chars.proofs.char_at.Tie as tie
-use Rattle.regex_chars.proofs.char_at.Reads as reads
-use Rattle.regex_chars.proofs.char_at.Lts as lts
-use Rattle.regex_chars.proofs.wide.Reads as wide-reads
 
--- src/lib.rt:25:18
 shared-slice-read-wide : tie.Need-shared-slice-read-wide
 shared-slice-read-wide c = search needs
 
--- src/lib.rt:25:9
 wide-requires : tie.Need-wide-requires
 wide-requires c κs = search needs
 
--- src/lib.rt:29:19
 add-t11 : tie.Need-add-t11
 add-t11 c = search needs
 
--- src/lib.rt:27:9
 returns : tie.Need-returns
 returns c = stands-one _ _ _ (c .before .before .before .before .pre .0) (c .before .before .before .before .pre .1) (c .before .wide .ensures) (c .if1 .taken)
 
--- src/lib.rt:32:8
 sub-if2 : tie.Need-sub-if2
 sub-if2 c = search needs
 
--- src/lib.rt:33:9
 returns-2 : tie.Need-returns-2
 returns-2 c = stands-short-two _ _ _ (c .before .before .before .before .before .pre .0) (c .before .before .before .before .before .pre .1) (c .before .before .wide .ensures) (c .before .if1 .left) (c .if2 .taken)
 
--- src/lib.rt:35:23
 add-wide : tie.Need-add-wide
 add-wide c = search needs
 
--- src/lib.rt:35:18
 shared-slice-read-wide-2 : tie.Need-shared-slice-read-wide-2
 shared-slice-read-wide-2 c = search needs
 
--- src/lib.rt:35:13
 wide-requires-2 : tie.Need-wide-requires-2
 wide-requires-2 c κs = search needs
 
--- src/lib.rt:38:20
 mul-t16 : tie.Need-mul-t16
 mul-t16 c = search needs
 
--- src/lib.rt:38:20
 add-t17 : tie.Need-add-t17
 add-t17 c = search needs
 
--- src/lib.rt:39:19
 add-t18 : tie.Need-add-t18
 add-t18 c = search needs
 
--- src/lib.rt:37:9
 returns-3 : tie.Need-returns-3
 returns-3 c = stands-two _ _ _ (c .before .before .before .before .before .before .before .before .pre .0) (c .before .before .before .before .before .before .before .before .pre .1) (c .before .before .before .before .before .wide .ensures) (c .before .before .before .before .if1 .left) (c .before .wide2 .ensures) (c .if3 .taken) (c .before .before .before .if2 .left) refl
 
--- src/lib.rt:42:8
 sub-if4 : tie.Need-sub-if4
 sub-if4 c = search needs
 
--- src/lib.rt:43:9
 returns-4 : tie.Need-returns-4
 returns-4 c = stands-short-three _ _ _ (c .before .before .before .before .before .before .before .before .before .pre .0) (c .before .before .before .before .before .before .before .before .before .pre .1) (c .before .before .before .before .before .before .wide .ensures) (c .before .before .before .before .before .if1 .left) (c .before .if3 .left) (c .if4 .taken)
 
--- src/lib.rt:45:23
 add-wide-2 : tie.Need-add-wide-2
 add-wide-2 c = search needs
 
--- src/lib.rt:45:18
 shared-slice-read-wide-3 : tie.Need-shared-slice-read-wide-3
 shared-slice-read-wide-3 c = search needs
 
--- src/lib.rt:45:13
 wide-requires-3 : tie.Need-wide-requires-3
 wide-requires-3 c κs = search needs
 
--- src/lib.rt:48:20
 mul-t21 : tie.Need-mul-t21
 mul-t21 c = search needs
 
--- src/lib.rt:48:36
 mul-t22 : tie.Need-mul-t22
 mul-t22 c = search needs
 
--- src/lib.rt:48:20
 add-t23 : tie.Need-add-t23
 add-t23 c = search needs
 
--- src/lib.rt:48:20
 add-t24 : tie.Need-add-t24
 add-t24 c = search needs
 
--- src/lib.rt:49:19
 add-t25 : tie.Need-add-t25
 add-t25 c = search needs
 
--- src/lib.rt:47:9
 returns-5 : tie.Need-returns-5
 returns-5 c = stands-three _ _ _ (c .before .before .before .before .before .before .before .before .before .before .before .before .pre .0) (c .before .before .before .before .before .before .before .before .before .before .before .before .pre .1) (c .before .before .before .before .before .before .before .before .before .wide .ensures) (c .before .before .before .before .before .before .before .before .if1 .left) (c .before .before .before .before .if3 .left) (c .before .before .before .before .before .wide2 .ensures) (c .before .wide3 .ensures) (c .if5 .taken) (c .before .before .before .if4 .left) refl
 
--- src/lib.rt:52:8
 sub-if6 : tie.Need-sub-if6
 sub-if6 c = search needs
 
--- src/lib.rt:53:9
 returns-6 : tie.Need-returns-6
 returns-6 c = stands-short-four _ _ _ (c .before .before .before .before .before .before .before .before .before .before .before .before .before .pre .0) (c .before .before .before .before .before .before .before .before .before .before .before .before .before .pre .1) (c .before .before .before .before .before .before .before .before .before .before .wide .ensures) (c .before .before .before .before .before .before .before .before .before .if1 .left) (c .before .before .before .before .before .if3 .left) (c .before .if5 .left) (c .if6 .taken)
 
--- src/lib.rt:55:23
 add-wide-3 : tie.Need-add-wide-3
 add-wide-3 c = search needs
 
--- src/lib.rt:55:18
 shared-slice-read-wide-4 : tie.Need-shared-slice-read-wide-4
 shared-slice-read-wide-4 c = search needs
 
--- src/lib.rt:55:13
 wide-requires-4 : tie.Need-wide-requires-4
 wide-requires-4 c κs = search needs
 
--- src/lib.rt:57:16
 mul-t27 : tie.Need-mul-t27
 mul-t27 c = search needs
 
--- src/lib.rt:57:34
 mul-t28 : tie.Need-mul-t28
 mul-t28 c = search needs
 
--- src/lib.rt:57:16
 add-t29 : tie.Need-add-t29
 add-t29 c = search needs
 
--- src/lib.rt:57:45
 mul-t30 : tie.Need-mul-t30
 mul-t30 c = search needs
 
--- src/lib.rt:57:16
 add-t31 : tie.Need-add-t31
 add-t31 c = search needs
 
--- src/lib.rt:57:16
 add-t32 : tie.Need-add-t32
 add-t32 c = search needs
 
--- src/lib.rt:58:15
 add-t12 : tie.Need-add-t12
 add-t12 c = search needs
 
--- src/lib.rt:21:1
 returns-7 : tie.Need-returns-7
 returns-7 c = stands-four _ _ _ (c .before .before .before .before .before .before .before .before .before .before .before .before .before .before .before .pre .0) (c .before .before .before .before .before .before .before .before .before .before .before .before .before .before .before .pre .1) (c .before .before .before .before .before .before .before .before .before .before .before .before .wide .ensures) (c .before .before .before .before .before .before .before .before .before .before .before .if1 .left) (c .before .before .before .before .before .before .before .if3 .left) (c .before .before .before .if5 .left) (omega (arith, c .before .before .before .before .before .before .before .before .before .before .before .before .wide .ensures, c .before .before .before .before .before .before .before .before .before .before .before .before .before .shared-slice-known2 .given (c .before .before .before .before .before .before .before .before .before .before .before .before .before .before .before .args .at))) (c .before .before .before .before .before .before .before .before .wide2 .ensures) (c .before .before .before .before .wide3 .ensures) (c .wide4 .ensures) (c .before .before .if6 .left) refl
 

@@ -1,13 +1,12 @@
+-- `regex_marks::clear` meets its contract. Assumes nothing.
 use Rattle.regex_marks.proofs.clear.Statement.{statement}
-use lib.ListN.{length, getD, set, length-set}
+use lib.ListN.{length, getD, length-set}
 use mathlib.Core.Path.{_≡_, refl, _∙_}
-use Prim.Native.Nat.{ℕ, _≤_, _<_, _-_, _+_}
+use Prim.Native.Nat.{ℕ, _≤_, _<_, _-_}
 use Rattle.regex_marks.proofs.Runs.{clear-more, clear-all}
 use native.Mathlib.Omega.{arith}
 use borrow.Author.Needs.{needs}
 use Rattle.regex_marks.proofs.clear.Tie as tie
-use Rattle.regex_marks.proofs.clear.Reads as reads
-use Rattle.regex_marks.proofs.clear.Lts as lts
 
 abbrev Inv-loop : tie.InvT-loop
 Inv-loop marks₀ i₀ marks i = (length marks ≡ length marks₀) × (i ≤ length marks) × ((k : ℕ) → k < i → getD marks k 0 ≡ 0)
@@ -15,31 +14,24 @@ Inv-loop marks₀ i₀ marks i = (length marks ≡ length marks₀) × (i ≤ le
 abbrev μ-loop : tie.MeasureT-loop
 μ-loop marks₀ i₀ marks i = length marks₀ - i
 
--- src/lib.rt:392:5
 loop-holds : tie.Need-loop-holds Inv-loop μ-loop
 loop-holds c = (refl, omega arith, λ k h. absurd (omega arith))
 
--- src/lib.rt:393:9
 slice-write-marks : tie.Need-slice-write-marks Inv-loop μ-loop
 slice-write-marks c = search needs
 
--- src/lib.rt:394:9
 add-i : tie.Need-add-i Inv-loop μ-loop
 add-i c = search needs
 
--- src/lib.rt:392:5
 loop-less : tie.Need-loop-less Inv-loop μ-loop
 loop-less c = omega (arith, c .before .loop .inv .0, c .loop-test .taken)
 
--- src/lib.rt:392:5
 loop-again : tie.Need-loop-again Inv-loop μ-loop
 loop-again c = (length-set (c .before .loop .marks) (c .before .loop .i) 0 ∙ c .before .loop .inv .0, omega (arith, length-set (c .before .loop .marks) (c .before .loop .i) 0, c .loop-test .taken), clear-more (c .before .loop .marks) (c .before .loop .i) (c .loop-test .taken) (c .before .loop .inv .2))
 
--- src/lib.rt:388:1
 same-length : tie.Need-same-length Inv-loop μ-loop
 same-length c = search needs
 
--- src/lib.rt:388:1
 returns : tie.Need-returns Inv-loop μ-loop
 returns c = clear-all (c .before .loop .marks) (c .before .loop .i) (c .loop-test .left) (c .before .loop .inv .2)
 

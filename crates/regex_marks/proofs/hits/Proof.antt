@@ -1,20 +1,15 @@
+-- `regex_marks::hits` meets its contract. Assumes nothing.
 use borrow.Author.Needs.{needs}
 use Rattle.regex_marks.proofs.Runs.{is-entered, not-entered}
 use Rattle.regex_marks.proofs.hits.Statement.{statement}
 use Rattle.regex_marks.proofs.hits.Tie as tie
-use Rattle.regex_marks.proofs.hits.Reads as reads
-use Rattle.regex_marks.proofs.hits.Lts as lts
-use Rattle.regex_chars.proofs.class_has.Reads as class-has-reads
 
--- src/lib.rt:56:16
 class-has-requires : tie.Need-class-has-requires
 class-has-requires c κs = search needs
 
--- src/lib.rt:52:1
 returns : tie.Need-returns
 returns c = is-entered (c .before .if1 .taken) (c .class-has .ensures)
 
--- src/lib.rt:52:1
 returns-2 : tie.Need-returns-2
 returns-2 c = not-entered (c .if1 .left)
 

@@ -1,16 +1,13 @@
+-- `regex_marks::read` meets its contract. Assumes nothing.
 use Rattle.regex_marks.proofs.read.Statement.{statement}
 use Rattle.regex_marks.proofs.Runs.{read-more, read-end}
 use Rattle.regex_marks.specs.Runs.{Read}
 use lib.ListN.{length}
 use mathlib.Core.Path.{_≡_, refl, sym, _∙_}
-use Prim.Native.Nat.{ℕ, _≤_, _<_, _-_, _+_}
+use Prim.Native.Nat.{_≤_, _-_}
 use native.Mathlib.Omega.{arith}
 use borrow.Author.Needs.{needs}
 use Rattle.regex_marks.proofs.read.Tie as tie
-use Rattle.regex_marks.proofs.read.Reads as reads
-use Rattle.regex_marks.proofs.read.Lts as lts
-use Rattle.regex_chars.proofs.char_at.Reads as char-at-reads
-use Rattle.regex_marks.proofs.shift.Reads as shift-reads
 
 abbrev Inv-loop : tie.InvT-loop
 Inv-loop code text marks₀ empty end last₀ i₀ marks last i = (length marks ≡ length marks₀) × (i ≤ end) × Read code text i marks last
@@ -18,31 +15,24 @@ Inv-loop code text marks₀ empty end last₀ i₀ marks last i = (length marks 
 abbrev μ-loop : tie.MeasureT-loop
 μ-loop code text marks₀ empty end last₀ i₀ marks last i = end - i
 
--- src/lib.rt:405:5
 loop-holds : tie.Need-loop-holds Inv-loop μ-loop
 loop-holds c = (refl, omega arith, c .before .before .before .pre)
 
--- src/lib.rt:407:13
 char-at-requires : tie.Need-char-at-requires Inv-loop μ-loop
 char-at-requires c κs = (c .loop-test .taken, omega arith)
 
--- src/lib.rt:408:13
 shift-requires : tie.Need-shift-requires Inv-loop μ-loop
 shift-requires c κs = search needs
 
--- src/lib.rt:405:5
 loop-less : tie.Need-loop-less Inv-loop μ-loop
 loop-less c = omega (arith, c .before .before .before .before .char-at .ensures .after, c .before .before .before .before .char-at .ensures .within)
 
--- src/lib.rt:405:5
 loop-again : tie.Need-loop-again Inv-loop μ-loop
 loop-again c = (c .before .before .shift .ensures .long ∙ c .before .before .before .before .before .before .loop .inv .0, c .before .before .before .before .char-at .ensures .within, read-more _ _ (c .before .before .before .before .before .loop-test .taken) (c .before .before .before .before .char-at .ensures) (c .before .before .before .before .before .before .loop .inv .2) (c .before .before .shift .ensures))
 
--- src/lib.rt:398:1
 same-length : tie.Need-same-length Inv-loop μ-loop
 same-length c = search needs
 
--- src/lib.rt:398:1
 returns : tie.Need-returns Inv-loop μ-loop
 returns c = read-end _ _ _ _ _ (sym (c .before .loop .inv .0)) (c .loop-test .left) (c .before .loop .inv .2)
 

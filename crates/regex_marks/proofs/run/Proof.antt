@@ -1,31 +1,22 @@
+-- `regex_marks::run` meets its contract. Assumes nothing.
 use borrow.Author.Needs.{needs}
 use mathlib.Core.Path.{_∙_}
 use Rattle.regex_marks.proofs.Runs.{read-start, ran-room}
 use Rattle.regex_marks.proofs.run.Statement.{statement}
 use Rattle.regex_marks.proofs.run.Tie as tie
-use Rattle.regex_marks.proofs.run.Reads as reads
-use Rattle.regex_marks.proofs.run.Lts as lts
-use Rattle.regex_marks.proofs.clear.Reads as clear-reads
-use Rattle.regex_marks.proofs.read.Reads as read-reads
-use Rattle.regex_marks.proofs.shift.Reads as shift-reads
 
--- src/lib.rt:329:5
 clear-requires : tie.Need-clear-requires
 clear-requires c κs = search needs
 
--- src/lib.rt:330:9
 shift-requires : tie.Need-shift-requires
 shift-requires c κs = search needs
 
--- src/lib.rt:332:5
 read-requires : tie.Need-read-requires
 read-requires c κs = read-start (c .before .before .before .before .before .before .before .clear .ensures) (c .before .before .before .shift .ensures)
 
--- src/lib.rt:326:1
 same-length : tie.Need-same-length
 same-length c = search needs
 
--- src/lib.rt:326:1
 returns : tie.Need-returns
 returns c = ran-room (c .before .before .before .before .before .before .shift .ensures .long ∙ c .before .before .before .before .before .before .before .before .before .before .clear .kept .0) (c .before .before .read .ensures)
 

@@ -19,78 +19,59 @@ abbrev pub calls : ℕ → lts.Claims
 calls t = (stop-reads.Asked, stop-reads.Learnt, either-reads.Asked, either-reads.Learnt, shift-below t, shift.Post, bit-reads.Asked, bit-reads.Learnt, looped-reads.Asked, looped-reads.Learnt, enters-reads.Asked, enters-reads.Learnt, endless-below t, endless.Post, chain-reads.Asked, chain-reads.Learnt)
 
 module _ (t : ℕ) where
-  -- src/lib.rt:286:13
   pub stop-requires : lts.Need-stop-requires (calls t) (endless-at t) endless.Post
   stop-requires c κs = search needs
 
-  -- src/lib.rt:286:13
   pub returns : lts.Need-returns (calls t) (endless-at t) endless.Post
   returns c = rw (c .stop .ensures) (endless-room _ _ _ _ _ (c .before .before .before .before .before .pre .1) _ _ (c .before .before .if1 .taken) (c .before .if2 .taken))
 
-  -- src/lib.rt:288:17
   pub slice-read-f : lts.Need-slice-read-f (calls t) (endless-at t) endless.Post
   slice-read-f c = search needs
 
-  -- src/lib.rt:289:13
   pub either-requires : lts.Need-either-requires (calls t) (endless-at t) endless.Post
   either-requires c κs = search needs
 
-  -- src/lib.rt:290:40
   pub add-shift : lts.Need-add-shift (calls t) (endless-at t) endless.Post
   add-shift c = search needs
 
-  -- src/lib.rt:290:13
   pub shift-requires : lts.Need-shift-requires (calls t) (endless-at t) endless.Post
   shift-requires c κs = (omega (arith, c .before .before .before .before .before .before .before .pre .0), omega (arith, c .before .before .before .if2 .left))
 
-  -- src/lib.rt:291:23
   pub bit-requires : lts.Need-bit-requires (calls t) (endless-at t) endless.Post
   bit-requires c κs = search needs
 
-  -- src/lib.rt:291:9
   pub slice-write-marks : lts.Need-slice-write-marks (calls t) (endless-at t) endless.Post
   slice-write-marks c = omega (arith, c .before .before .before .shift .ensures .long, c .before .before .before .before .before .before .before .if2 .left)
 
-  -- src/lib.rt:292:9
   pub looped-requires : lts.Need-looped-requires (calls t) (endless-at t) endless.Post
   looped-requires c κs = omega (arith, c .before .before .before .shift .ensures .fits, c .before .before .before .before .before .before .before .before .before .before .before .good .1 .1 .0)
 
-  -- src/lib.rt:292:9
   pub same-length : lts.Need-same-length (calls t) (endless-at t) endless.Post
   same-length c = search needs
 
-  -- src/lib.rt:292:9
   pub returns-2 : lts.Need-returns-2 (calls t) (endless-at t) endless.Post
   returns-2 c = rw (c .looped .ensures) (endless-loop _ _ _ _ _ (c .before .before .before .before .before .before .before .before .before .before .before .before .pre .1) _ (c .before .before .before .before .shift .ensures) _ (c .before .before .before .before .before .before .before .before .before .if1 .taken) (c .before .before .before .before .before .before .before .before .if2 .left) _ (c .before .bit .ensures) _ (c .before .before .before .before .before .before .either .ensures) refl)
 
-  -- src/lib.rt:294:9
   pub shift-requires-2 : lts.Need-shift-requires-2 (calls t) (endless-at t) endless.Post
   shift-requires-2 c κs = (omega (arith, c .before .before .before .before .pre .0), c .before .before .before .before .pre .1)
 
-  -- src/lib.rt:295:9
   pub enters-requires : lts.Need-enters-requires (calls t) (endless-at t) endless.Post
   enters-requires c κs = search needs
 
-  -- src/lib.rt:296:13
   pub add-b : lts.Need-add-b (calls t) (endless-at t) endless.Post
   add-b c = omega (arith, c .before .before .before .before .shift2 .ensures .fits, c .before .before .before .before .before .before .before .before .before .good .1 .1 .0)
 
-  -- src/lib.rt:297:41
   pub sub-endless : lts.Need-sub-endless (calls t) (endless-at t) endless.Post
   sub-endless c = omega (arith, c .before .before .before .before .before .before .before .if1 .left)
 
-  -- src/lib.rt:297:9
   pub endless-requires : lts.Need-endless-requires (calls t) (endless-at t) endless.Post
   endless-requires c κs = (omega (arith, c .before .before .before .before .before .before .before .before .before .before .pre .0, c .before .before .before .before .before .before .before .if1 .left), omega (arith, c .before .before .before .before .before .shift2 .ensures .fits, c .before .before .before .before .before .shift2 .ensures .long))
 
-  -- src/lib.rt:298:5
   pub chain-requires : lts.Need-chain-requires (calls t) (endless-at t) endless.Post
   chain-requires c κs = omega (arith, c .before .before .before .before .before .before .before .before .shift2 .ensures .long, c .before .before .endless .ensures .fits, c .before .before .before .before .before .before .before .before .before .before .before .before .before .good .1 .1 .0)
 
-  -- src/lib.rt:272:1
   pub same-length-2 : lts.Need-same-length-2 (calls t) (endless-at t) endless.Post
   same-length-2 c = search needs
 
-  -- src/lib.rt:272:1
   pub returns-3 : lts.Need-returns-3 (calls t) (endless-at t) endless.Post
   returns-3 c = rw (c .chain .ensures) (endless-more _ _ _ _ _ (c .before .before .before .before .before .before .before .before .before .before .before .before .before .before .pre .1) _ (c .before .before .before .before .before .before .before .before .before .shift2 .ensures) _ (c .before .before .before .before .before .before .before .before .before .before .before .if1 .left) (c .before .before .before .before .before .before .enters .ensures) (c .before .before .before .endless .ensures))

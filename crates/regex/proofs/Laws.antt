@@ -1,0 +1,46 @@
+-- From the matchers' answers to the definition's. Assumes nothing.
+use mathlib.Core.Path.{_≡_, ap, sym, _∙_}
+use mathlib.Core.Bool.{Bool}
+use mathlib.Core.List.{List, []}
+use Prim.Native.Nat.{ℕ, _-_, _≤_}
+use native.Mathlib.Omega.{arith}
+use lib.ListN.{length, take}
+use lib.Seq.{length-take-le}
+use Rattle.definition.specs.Utf8.{encodeAll}
+use Rattle.utf8.specs.Decode.{decode}
+use Rattle.regexps.specs.Words.{Told}
+use Rattle.regexps.specs.Regexp.{Regexp, Describes, described}
+use Rattle.regexps.specs.Scope.{widen}
+use Rattle.regexps.specs.Agree.{agree, told-same}
+use Rattle.regexps_texts.specs.Scalars.{scalarsOf, scalars-of}
+use Rattle.regex_code.specs.Flat.{flat}
+use Rattle.regex_chars.specs.Laws.{slice-end}
+use Rattle.regex_total.specs.Answers.{Matched}
+use Rattle.regex_marks.specs.Runs.{Ran, Weighs}
+use Rattle.regex.specs.Tested.{Tested}
+
+-- for any expression that the code is of, and any text that the bytes are of
+by :
+    (s t : List ℕ) (b : Bool) → ((x : Regexp) (cs : List ℕ) → s ≡ flat x [] → t ≡ encodeAll cs → Told (Describes x cs) b)
+    → Tested s t b
+by s t b f =
+    record {
+      of =
+          λ k x e u.
+          let d = decode t u in
+          let q : scalarsOf t ≡ d .0 = ap scalarsOf (sym (d .2)) ∙ scalars-of (d .0) in
+          told-same (f (widen k x) (d .0) e (sym (d .2))) (agree (widen k x) (d .0)) ∙ ap (described (widen k x)) (sym q);
+    }
+
+pub by-total : (s t : List ℕ) (b : Bool) → Matched s 0 t 0 (length t) b → Tested s t b
+by-total s t b m = by s t b (λ x cs q u. m .of x [] cs q (slice-end t 0 ∙ u))
+
+-- there are as many marks as positions
+pub by-marks :
+    (s t : List ℕ) (room n : ℕ) {next m : ℕ} {b : Bool} → Weighs s 0 room next n → n ≤ room → Ran s t m b → n ≤ m → Tested s t b
+by-marks s t room n {next} {m} {b} w h r k =
+    by s t b (λ x cs q u. r .of x cs q u (let e = w .of x [] q .1 h in omega arith))
+
+-- the first n of those that are lent are n
+pub taken : (n : ℕ) (ms : List ℕ) → n ≤ length ms → n ≤ length (take (n - 0) ms)
+taken n ms h = let e = length-take-le (n - 0) ms (omega arith) in omega arith

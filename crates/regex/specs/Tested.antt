@@ -1,0 +1,15 @@
+-- The answer: what the definition says, for each scope and expression that the code is of. The text is UTF-8.
+use mathlib.Core.Path.{_≡_}
+use mathlib.Core.Bool.{Bool, true}
+use mathlib.Core.List.{List, []}
+use Prim.Native.Nat.{ℕ}
+use Rattle.definition.specs.Utf8.{isUtf8}
+use Rattle.regexps.specs.Regexp.{Regexp, described}
+use Rattle.regexps.specs.Scope.{Scope, widen}
+use Rattle.regexps_texts.specs.Scalars.{scalarsOf}
+use Rattle.regex_code.specs.Flat.{flat}
+
+pub record Tested (code text : List ℕ) (b : Bool) : Type 0 where
+  pub of :
+      (scope : Scope) (x : Regexp) → code ≡ flat (widen scope x) [] → isUtf8 text ≡ true
+      → b ≡ described (widen scope x) (scalarsOf text)

@@ -1,0 +1,4 @@
+pub mod Count
+pub mod Parts
+pub mod Steps
+pub mod Lengths

@@ -1,0 +1,301 @@
+// The total matcher: a recursion over (expression, from, to), of which the last two are places in the bytes of the text. Right for
+// every expression and text; its depth is bounded by the nesting of the expression and the number of bits of a count, and it needs
+// no other room.
+use regex_chars::char_at;
+use regex_chars::class_has;
+use regex_code::skip;
+use regex_code::skip_class;
+use regex_code::wide;
+ghost use mathlib.Core.Path.{_≡_};
+ghost use Prim.Native.Nat.{_+_, _≤_, _<_, _^_, min, max};
+ghost use mathlib.Core.Bool.{true};
+ghost use lib.ListN.{length, getD};
+ghost use Rattle.regex_total.specs.Answers.{Inside, Matched, Repeated, Paired, Joined, Items, Widths, Capped, Apart, Reaches};
+
+// One character of the class at `at`.
+fn one(code: &[u32], at: usize, text: &[u8], from: usize, to: usize) -> bool
+    requires { ⌜ Inside (now text) from to ⌝ ∗ ⌜ at < length (now code) ⌝ ∗ ⌜ getD (now code) at 0 ≡ 1 ⌝ }
+    ensures { λ r. ⌜ Matched (now (code .entry)) at (now (text .entry)) from to r ⌝ }
+{
+    if from == to {
+        return false;
+    }
+    let c = char_at(text, from, to);
+    if c.next != to {
+        return false;
+    }
+    class_has(code, at, c.value)
+}
+
+// Whether the part from..to of the text is described by the code at `at`.
+pub fn matches(code: &[u32], at: usize, text: &[u8], from: usize, to: usize) -> bool
+    requires { ⌜ Inside (now text) from to ⌝ }
+    ensures { λ r. ⌜ Matched (now (code .entry)) at (now (text .entry)) from to r ⌝ }
+{
+    if code.len() <= at {
+        return false;
+    }
+    let k = code[at];
+    if k == 0 {
+        return from == to;
+    }
+    if k == 1 {
+        return one(code, at, text, from, to);
+    }
+    if k == 2 {
+        let b = skip(code, at + 1);
+        return cuts(code, at + 1, 1, 1, b, 1, 1, text, from, to);
+    }
+    if k == 3 {
+        if matches(code, at + 1, text, from, to) {
+            return true;
+        }
+        let b = skip(code, at + 1);
+        return matches(code, b, text, from, to);
+    }
+    if code.len() - at < 3 {
+        return false;
+    }
+    if k == 4 {
+        let lo = wide(code[at + 1]);
+        let hi = wide(code[at + 2]);
+        return times(code, at + 3, lo, hi, text, from, to);
+    }
+    if k == 5 {
+        let lo = wide(code[at + 1]);
+        return times(code, at + 2, lo, lo + (to - from), text, from, to);
+    }
+    false
+}
+
+// How many bytes a word of the part at `at` has: least and most, where 2^31 is "as many as you like".
+pub struct Width {
+    pub next: usize,
+    pub least: usize,
+    pub most: usize,
+}
+
+fn capped(n: usize) -> usize
+    ensures { λ r. ⌜ Capped n r ⌝ }
+{
+    if n < 2147483648 { n } else { 2147483648 }
+}
+
+fn lesser(a: usize, b: usize) -> usize
+    ensures { λ r. ⌜ r ≡ min a b ⌝ }
+{
+    if a <= b { a } else { b }
+}
+
+fn greater(a: usize, b: usize) -> usize
+    ensures { λ r. ⌜ r ≡ max a b ⌝ }
+{
+    if a <= b { b } else { a }
+}
+
+// The most bytes that a character of the class at `at` has: those of the end of its range, if it is one range and no complement.
+fn reach(code: &[u32], at: usize) -> usize
+    requires { ⌜ at < length (now code) ⌝ }
+    ensures { λ r. ⌜ Reaches (now (code .entry)) at r ⌝ }
+{
+    if code.len() - at < 5 {
+        return 4;
+    }
+    if code[at + 1] == 1 {
+        return 4;
+    }
+    if code[at + 2] != 1 {
+        return 4;
+    }
+    if code[at + 4] < 0x80 {
+        return 1;
+    }
+    4
+}
+
+pub fn measure(code: &[u32], at: usize) -> Width
+    ensures { λ r. ⌜ Widths (now (code .entry)) at (r .next) (r .least) (r .most) ⌝ }
+{
+    if code.len() <= at {
+        return Width {
+            next: at,
+            least: 0,
+            most: 0,
+        };
+    }
+    let k = code[at];
+    if k == 0 {
+        return Width {
+            next: at + 1,
+            least: 0,
+            most: 0,
+        };
+    }
+    if k == 1 {
+        return Width {
+            next: skip_class(code, at),
+            least: 1,
+            most: reach(code, at),
+        };
+    }
+    if k == 2 {
+        let a = measure(code, at + 1);
+        let n = a.next;
+        let b = measure(code, n);
+        return Width {
+            next: b.next,
+            least: capped(a.least + b.least),
+            most: capped(a.most + b.most),
+        };
+    }
+    if k == 3 {
+        let a = measure(code, at + 1);
+        let n = a.next;
+        let b = measure(code, n);
+        return Width {
+            next: b.next,
+            least: lesser(a.least, b.least),
+            most: greater(a.most, b.most),
+        };
+    }
+    if code.len() - at < 3 {
+        return Width {
+            next: at,
+            least: 0,
+            most: 0,
+        };
+    }
+    if k == 4 {
+        let lo = wide(code[at + 1]);
+        let hi = wide(code[at + 2]);
+        let a = measure(code, at + 3);
+        if a.most < 2147483648 {
+            return Width {
+                next: a.next,
+                least: capped(a.least * lo),
+                most: capped(a.most * hi),
+            };
+        }
+        return Width {
+            next: a.next,
+            least: capped(a.least * lo),
+            most: 2147483648,
+        };
+    }
+    if k == 5 {
+        let lo = wide(code[at + 1]);
+        let a = measure(code, at + 2);
+        return Width {
+            next: a.next,
+            least: capped(a.least * lo),
+            most: 2147483648,
+        };
+    }
+    Width {
+        next: at,
+        least: 0,
+        most: 0,
+    }
+}
+
+// Whether no row of lo to hi words, each of least to most characters, has n characters.
+fn apart(n: usize, lo: usize, hi: usize, least: usize, most: usize) -> bool
+    ensures { λ r. ⌜ (r ≡ true → Apart n lo hi least most) ⌝ }
+{
+    if 0 < least {
+        if n / least < lo {
+            return true;
+        }
+    }
+    if n == 0 {
+        return false;
+    }
+    if most == 0 {
+        return true;
+    }
+    if most < 2147483648 {
+        return hi <= (n - 1) / most;
+    }
+    false
+}
+
+// .. by it lo to hi times. A count is halved, so its depth is its number of bits.
+fn times(code: &[u32], at: usize, lo: usize, hi: usize, text: &[u8], from: usize, to: usize) -> bool
+    requires { ⌜ Inside (now text) from to ⌝ }
+    ensures { λ r. ⌜ Repeated (now (code .entry)) at lo hi (now (text .entry)) from to r ⌝ }
+{
+    if hi < lo {
+        return false;
+    }
+    let d = to - from;
+    if d < hi - lo {
+        return times(code, at, lo, lo + d, text, from, to);
+    }
+    if hi == 0 {
+        return from == to;
+    }
+    if from == to {
+        if lo == 0 {
+            return true;
+        }
+        return matches(code, at, text, from, to);
+    }
+    let w = measure(code, at);
+    if apart(d, lo, hi, w.least, w.most) {
+        return false;
+    }
+    if hi == 1 {
+        return matches(code, at, text, from, to);
+    }
+    let l = lo / 2;
+    let h = hi / 2;
+    cuts(code, at, l, h, at, lo - l, hi - h, text, from, to)
+}
+
+fn pair(
+    code: &[u32],
+    a: usize,
+    l: usize,
+    h: usize,
+    b: usize,
+    m: usize,
+    n: usize,
+    text: &[u8],
+    from: usize,
+    mid: usize,
+    to: usize,
+) -> bool
+    requires { ⌜ Inside (now text) from mid ⌝ ∗ ⌜ Inside (now text) mid to ⌝ ∗ ⌜ Items a l h b m n ⌝ }
+    ensures { λ r. ⌜ Paired (now (code .entry)) a l h b m n (now (text .entry)) from mid to r ⌝ }
+{
+    if times(code, a, l, h, text, from, mid) {
+        return times(code, b, m, n, text, mid, to);
+    }
+    false
+}
+
+fn cuts(
+    code: &[u32],
+    a: usize,
+    l: usize,
+    h: usize,
+    b: usize,
+    m: usize,
+    n: usize,
+    text: &[u8],
+    from: usize,
+    to: usize,
+) -> bool
+    requires { ⌜ Inside (now text) from to ⌝ ∗ ⌜ Items a l h b m n ⌝ }
+    ensures { λ r. ⌜ Joined (now (code .entry)) a l h b m n (now (text .entry)) from to r ⌝ }
+{
+    let mut i = from;
+    while i < to {
+        if pair(code, a, l, h, b, m, n, text, from, i, to) {
+            return true;
+        }
+        let c = char_at(text, i, to);
+        i = c.next;
+    }
+    pair(code, a, l, h, b, m, n, text, from, to, to)
+}
