@@ -1,6 +1,6 @@
 -- From the matchers' answers to the definition's. Assumes nothing.
 use mathlib.Core.Path.{_≡_, ap, sym, _∙_}
-use mathlib.Core.Bool.{Bool}
+use mathlib.Core.Bool.{Bool, true}
 use mathlib.Core.List.{List, []}
 use Prim.Native.Nat.{ℕ, _-_, _≤_}
 use native.Mathlib.Omega.{arith}
@@ -17,6 +17,7 @@ use Rattle.regex_code.specs.Flat.{flat}
 use Rattle.regex_chars.specs.Laws.{slice-end}
 use Rattle.regex_total.specs.Answers.{Matched}
 use Rattle.regex_marks.specs.Runs.{Ran, Weighs}
+use Rattle.regex_plain.specs.Rows.{Known}
 use Rattle.regex.specs.Tested.{Tested}
 
 -- for any expression that the code is of, and any text that the bytes are of
@@ -31,6 +32,9 @@ by s t b f =
           let q : scalarsOf t ≡ d .0 = ap scalarsOf (sym (d .2)) ∙ scalars-of (d .0) in
           told-same (f (widen k x) (d .0) e (sym (d .2))) (agree (widen k x) (d .0)) ∙ ap (described (widen k x)) (sym q);
     }
+
+pub by-plain : (s t : List ℕ) {ok b : Bool} → Known s t ok b → ok ≡ true → Tested s t b
+by-plain s t {ok} {b} k e = by s t b (λ x cs q u. k .of e x cs q u)
 
 pub by-total : (s t : List ℕ) (b : Bool) → Matched s 0 t 0 (length t) b → Tested s t b
 by-total s t b m = by s t b (λ x cs q u. m .of x [] cs q (slice-end t 0 ∙ u))

@@ -1,9 +1,15 @@
 -- `regex::test` meets its contract. Assumes nothing.
 use borrow.Author.Needs.{needs}
-use Rattle.regex.proofs.Laws.{by-total, by-marks, taken}
+use Rattle.regex.proofs.Laws.{by-plain, by-total, by-marks, taken}
 use native.Mathlib.Omega.{arith}
 use Rattle.regex.proofs.test.Statement.{statement}
 use Rattle.regex.proofs.test.Tie as tie
+
+ask-requires : tie.Need-ask-requires
+ask-requires c κs = search needs
+
+returns : tie.Need-returns
+returns c = by-plain _ _ (c .before .ask .ensures) (c .if1 .taken)
 
 lesser-requires : tie.Need-lesser-requires
 lesser-requires c κs = search needs
@@ -14,8 +20,8 @@ weigh-requires c κs = search needs
 matches-requires : tie.Need-matches-requires
 matches-requires c κs = search needs
 
-returns : tie.Need-returns
-returns c = by-total _ _ _ (c .matches .ensures)
+returns-2 : tie.Need-returns-2
+returns-2 c = by-total _ _ _ (c .matches .ensures)
 
 sub-run : tie.Need-sub-run
 sub-run c = search needs
@@ -32,20 +38,22 @@ run-requires c κs = search needs
 same-length : tie.Need-same-length
 same-length c = search needs
 
-returns-2 : tie.Need-returns-2
-returns-2 c = by-marks _ _ _ _ (c .before .before .before .before .before .weigh .ensures) (c .before .before .before .before .if1 .left) (c .before .before .run .ensures) (taken _ _ (omega (arith, c .before .before .before .before .if1 .left, c .before .before .before .before .before .before .lesser .ensures)))
+returns-3 : tie.Need-returns-3
+returns-3 c = by-marks _ _ _ _ (c .before .before .before .before .before .weigh .ensures) (c .before .before .before .before .if2 .left) (c .before .before .run .ensures) (taken _ _ (omega (arith, c .before .before .before .before .if2 .left, c .before .before .before .before .before .before .lesser .ensures)))
 
 pub test-spec : {M : Type 1} → statement M
 test-spec =
     tie.close
     (tie.spec
+    ask-requires
+    returns
     lesser-requires
     weigh-requires
     matches-requires
-    returns
+    returns-2
     sub-run
     part-run-start
     part-run-end
     run-requires
     same-length
-    returns-2)
+    returns-3)
