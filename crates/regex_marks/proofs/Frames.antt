@@ -119,7 +119,7 @@ module _ (P : List ℕ → Type 0) (A : ℕ → List ℕ → Type 0) (n : ℕ) (
   upto-none lo zero b w r = r
   upto-none lo (suc h) b w r = ⊎-elim (λ j. f b (j .fore) (j .is-fore)) (λ i. upto-none (pred lo) h (b + n) w i) r
 
-  any-none : (lo b : ℕ) (w : List ℕ) → RestAny P A n lo b w → ⊥
+  pub any-none : (lo b : ℕ) (w : List ℕ) → RestAny P A n lo b w → ⊥
   any-none zero b w j = f (b + 1) (j .fore) (j .is-fore)
   any-none (suc zero) b w j = f (b + 1) (j .fore) (j .is-fore)
   any-none (suc (suc l)) b w r = ⊎-elim (λ j. f b (j .fore) (j .is-fore)) (λ i. any-none (suc l) (b + n) w i) r

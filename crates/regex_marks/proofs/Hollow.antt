@@ -3,7 +3,7 @@ use mathlib.Core.Path.{_≡_, refl, ap, sym, _∙_, subst}
 use mathlib.Core.Bool.{Bool, false, _&&_, _||_}
 use mathlib.Core.List.{List, [], _∷_, _++_}
 use mathlib.Core.Logic.{_⊎_, inl, inr, ⊎-elim}
-use Prim.Native.Nat.{ℕ, zero, suc, _+_, _-_, _≤_, zero-le}
+use Prim.Native.Nat.{ℕ, zero, suc, _+_, _-_, _≤_, _<_, zero-le}
 use native.Mathlib.Omega.{arith}
 use native.Mathlib.Nat.{le-refl}
 use lib.Dec.{eqb, leb}
@@ -15,10 +15,10 @@ use Rattle.regex_marks.specs.Marks.{size, copies, endless, Rest, Good, G
 use Rattle.regex_marks.specs.Turn.{Turn}
 use Rattle.regex_marks.specs.Moves.{Moved}
 use Rattle.regex_marks.proofs.Turns.{turn-none, turn-same, eqb-told}
-use Rattle.regex_marks.proofs.Frames.{upto-none}
+use Rattle.regex_marks.proofs.Frames.{upto-none, any-none, good-frame}
 
 -- a repeat without end has a mark
-endless-some : (n lo : ℕ) → 1 ≤ endless n lo
+pub endless-some : (n lo : ℕ) → 1 ≤ endless n lo
 endless-some n zero = omega arith
 endless-some n (suc zero) = omega arith
 endless-some n (suc (suc l)) = let h = endless-some n (suc l) in omega arith
@@ -110,5 +110,50 @@ moved-bare {x} lo hi {b} {c} {ms} {ms'} {m} {n} {e} z p =
           record {
             low = λ i h. p .kept .low i h;
             high = λ i h. p .kept .high i (omega arith);
+          };
+    }
+
+-- ---- without end, from two copies on
+
+hollow-endless : (n lo : ℕ) → n ≡ 0 → 1 ≡ endless n lo
+hollow-endless n zero z = omega arith
+hollow-endless n (suc zero) z = omega arith
+hollow-endless n (suc (suc l)) z = let k = hollow-endless n (suc l) z in omega arith
+
+module _ (P : List ℕ → Type 0) (lo : ℕ) (h : 1 < lo) where
+  some-nil : (n : ℕ) → lo ≤ n → Row P n [] → P []
+  some-nil zero a r = absurd (omega arith)
+  some-nil (suc n) a r = join-nil r .0
+
+  hollow-not-nil : {c : ℕ} {w : List ℕ} → c ∷ w ≡ [] → ⊥
+  hollow-not-nil e = let z : _≡_ {A = ℕ} 0 1 = cc in omega arith
+
+  turn-hollow :
+      ((u : List ℕ) → P u → u ≡ []) → {m : Bool} {c : ℕ} {e : Bool} → Told (P []) e
+      → Turn (Times lo any P) (λ w. ⊥) (λ w. ⊥) m c e false false
+  turn-hollow f {m} {c} {e} k =
+      turn-none (Times lo any P) e
+      (told (λ p. record { count = lo; least = le-refl _; most = tt; row = row-nil P p lo }) (λ t. some-nil (t .count) (t .least) (t .row)) k)
+      (λ w t. hollow-not-nil (row-empty P f (t .count) (c ∷ w) (t .row)))
+
+-- one pass over a part without marks is one over all its copies
+pub moved-hollow :
+    {x : Regexp} (lo : ℕ) → 1 < lo → {b c : ℕ} {ms ms' : List ℕ} {m : Bool} {n : ℕ} {e v w : Bool} → n ≡ 0
+    → Moved x b ms ms' m c n e v w → Good (times lo any x) b ms → Moved (times lo any x) b ms ms' m c 1 e false false
+moved-hollow {x} lo h {b} {c} {ms} {ms'} {m} {n} {e} z p d =
+    let y : size x ≡ 0 = sym (p .wide) ∙ z in
+    let none : (l : List ℕ) (u : List ℕ) → Rest (times lo any x) b l u → ⊥ =
+    λ l u r. any-none (Describes x) (λ k. Rest x k l) (size x) (λ k u. bare-rest x y k l u) lo b u r in
+    record {
+      wide = hollow-endless (size x) lo y;
+      turn =
+          turn-same (Rest (times lo any x) b ms) (Rest (times lo any x) b ms')
+          (λ u r. absurd r) (λ u r. none ms u r) (λ u r. absurd r) (λ u r. none ms' u r)
+          (turn-hollow (Describes x) lo h (bare-empty x y) (p .turn .on-empty));
+      good = good-frame (times lo any x) b ms ms' (record { at = λ i u v. p .kept .high i (omega arith) }) d;
+      kept =
+          record {
+            low = λ i u. p .kept .low i u;
+            high = λ i u. p .kept .high i (omega arith);
           };
     }

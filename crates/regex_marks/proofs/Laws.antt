@@ -16,7 +16,7 @@ use Rattle.regex_marks.specs.Turn.{Turn}
 use Rattle.regex_marks.specs.Moves.{Kept, Moved, Shifted, Copied, Endless}
 use Rattle.regex_marks.proofs.Turns.{turn-same, turn-none, turn-or, turn-then, turn-zero, turn-last, turn-more, turn-plus, turn-next, turn-class, eqb-told}
 use Rattle.regex_marks.specs.Runs.{Entered}
-use Rattle.regex_marks.proofs.Hollow.{moved-bare}
+use Rattle.regex_marks.proofs.Hollow.{moved-bare, moved-hollow, endless-some}
 use Rattle.regex_marks.proofs.Frames.{Same, flip, below, above, frame, good-frame}
 
 pub kept-refl : {lo hi : ℕ} {ms : List ℕ} → Kept lo hi ms ms
@@ -507,14 +507,40 @@ module _ (s : List ℕ) (m : Bool) (c b : ℕ) (ms : List ℕ) (room : b ≤ len
                   (d .0, moved-next l (a .1) (d .1) q);
             }
 
-  -- ENDLESS, the copy that may follow itself
-  pub endless-room : (at lo : ℕ) → lo ≤ 1 → length ms ≤ b → Endless s at m c b lo ms ms at 0 false false false
-  endless-room at zero h l =
-      record { from = omega arith; fits = omega arith; long = refl; of = λ x r e y g. absurd (omega arith) }
-  endless-room at (suc zero) h l =
-      record { from = omega arith; fits = omega arith; long = refl; of = λ x r e y g. absurd (omega arith) }
-  endless-room at (suc (suc lo)) h l = absurd (omega arith)
+  -- ENDLESS, no room
+  pub endless-room : (at lo : ℕ) → length ms ≤ b → Endless s at m c b lo ms ms at 0 false false false
+  endless-room at lo l =
+      record {
+        from = omega arith;
+        fits = omega arith;
+        long = refl;
+        of = λ x r e y g. let k = endless-some (size x) lo in absurd (omega arith);
+      }
 
+  -- ENDLESS, two copies or more of a part without marks
+  pub endless-hollow :
+      (at : ℕ) {ms1 : List ℕ} {n z : ℕ} {e v w : Bool} → Shifted s at m c b ms ms1 n z e v w → (lo : ℕ) → 1 < lo → z ≡ 0
+      → b < length ms → Endless s at m c b lo ms ms1 n 1 e false false
+  endless-hollow at {ms1} {n} {z} {e} p lo h q k =
+      record {
+        from = p .from;
+        fits = omega arith;
+        long = p .long;
+        of =
+            λ x r e' y g.
+            let i = inner lo h x y g in
+            let a = p .of x r e' (i .0) (i .1) in
+            (a .0, moved-hollow lo h q (a .1) g);
+      }
+    where
+      inner :
+          (lo : ℕ) → 1 < lo → (x : Regexp) → b + size (times lo any x) ≤ length ms → Good (times lo any x) b ms
+          → (b + size x ≤ length ms) × Good x b ms
+      inner zero h x y g = absurd (omega arith)
+      inner (suc zero) h x y g = absurd (omega arith)
+      inner (suc (suc l)) h x y g = (omega arith, g .0)
+
+  -- ENDLESS, the copy that may follow itself
   module _ (at : ℕ) {ms1 : List ℕ} {m2 : Bool} {n z : ℕ} {e v w : Bool} (p : Shifted s at m2 c (b + 1) ms ms1 n z e v w) where
     pub endless-loop :
         (lo : ℕ) → lo ≤ 1 → b < length ms → (k : ℕ) → eqb k 1 ≡ w → (f : Bool) → m2 ≡ (m || f) → f ≡ eqb (getD ms b 0) 1

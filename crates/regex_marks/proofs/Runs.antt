@@ -14,7 +14,7 @@ use Rattle.regex_chars.specs.Classes.{Hits}
 use Rattle.regex_chars.specs.Laws.{slice-end, slice-nil, encodeAll-none, encodeAll-cons, encodeAll-nil}
 use lib.Dec.{eqb, leb}
 use borrow.Author.Tests.{eqb-true, eqb-false, eq-eqb, leb-true, leb-false}
-use Rattle.regexps.specs.Words.{upto, any, Told}
+use Rattle.regexps.specs.Words.{upto, any, Told, fails}
 use Rattle.regexps.specs.Regexp.{Regexp, empty, class, then, or, times, Describes, hits}
 use Rattle.regexps.specs.Agree.{told}
 use Rattle.regex_code.specs.Flat.{flat, head, of-empty, of-class, of-then, of-or, of-upto, of-any, of-other, of-nothing, word, behind, word-of}
@@ -32,6 +32,14 @@ clear-more ms i h f k g = go (eqb k i) refl
     go : (b : Bool) → eqb k i ≡ b → getD (set ms i 0) k 0 ≡ 0
     go true e = let z : k ≡ i = eqb-true k i e in rw z (getD-set-same ms i 0 0 h)
     go false e = getD-set-other ms i k 0 0 (eqb-false k i e) ∙ f k (omega (arith, eqb-false k i e))
+
+pub clear-next :
+    (ms : List ℕ) (i : ℕ) → getD ms i 0 ≡ 0 → ((k : ℕ) → k < i → getD ms k 0 ≡ 0) → (k : ℕ) → k < i + 1 → getD ms k 0 ≡ 0
+clear-next ms i h f k g = go (eqb k i) refl
+  where
+    go : (b : Bool) → eqb k i ≡ b → getD ms k 0 ≡ 0
+    go true e = let z : k ≡ i = eqb-true k i e in rw z h
+    go false e = f k (omega (arith, eqb-false k i e))
 
 pub clear-all : (ms : List ℕ) (i : ℕ) → length ms ≤ i → ((k : ℕ) → k < i → getD ms k 0 ≡ 0) → Clear ms
 clear-all ms i h f = record { at = λ k. go k (leb (length ms) k) refl }
@@ -121,6 +129,23 @@ read-end s t ms i {b} room e h g = record { of = λ x cs q u r. go x cs (g .of x
         let n : encodeAll (d .left) ≡ [] = sym (d .rest) ∙ slice-end t i ∙ drop-of-length-le t h in
         let l : cs ≡ d .done = d .eq ∙ ap (λ j. d .done ++ j) (encodeAll-nil (d .left) n) ∙ append-nil (d .done) in
         subst (λ j. Told (Describes x j) b) (sym l) (d .told)
+
+-- the same marks
+pub read-same : {s t ms ms' : List ℕ} {i : ℕ} {b : Bool} → ms' ≡ ms → Read s t i ms b → Read s t i ms' b
+read-same {s} {t} {ms} {ms'} {i} {b} e r = subst (λ l. Read s t i l b) (sym e) r
+
+-- where nothing is marked, no text goes on
+pub read-dead : {s t ms : List ℕ} {i : ℕ} {b : Bool} (room : ℕ) → room ≡ length ms → 0 < i → Clear ms → Read s t i ms b → Ran s t room false
+read-dead {s} {t} {ms} {i} {b} room e h z g =
+    record {
+      of =
+          λ x cs q u r.
+          let d = g .of x cs q u (omega arith) in
+          fails
+          (λ k.
+          ⊎-elim (λ y. absurd (omega (arith, y .0))) (rest-none ms (z .at) x 0 (d .left))
+          (d .back (d .left) (subst (Describes x) (d .eq) k)));
+    }
 
 -- WEIGHTS
 copies-mul : (n h : ℕ) → copies n h ≡ n * h

@@ -1,6 +1,6 @@
 -- What a run over a text answers. Assumes nothing: these are definitions.
 use mathlib.Core.Path.{_≡_}
-use mathlib.Core.Bool.{Bool, _&&_}
+use mathlib.Core.Bool.{Bool, true, _&&_}
 use mathlib.Core.List.{List, [], _∷_, _++_}
 use mathlib.Core.Logic.{_⊎_}
 use Prim.Native.Nat.{ℕ, _+_, _≤_, _<_}
@@ -15,6 +15,11 @@ use Rattle.regex_marks.specs.Marks.{size, Rest, Good}
 -- every mark is 0
 pub record Clear (ms : List ℕ) : Type 0 where
   pub at : (i : ℕ) → getD ms i 0 ≡ 0
+
+-- the marks are as they were, and b is true only if every one is 0
+pub record Dead (ms ms' : List ℕ) (b : Bool) : Type 0 where
+  pub same : ms' ≡ ms
+  pub clear : b ≡ true → Clear ms
 
 -- the marks have read the first characters of the text cs, whose bytes are those of t before i
 pub record Reading (x : Regexp) (cs t : List ℕ) (i : ℕ) (ms : List ℕ) (b : Bool) : Type 0 where

@@ -44,6 +44,9 @@ lastOf lo s = record { next = s .next; size = 0; empty = leb lo 1; was = false; 
 abbrev pub bareOf : ℕ → ℕ → Step → Step
 bareOf lo hi s = record { next = s .next; size = 0; empty = eqb lo 0 || (s .empty && leb lo hi); was = false; now = false }
 
+abbrev pub bareLoopOf : Step → Step
+bareLoopOf s = record { next = s .next; size = 1; empty = s .empty; was = false; now = false }
+
 abbrev pub loopOf : ℕ → Step → Step
 loopOf lo s = record { next = s .next; size = 1 + s .size; empty = eqb lo 0 || s .empty; was = s .was; now = s .now }
 

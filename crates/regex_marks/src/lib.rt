@@ -11,8 +11,8 @@ ghost use Prim.Native.Nat.{_+_, _-_, _≤_, _<_, _^_, pred};
 ghost use lib.Dec.{eqb, leb};
 ghost use lib.ListN.{length, getD};
 ghost use Rattle.regex_marks.specs.Moves.{Shifted, Copied, Endless};
-ghost use Rattle.regex_marks.specs.Runs.{Read, Ran, Clear, Weighs, Capped, Entered};
-ghost use Rattle.regex_marks.specs.Steps.{chainOf, forkOf, linkOf, loopOf, lastOf, enterOf, stopOf, bareOf};
+ghost use Rattle.regex_marks.specs.Runs.{Read, Ran, Clear, Dead, Weighs, Capped, Entered};
+ghost use Rattle.regex_marks.specs.Steps.{chainOf, forkOf, linkOf, loopOf, lastOf, enterOf, stopOf, bareOf, bareLoopOf};
 
 // What a pass over a part says: the place behind its code, the number of its marks, whether it describes the empty word, and
 // whether a word of it may end here, before the character and after it.
@@ -139,6 +139,19 @@ fn bare(lo: usize, hi: usize, s: Step) -> Step
         next: s.next,
         size: 0,
         empty: either(none, both(s.empty, some)),
+        was: false,
+        now: false,
+    }
+}
+
+// Two copies or more of a part without marks.
+fn bare_loop(s: Step) -> Step
+    ensures { λ r. ⌜ r ≡ bareLoopOf s ⌝ }
+{
+    Step {
+        next: s.next,
+        size: 1,
+        empty: s.empty,
         was: false,
         now: false,
     }
@@ -281,10 +294,10 @@ fn endless(
     requires { ⌜ base ≤ length (now marks) ⌝ }
     ensures { λ r. ⌜ Endless (now (code .entry)) at enter c base lo (now (marks .entry)) (now (marks .exit)) (r .next) (r .size) (r .empty) (r .was) (r .now) ⌝ }
 {
+    if marks.len() <= base {
+        return stop(at);
+    }
     if lo <= 1 {
-        if marks.len() <= base {
-            return stop(at);
-        }
         let f = marks[base] == 1;
         let m = either(enter, f);
         let s = shift(code, at, marks, base + 1, m, c);
@@ -292,6 +305,9 @@ fn endless(
         return looped(lo, s);
     }
     let s = shift(code, at, marks, base, enter, c);
+    if s.size == 0 {
+        return bare_loop(s);
+    }
     let m = enters(enter, s);
     let b = base + s.size;
     let t = endless(code, at, marks, b, lo - 1, m, c);
@@ -395,6 +411,20 @@ fn clear(marks: &mut [u8])
     }
 }
 
+// Whether no mark is set: then no text goes on from here.
+fn dead(marks: &mut [u8]) -> bool
+    ensures { λ r. ⌜ Dead (now (marks .entry)) (now (marks .exit)) r ⌝ }
+{
+    let mut i = 0;
+    while i < marks.len() {
+        if marks[i] != 0 {
+            return false;
+        }
+        i += 1;
+    }
+    true
+}
+
 fn read(code: &[u32], text: &[u8], marks: &mut [u8], empty: bool) -> bool
     requires { ⌜ Read (now code) (now text) 0 (now marks) empty ⌝ }
     ensures { λ r. ⌜ Ran (now (code .entry)) (now (text .entry)) (length (now (marks .entry))) r ⌝ }
@@ -406,6 +436,9 @@ fn read(code: &[u32], text: &[u8], marks: &mut [u8], empty: bool) -> bool
         let first = i == 0;
         let c = char_at(text, i, end);
         let s = shift(code, 0, marks, 0, first, c.value);
+        if dead(marks) {
+            return false;
+        }
         last = s.now;
         i = c.next;
     }

@@ -1,9 +1,9 @@
 -- `regex_marks::read` meets its contract. Assumes nothing.
 use Rattle.regex_marks.proofs.read.Statement.{statement}
-use Rattle.regex_marks.proofs.Runs.{read-more, read-end}
+use Rattle.regex_marks.proofs.Runs.{read-more, read-end, read-dead, read-same}
 use Rattle.regex_marks.specs.Runs.{Read}
 use lib.ListN.{length}
-use mathlib.Core.Path.{_≡_, refl, sym, _∙_}
+use mathlib.Core.Path.{_≡_, refl, ap, sym, _∙_}
 use Prim.Native.Nat.{_≤_, _-_}
 use native.Mathlib.Omega.{arith}
 use borrow.Author.Needs.{needs}
@@ -24,17 +24,26 @@ char-at-requires c κs = (c .loop-test .taken, omega arith)
 shift-requires : tie.Need-shift-requires Inv-loop μ-loop
 shift-requires c κs = search needs
 
-loop-less : tie.Need-loop-less Inv-loop μ-loop
-loop-less c = omega (arith, c .before .before .before .before .char-at .ensures .after, c .before .before .before .before .char-at .ensures .within)
-
-loop-again : tie.Need-loop-again Inv-loop μ-loop
-loop-again c = (c .before .before .shift .ensures .long ∙ c .before .before .before .before .before .before .loop .inv .0, c .before .before .before .before .char-at .ensures .within, read-more _ _ (c .before .before .before .before .before .loop-test .taken) (c .before .before .before .before .char-at .ensures) (c .before .before .before .before .before .before .loop .inv .2) (c .before .before .shift .ensures))
+dead-requires : tie.Need-dead-requires Inv-loop μ-loop
+dead-requires c κs = search needs
 
 same-length : tie.Need-same-length Inv-loop μ-loop
 same-length c = search needs
 
 returns : tie.Need-returns Inv-loop μ-loop
-returns c = read-end _ _ _ _ _ (sym (c .before .loop .inv .0)) (c .loop-test .left) (c .before .loop .inv .2)
+returns c = read-dead _ (sym (c .before .before .before .before .before .before .before .shift .ensures .long ∙ c .before .before .before .before .before .before .before .before .before .before .before .loop .inv .0)) (omega (arith, c .before .before .before .before .before .before .before .before .before .char-at .ensures .after)) (c .before .before .before .dead .ensures .clear (c .if1 .taken)) (read-more _ _ (c .before .before .before .before .before .before .before .before .before .before .loop-test .taken) (c .before .before .before .before .before .before .before .before .before .char-at .ensures) (c .before .before .before .before .before .before .before .before .before .before .before .loop .inv .2) (c .before .before .before .before .before .before .before .shift .ensures))
+
+loop-less : tie.Need-loop-less Inv-loop μ-loop
+loop-less c = omega (arith, c .before .before .before .before .before .before .before .before .before .char-at .ensures .after, c .before .before .before .before .before .before .before .before .before .char-at .ensures .within)
+
+loop-again : tie.Need-loop-again Inv-loop μ-loop
+loop-again c = (ap length (c .before .before .before .dead .ensures .same) ∙ c .before .before .before .before .before .before .before .shift .ensures .long ∙ c .before .before .before .before .before .before .before .before .before .before .before .loop .inv .0, c .before .before .before .before .before .before .before .before .before .char-at .ensures .within, read-same (c .before .before .before .dead .ensures .same) (read-more _ _ (c .before .before .before .before .before .before .before .before .before .before .loop-test .taken) (c .before .before .before .before .before .before .before .before .before .char-at .ensures) (c .before .before .before .before .before .before .before .before .before .before .before .loop .inv .2) (c .before .before .before .before .before .before .before .shift .ensures)))
+
+same-length-2 : tie.Need-same-length-2 Inv-loop μ-loop
+same-length-2 c = search needs
+
+returns-2 : tie.Need-returns-2 Inv-loop μ-loop
+returns-2 c = read-end _ _ _ _ _ (sym (c .before .loop .inv .0)) (c .loop-test .left) (c .before .loop .inv .2)
 
 pub read-spec : {M : Type 1} → statement M
 read-spec =
@@ -45,7 +54,10 @@ read-spec =
     loop-holds
     char-at-requires
     shift-requires
+    dead-requires
+    same-length
+    returns
     loop-less
     loop-again
-    same-length
-    returns)
+    same-length-2
+    returns-2)
