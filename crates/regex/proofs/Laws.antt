@@ -1,24 +1,24 @@
 -- From the matchers' answers to the definition's. Assumes nothing.
 use mathlib.Core.Path.{_≡_, ap, sym, _∙_}
-use mathlib.Core.Bool.{Bool, true}
+use mathlib.Core.Bool.{Bool, true, false}
 use mathlib.Core.List.{List, []}
-use Prim.Native.Nat.{ℕ, _-_, _≤_}
+use Prim.Native.Nat.{ℕ, _-_, _≤_, _<_, _^_}
 use native.Mathlib.Omega.{arith}
 use lib.ListN.{length, take}
 use lib.Seq.{length-take-le}
 use Rattle.definition.specs.Utf8.{encodeAll}
 use Rattle.utf8.specs.Decode.{decode}
-use Rattle.regexps.specs.Words.{Told}
+use Rattle.regexps.specs.Words.{Told, fails}
 use Rattle.regexps.specs.Regexp.{Regexp, Describes, described}
 use Rattle.regexps.specs.Scope.{widen}
 use Rattle.regexps.specs.Agree.{agree, told-same}
 use Rattle.regexps_texts.specs.Scalars.{scalarsOf, scalars-of}
 use Rattle.regex_code.specs.Flat.{flat}
 use Rattle.regex_chars.specs.Laws.{slice-end}
-use Rattle.regex_total.specs.Answers.{Matched}
+use Rattle.regex_total.specs.Answers.{Matched, Widths}
 use Rattle.regex_marks.specs.Runs.{Ran, Weighs}
 use Rattle.regex_plain.specs.Rows.{Known}
-use Rattle.regex.specs.Tested.{Tested}
+use Rattle.regex.specs.Tested.{Tested, Missed}
 
 -- for any expression that the code is of, and any text that the bytes are of
 by :
@@ -35,6 +35,16 @@ by s t b f =
 
 pub by-plain : (s t : List ℕ) {ok b : Bool} → Known s t ok b → ok ≡ true → Tested s t b
 by-plain s t {ok} {b} k e = by s t b (λ x cs q u. k .of e x cs q u)
+
+-- by the number of bytes
+pub missed-short : (s : List ℕ) (n : ℕ) {next lo hi : ℕ} → Widths s 0 next lo hi → n < lo → Missed s n
+missed-short s n p h = record { of = λ x w q k d. let a = p .of x [] q .1 w d in omega arith }
+
+pub missed-long : (s : List ℕ) (n : ℕ) {next lo hi : ℕ} → Widths s 0 next lo hi → hi < 2 ^ 31 → hi < n → Missed s n
+missed-long s n p b h = record { of = λ x w q k d. let a = p .of x [] q .2 w d b in omega arith }
+
+pub by-length : (s t : List ℕ) → Missed s (length t) → Tested s t false
+by-length s t m = by s t false (λ x cs q u. fails (m .of x cs q (sym (ap length u))))
 
 pub by-total : (s t : List ℕ) (b : Bool) → Matched s 0 t 0 (length t) b → Tested s t b
 by-total s t b m = by s t b (λ x cs q u. m .of x [] cs q (slice-end t 0 ∙ u))

@@ -3,8 +3,9 @@ use mathlib.Core.Path.{_≡_}
 use mathlib.Core.Bool.{Bool, true}
 use mathlib.Core.List.{List, []}
 use Prim.Native.Nat.{ℕ}
-use Rattle.definition.specs.Utf8.{isUtf8}
-use Rattle.regexps.specs.Regexp.{Regexp, described}
+use lib.ListN.{length}
+use Rattle.definition.specs.Utf8.{encodeAll, isUtf8}
+use Rattle.regexps.specs.Regexp.{Regexp, Describes, described}
 use Rattle.regexps.specs.Scope.{Scope, widen}
 use Rattle.regexps_texts.specs.Scalars.{scalarsOf}
 use Rattle.regex_code.specs.Flat.{flat}
@@ -13,3 +14,7 @@ pub record Tested (code text : List ℕ) (b : Bool) : Type 0 where
   pub of :
       (scope : Scope) (x : Regexp) → code ≡ flat (widen scope x) [] → isUtf8 text ≡ true
       → b ≡ described (widen scope x) (scalarsOf text)
+
+-- no text of n bytes is described
+pub record Missed (code : List ℕ) (n : ℕ) : Type 0 where
+  pub of : (x : Regexp) (w : List ℕ) → code ≡ flat x [] → length (encodeAll w) ≡ n → Describes x w → ⊥

@@ -4,12 +4,17 @@ use regex_marks::run;
 use regex_marks::weigh;
 use regex_plain::ask;
 use regex_total::matches;
+use regex_total::measure;
 ghost use mathlib.Core.Path.{_≡_};
+ghost use mathlib.Core.Bool.{true};
 ghost use Prim.Native.Nat.{min};
-ghost use Rattle.regex.specs.Tested.{Tested};
+ghost use Rattle.regex.specs.Tested.{Tested, Missed};
 
 // More marks than this are not weighed.
 const MAX_ROOM: usize = 65535;
+
+// A most number of bytes that bounds nothing.
+const NO_BOUND: usize = 2147483648;
 
 fn lesser(a: usize, b: usize) -> usize
     ensures { λ r. ⌜ r ≡ min a b ⌝ }
@@ -17,12 +22,30 @@ fn lesser(a: usize, b: usize) -> usize
     if a <= b { a } else { b }
 }
 
+// Whether the expression has no text of n bytes, by the least and the most bytes that its texts have.
+fn missed(code: &[u32], n: usize) -> bool
+    ensures { λ r. ⌜ (r ≡ true → Missed (now (code .entry)) n) ⌝ }
+{
+    let w = measure(code, 0);
+    if n < w.least {
+        return true;
+    }
+    if NO_BOUND <= w.most {
+        return false;
+    }
+    w.most < n
+}
+
+// Whether the text is described by the expression that the code is of. The marks are room: what stands in them does not matter.
 pub fn test(code: &[u32], text: &[u8], marks: &mut [u8]) -> bool
     ensures { λ r. ⌜ Tested (now (code .entry)) (now (text .entry)) r ⌝ }
 {
     let p = ask(code, text);
     if p.known {
         return p.value;
+    }
+    if missed(code, text.len()) {
+        return false;
     }
     let room = lesser(marks.len(), MAX_ROOM);
     let w = weigh(code, 0, room);

@@ -1,6 +1,6 @@
 -- `regex::test` meets its contract. Assumes nothing.
 use borrow.Author.Needs.{needs}
-use Rattle.regex.proofs.Laws.{by-plain, by-total, by-marks, taken}
+use Rattle.regex.proofs.Laws.{by-plain, by-length, by-total, by-marks, taken}
 use native.Mathlib.Omega.{arith}
 use Rattle.regex.proofs.test.Statement.{statement}
 use Rattle.regex.proofs.test.Tie as tie
@@ -11,6 +11,12 @@ ask-requires c κs = search needs
 returns : tie.Need-returns
 returns c = by-plain _ _ (c .before .ask .ensures) (c .if1 .taken)
 
+missed-requires : tie.Need-missed-requires
+missed-requires c κs = search needs
+
+returns-2 : tie.Need-returns-2
+returns-2 c = by-length _ _ (c .before .missed .ensures (c .if2 .taken))
+
 lesser-requires : tie.Need-lesser-requires
 lesser-requires c κs = search needs
 
@@ -20,8 +26,8 @@ weigh-requires c κs = search needs
 matches-requires : tie.Need-matches-requires
 matches-requires c κs = search needs
 
-returns-2 : tie.Need-returns-2
-returns-2 c = by-total _ _ _ (c .matches .ensures)
+returns-3 : tie.Need-returns-3
+returns-3 c = by-total _ _ _ (c .matches .ensures)
 
 sub-run : tie.Need-sub-run
 sub-run c = search needs
@@ -38,8 +44,8 @@ run-requires c κs = search needs
 same-length : tie.Need-same-length
 same-length c = search needs
 
-returns-3 : tie.Need-returns-3
-returns-3 c = by-marks _ _ _ _ (c .before .before .before .before .before .weigh .ensures) (c .before .before .before .before .if2 .left) (c .before .before .run .ensures) (taken _ _ (omega (arith, c .before .before .before .before .if2 .left, c .before .before .before .before .before .before .lesser .ensures)))
+returns-4 : tie.Need-returns-4
+returns-4 c = by-marks _ _ _ _ (c .before .before .before .before .before .weigh .ensures) (c .before .before .before .before .if3 .left) (c .before .before .run .ensures) (taken _ _ (omega (arith, c .before .before .before .before .if3 .left, c .before .before .before .before .before .before .lesser .ensures)))
 
 pub test-spec : {M : Type 1} → statement M
 test-spec =
@@ -47,13 +53,15 @@ test-spec =
     (tie.spec
     ask-requires
     returns
+    missed-requires
+    returns-2
     lesser-requires
     weigh-requires
     matches-requires
-    returns-2
+    returns-3
     sub-run
     part-run-start
     part-run-end
     run-requires
     same-length
-    returns-3)
+    returns-4)
