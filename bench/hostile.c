@@ -15,25 +15,26 @@ static uint32_t *list;
 
 static void put32(uint8_t *at, uint32_t x) { memcpy(at, &x, 4); }
 
-// A record of the given kind and depth with the two words of its payload.
-static void record(size_t i, int kind, int depth, uint32_t low, uint32_t high) {
+// A record of the given kind and depth with its parent and the two words of its payload.
+static void record(size_t i, int kind, int depth, uint32_t parent, uint32_t low, uint32_t high) {
     uint8_t *r = table + i * RECORD;
     memset(r, 0, RECORD);
     r[0] = kind;
     r[1] = depth;
+    put32(r + 12, parent);
     put32(r + 16, low);
     put32(r + 20, high);
 }
 
 static void make_deep(int depth) {
-    for (int i = 0; i < depth; i++) record(i, 6, i, i + 1, 1);
-    record(depth, 3, depth, 1, 0);
+    for (int i = 0; i < depth; i++) record(i, 6, i, i ? i - 1 : 0, i + 1, 1);
+    record(depth, 3, depth, depth - 1, 1, 0);
     table_length = (depth + 1) * RECORD;
 }
 
 static void make_wide(void) {
-    record(0, 6, 0, 1, WIDTH);
-    for (int i = 1; i <= WIDTH; i++) record(i, 3, 1, i, 0);
+    record(0, 6, 0, 0, 1, WIDTH);
+    for (int i = 1; i <= WIDTH; i++) record(i, 3, 1, 0, i, 0);
     table_length = (WIDTH + 1) * RECORD;
 }
 

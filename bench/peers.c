@@ -147,12 +147,23 @@ static uint8_t *load(const char *folder, const char *rows, const char *suffix, s
     return bytes;
 }
 
+// The peers' tables are those of document 01, with 0 in bytes 12-15 of each record: here each node gets its parent's number there.
+static void put_parents(void) {
+    for (uint32_t i = 0; i < table_length / RECORD; i++) {
+        const uint8_t *r = table + i * RECORD;
+        uint32_t first, count;
+        memcpy(&first, r + 16, 4), memcpy(&count, r + 20, 4);
+        for (uint32_t k = 0; r[0] >= 6 && k < count; k++) memcpy(table + (first + k) * RECORD + 12, &i, 4);
+    }
+}
+
 int main(int argc, char **argv) {
     for (int k = 3; k < argc; k++) {
         table = load(argv[2], argv[k], "table", &table_length);
         text = load(argv[2], argv[k], "text", &text_length);
         places = table_length / RECORD;
         list = malloc(places * sizeof *list);
+        put_parents();
         if (check_table()) fail("the table");
         measure("check", 0, "table", check_table);
         queries(argv[1]);

@@ -26,8 +26,9 @@ static void make_table(void) {
         uint8_t *r = table + i * 24;
         r[0] = i < DEPTH ? 6 : 3;
         r[1] = (uint8_t)i;
-        uint32_t first = i < DEPTH ? i + 1 : 0, count = i < DEPTH ? 1 : 0;
+        uint32_t parent = i ? i - 1 : 0, first = i < DEPTH ? i + 1 : 0, count = i < DEPTH ? 1 : 0;
         if (i == DEPTH) first = 1;
+        memcpy(r + 12, &parent, 4);
         memcpy(r + 16, &first, 4);
         memcpy(r + 20, &count, 4);
     }

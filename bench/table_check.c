@@ -15,14 +15,15 @@ static size_t nodes, text_length;
 
 static void put32(uint8_t *at, uint32_t x) { memcpy(at, &x, 4); }
 
-// A record of the given kind and depth, with its key and the two words of its payload.
-static void record(size_t i, int kind, int depth, uint32_t key, uint32_t key_length, uint32_t low, uint32_t high) {
+// A record of the given kind and depth, with its key, its parent and the two words of its payload.
+static void record(size_t i, int kind, int depth, uint32_t key, uint32_t key_length, uint32_t parent, uint32_t low, uint32_t high) {
     uint8_t *r = table + i * RECORD;
     memset(r, 0, RECORD);
     r[0] = kind;
     r[1] = depth;
     put32(r + 4, key);
     put32(r + 8, key_length);
+    put32(r + 12, parent);
     put32(r + 16, low);
     put32(r + 20, high);
 }
@@ -54,11 +55,11 @@ static void keys(size_t count, int one_bucket) {
 
 // A list of `maps` maps with `members` integers each, whose keys are in `text`.
 static void list_of_maps(size_t maps, size_t members) {
-    record(0, 6, 0, 0, 0, 1, maps);
+    record(0, 6, 0, 0, 0, 0, 1, maps);
     size_t next = 1 + maps;
     for (size_t m = 0; m < maps; m++) {
-        record(1 + m, 7, 1, 0, 0, next, members);
-        for (size_t k = 0; k < members; k++) record(next + k, 3, 2, KEY * k, KEY, k, 0);
+        record(1 + m, 7, 1, 0, 0, 0, next, members);
+        for (size_t k = 0; k < members; k++) record(next + k, 3, 2, KEY * k, KEY, 1 + m, k, 0);
         next += members;
     }
     nodes = next;
@@ -66,8 +67,8 @@ static void list_of_maps(size_t maps, size_t members) {
 
 static void list_of_numbers(size_t count) {
     text_length = 0;
-    record(0, 6, 0, 0, 0, 1, count);
-    for (size_t k = 0; k < count; k++) record(1 + k, 3, 1, 0, 0, k, 0);
+    record(0, 6, 0, 0, 0, 0, 1, count);
+    for (size_t k = 0; k < count; k++) record(1 + k, 3, 1, 0, 0, 0, k, 0);
     nodes = 1 + count;
 }
 

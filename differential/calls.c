@@ -7,8 +7,8 @@ static uint8_t table[6 * 24];
 static const uint8_t text[] = "ab\xc3\xa9";
 enum { TEXT = 4 };
 
-static void record(int i, int kind, int depth, uint32_t key, uint32_t key_length, uint32_t low, uint32_t high) {
-    uint32_t words[6] = {kind + 256 * depth, key, key_length, 0, low, high};
+static void record(int i, int kind, int depth, uint32_t key, uint32_t key_length, uint32_t parent, uint32_t low, uint32_t high) {
+    uint32_t words[6] = {kind + 256 * depth, key, key_length, parent, low, high};
     memcpy(table + 24 * i, words, 24);
 }
 
@@ -25,12 +25,12 @@ static void expect(const char *what, uint64_t got, uint64_t want) {
 #define BYTES(s) (const uint8_t *)(s), sizeof(s) - 1
 
 int main(void) {
-    record(0, 7, 0, 0, 0, 1, 2);
-    record(1, 6, 1, 0, 1, 3, 3);
-    record(2, 5, 1, 1, 1, 2, 2);
-    record(3, 3, 2, 0, 0, 10, 0);
-    record(4, 4, 2, 0, 0, 0, 0x40340000);
-    record(5, 3, 2, 0, 0, 30, 0);
+    record(0, 7, 0, 0, 0, 0, 1, 2);
+    record(1, 6, 1, 0, 1, 0, 3, 3);
+    record(2, 5, 1, 1, 1, 0, 2, 2);
+    record(3, 3, 2, 0, 0, 1, 10, 0);
+    record(4, 4, 2, 0, 0, 1, 0, 0x40340000);
+    record(5, 3, 2, 0, 0, 1, 30, 0);
     uint8_t plan[256], pool[64];
     uint32_t list[4] = {99, 99, 99, 99};
     uint64_t a = 7, b = 7;
@@ -96,6 +96,18 @@ int main(void) {
     expect("its length", b, 1);
     expect("key of the root", stewpebble_key_of_node(table, sizeof table, text, TEXT, 0, &a, &b), 15);
     expect("its length", b, 0);
+    uint8_t path[10] = "----------";
+    expect("path of a node", stewpebble_path_of_node(table, sizeof table, text, TEXT, 5, path, 10, &a, &b), 0);
+    expect("its length", a, 9);
+    expect("its bytes, and the one behind", memcmp(path, "$['a'][2]-", 10), 0);
+    expect("path in too small a room", stewpebble_path_of_node(table, sizeof table, text, TEXT, 1, path, 5, &a, &b), 16);
+    expect("the length needed", a, 6);
+    expect("the room", memcmp(path, "$['a'][2]-", 10), 0);
+    expect("path of no node", stewpebble_path_of_node(table, sizeof table, text, TEXT, 6, path, 10, &a, &b), 15);
+    expect("its length", a, 0);
+    table[5 * 24 + 12] = 2;
+    expect("path with a wrong parent", stewpebble_path_of_node(table, sizeof table, text, TEXT, 1, path, 10, &a, &b), 10);
+    expect("its node", b, 5);
     printf("%d answers of the C boundary, %d wrong\n", calls, wrong);
     return wrong != 0;
 }

@@ -2,6 +2,7 @@
 # Calls every function of the C boundary, and compares compile, select and run with the given Rust text on random queries and documents.
 #
 #   differential/run.sh calls                                 the calls of the C boundary alone
+#   differential/run.sh paths [COUNT [SEED]]                  paths of nodes of random tables, compiled and run; the same for COUNT and SEED
 #   ORACLE=DIR differential/run.sh [COUNT [SEED]]             compile, on random and damaged queries; COUNT is 1000000 and SEED is 1 where they are not given
 #   ORACLE=DIR differential/run.sh select [COUNT [SEED]]      select and run, on random documents; the same for COUNT and SEED
 #   ORACLE=DIR differential/run.sh vectors                    some of the queries with their refusals, as crates/compile_vectors reads them
@@ -11,12 +12,17 @@
 # The archive is that of bin/archive, for the machine at hand.
 set -euo pipefail
 cd "$(dirname "$0")/.."
-[ "${1:-}" = calls ] || : "${ORACLE:?names the folder of the built Rust text}"
+[ "${1:-}" = calls ] || [ "${1:-}" = paths ] || : "${ORACLE:?names the folder of the built Rust text}"
 mkdir -p target/differential
 archive=$(bin/archive)
 cc -O2 -Wall -Wextra -Werror -o target/differential/calls differential/calls.c "$archive"
 target/differential/calls >&2
 [ "${1:-}" != calls ] || exit 0
+if [ "${1:-}" = paths ]; then
+    cc -O2 -Wall -Wextra -Werror -o target/differential/paths differential/paths.c "$archive"
+    target/differential/paths "${2:-1000000}" "${3:-1}"
+    exit
+fi
 built=$ORACLE/target/release
 if [ "${1:-}" = select ] || [ "${1:-}" = select-vectors ]; then
     rustc -O --edition 2021 --crate-type rlib --crate-name stewpebble --out-dir target/differential rust/src/lib.rs

@@ -8,8 +8,8 @@
 static const struct stewpebble_record table[] = {
     {.kind = STEWPEBBLE_MAP, .depth = 0, .value.children = {.first = 1, .count = 1}},
     {.kind = STEWPEBBLE_LIST, .depth = 1, .key_start = 0, .key_length = 1, .value.children = {.first = 2, .count = 2}}, // its key is the text's byte 0
-    {.kind = STEWPEBBLE_INTEGER, .depth = 2, .value.integer = 1},
-    {.kind = STEWPEBBLE_INTEGER, .depth = 2, .value.integer = 2},
+    {.kind = STEWPEBBLE_INTEGER, .depth = 2, .parent = 1, .value.integer = 1},
+    {.kind = STEWPEBBLE_INTEGER, .depth = 2, .parent = 1, .value.integer = 2},
 };
 static const uint8_t text[] = "a", query[] = "$.a[*]";
 

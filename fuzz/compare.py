@@ -25,6 +25,10 @@ def compare(what, words):
         table, text = octets(words[0]), octets(words[1])
         node, refusal, start, length = map(int, words[2:])
         return (refusal, text[start:start + length]), tables.named(table, text, node, what == "key")
+    if what == "path":
+        table, text = octets(words[0]), octets(words[1])
+        node, length, refusal, needed, wrong = map(int, words[2:7])
+        return (refusal, needed + wrong, octets(words[7])), tables.path(table, text, node, length)
     inputs = 3 if what == "select" else 4
     length, start, refusal, count, node = map(int, words[inputs:inputs + 5])
     got = refusal, node if refusal == 10 else count, dict(enumerate(map(int, words[inputs + 5:]), start))

@@ -6,6 +6,7 @@
 uint32_t REAL(compile)(const uint8_t *, size_t, uint8_t *, size_t, uint8_t *, size_t, uint64_t *, uint64_t *);
 uint32_t REAL(check_table)(const uint8_t *, size_t, const uint8_t *, size_t, uint64_t *);
 uint32_t REAL(select)(const uint8_t *, size_t, const uint8_t *, size_t, const uint8_t *, size_t, uint32_t *, size_t, size_t, uint64_t *, uint64_t *);
+uint32_t REAL(path_of_node)(const uint8_t *, size_t, const uint8_t *, size_t, size_t, uint8_t *, size_t, uint64_t *, uint64_t *);
 volatile uint8_t sink;
 
 uint32_t WRAP(compile)(const uint8_t *q, size_t n, uint8_t *plan, size_t plan_room, uint8_t *pool, size_t pool_room, uint64_t *a, uint64_t *b) {
@@ -46,6 +47,16 @@ uint32_t WRAP(select)(const uint8_t *q, size_t qn, const uint8_t *table, size_t 
     case 16: if (r == 0 && *count > 2) list[start] = list[start + 1]; break; // selects another node than run
     case 17: if (r == 9 && start > length) r = 14; break;            // 14 before 9
     case 18: if (r == 13) *count = length - start; break;            // a count with refusal 13
+    }
+    return r;
+}
+
+uint32_t WRAP(path_of_node)(const uint8_t *table, size_t n, const uint8_t *text, size_t m, size_t node, uint8_t *room, size_t length, uint64_t *a, uint64_t *b) {
+    uint32_t r = REAL(path_of_node)(table, n, text, m, node, room, length, a, b);
+    switch (FAULT) {
+    case 19: if (r == 16 && length > 0) room[0] = '$'; break;        // refusal 16 that begins to write
+    case 20: if (r == 0 && length > *a) room[*a] = 0; break;         // ends a path with a 0
+    case 21: if (r == 0 && *a > 4) room[*a - 2] ^= 1; break;         // the path of another node
     }
     return r;
 }

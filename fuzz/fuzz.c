@@ -5,7 +5,7 @@
 //   fuzz queries LENGTH         all queries of at most that length over the 12 bytes $ @ . [ ] * ? : , 0 a '
 //   fuzz plans                  all short plans, and every one-byte change of 200 compiled plans
 //   fuzz list-queries LENGTH    those queries with refusal, plan and pool, for fuzz/compare.py
-//   fuzz list-rounds ROUNDS SEED   the calls of run, select, text and key in those rounds with answers, for fuzz/compare.py
+//   fuzz list-rounds ROUNDS SEED   the calls of run, select, text, key and path in those rounds with answers, for fuzz/compare.py
 //   fuzz list-plans COUNT       the one-byte changes of COUNT compiled plans with refusals, for fuzz/compare.py
 //
 // Memory: every input and every lent room or number lies right before an inaccessible page, and in a second call with the same input right behind one.
@@ -23,8 +23,8 @@
 
 typedef const uint8_t *Bytes;
 enum { GUARD = 1 << 20, SLACK = 64, STACK = STEWPEBBLE_QUERY_STACK, MOST_NODES = 65535, MOST_TEXT = 16777216, PLACES = 4096 };
-enum { COMPILE, PLAN, TALLY, TABLE, RUN, SELECT, TEXT, KEY, OPERATIONS };
-static const char *names[] = {"compile", "plan check", "tally", "table check", "run", "select", "text of a node", "key of a node"};
+enum { COMPILE, PLAN, TALLY, TABLE, RUN, SELECT, TEXT, KEY, PATH, OPERATIONS };
+static const char *names[] = {"compile", "plan check", "tally", "table check", "run", "select", "text of a node", "key of a node", "path of a node"};
 static unsigned long long counts[OPERATIONS][22], round_number, wrongs;
 static uint64_t seed = 1;
 
@@ -156,7 +156,7 @@ static void begin(int operation, int pass, size_t a, size_t b, size_t c) {
 }
 static uint64_t *number(Region *r, int behind) { return (uint64_t *)room(r, 8, behind); }
 static Answer answered(uint32_t refusal, uint64_t *first, uint64_t *second, int behind) {
-    counts[call.operation][refusal < 16 ? refusal : 16]++;
+    counts[call.operation][refusal < 22 ? refusal : 21]++;
     CHECK(kept(&first_out, 8, 0, 8, behind) && kept(&second_out, 8, 0, 8, behind));
     return (Answer){refusal, first ? *first : 0, second ? *second : 0};
 }
@@ -331,6 +331,45 @@ static void part_of_node(int operation, Bytes t, size_t n, Bytes x, size_t m, si
     if (was.first <= m && was.second <= m - was.first) CHECK(is_utf8(x + was.first, was.second));
 }
 
+// Path of a node, in a room of a length. A path that compiles is asked as a query, and selects that node alone. The answer has the length needed.
+static uint8_t path_kept[65536];
+static size_t path_of_node(Bytes t, size_t n, Bytes x, size_t m, size_t node, size_t length, Answer table_answer) {
+    Answer was = {0, 0, 0};
+    for (int pass = 0; pass < 2; pass++) {
+        begin(PATH, pass, node, length, 0);
+        Bytes table = lend(&table_in, "table", t, n, pass), text = lend(&text_in, "text", x, m, pass);
+        uint8_t *path = room(&plan_out, length, pass);
+        uint64_t *a = number(&first_out, pass), *b = number(&second_out, pass);
+        Answer r = answered(stewpebble_path_of_node(table, n, text, m, node, path, length, a, b), a, b, pass);
+        if (!r.refusal && r.first > length) { report("a length beyond its room"); return 0; }
+        size_t wrote = r.refusal ? 0 : r.first;
+        CHECK(kept(&plan_out, length, 0, wrote, pass));
+        if (pass) CHECK(same(r, was) && !memcmp(path, path_kept, wrote));
+        else memcpy(path_kept, path, wrote);
+        was = r;
+    }
+    if (printing) {
+        printf("path");
+        hex(t, n), hex(x, m), printf(" %zu %zu %u %llu %llu", node, length, was.refusal, (unsigned long long)was.first, (unsigned long long)was.second);
+        hex(path_kept, was.refusal ? 0 : was.first), printf("\n");
+    }
+    if (table_answer.refusal) {
+        CHECK(was.refusal == table_answer.refusal && was.first == 0 && was.second == table_answer.first);
+        return 0;
+    }
+    CHECK(was.second == 0);
+    if (node >= n / 24) {
+        CHECK(was.refusal == 15 && was.first == 0);
+        return 0;
+    }
+    CHECK(was.first > 0 && was.refusal == (was.first > length ? 16 : 0));
+    if (!was.refusal && was.first <= 4096) {
+        Answer r = run(path_kept, was.first, 0, 0, 0, 0, t, n, x, m, 2, 0);
+        CHECK(r.refusal == 0 && r.first == 1 && listed[0] == node);
+    }
+    return was.first;
+}
+
 // ---- structured queries
 
 typedef struct { size_t n; uint8_t at[70000]; } Buffer;
@@ -503,10 +542,10 @@ static size_t widest;
 static void make_table(size_t nodes) {
     static const char letters[] = "abcdefghijklmnopqrstuvwxyzé\xf0\x9f\x98\x80\xff";
     static uint8_t depth[256];
-    static uint8_t member[256];
+    static uint8_t member[256], parent[256];
     text.n = 0, put(&text, letters), widest = 0;
     size_t used = 1, deep = one_in(4);
-    depth[0] = member[0] = 0;
+    depth[0] = member[0] = parent[0] = 0;
     memset(table.at, 0, 24 * nodes);
     for (size_t i = 0; i < used; i++) {
         uint8_t *r = table.at + 24 * i;
@@ -525,11 +564,12 @@ static void make_table(size_t nodes) {
             break;
         case 6: case 7: low = children ? (uint32_t)used : 0, high = (uint32_t)children;
         }
-        r[0] = (uint8_t)kind, r[1] = depth[i], set_word(r + 16, low), set_word(r + 20, high);
+        r[0] = (uint8_t)kind, r[1] = depth[i], set_word(r + 12, parent[i]), set_word(r + 16, low), set_word(r + 20, high);
         // A member's key starts at one of the first 27 letters, each at another.
         if (member[i]) set_word(r + 4, member[i] % 27u), set_word(r + 8, member[i] % 27 == 26 || one_in(3) ? 2 : 1);
         for (size_t k = 0; k < children; k++) {
             depth[used + k] = (uint8_t)(depth[i] + 1);
+            parent[used + k] = (uint8_t)i;
             member[used + k] = (uint8_t)(kind != 7 ? 0 : k == 4 && one_in(3) ? 53 : 27 + k + (one_in(9) ? 17 - 2 * k : 0));
         }
         used += children;
@@ -622,6 +662,9 @@ static void tables(Bytes q, size_t qn, Bytes p, size_t pn, Bytes o, size_t on, u
         size_t node = one_in(8) ? odd[below(4)] : below(table.n / 24 + 2);
         part_of_node(TEXT, table.at, table.n, text.at, text.n, node, checked);
         part_of_node(KEY, table.at, table.n, text.at, text.n, node, checked);
+        size_t needed = path_of_node(table.at, table.n, text.at, text.n, node, 0, checked);
+        path_of_node(table.at, table.n, text.at, text.n, node, needed, checked);
+        path_of_node(table.at, table.n, text.at, text.n, node, below(needed + 4), checked);
     }
     if (!both) { lists(0, 0, p, pn, o, on, plan_refused, checked); return; }
     lists(q, qn, 0, 0, 0, 0, query_refused, checked);
@@ -729,10 +772,10 @@ static void edges(void) {
         if (n == 32) CHECK(check_plan(plan_kept, c.first, pool_kept, c.second) == 0);
     }
     // depths of a table
-    for (uint32_t i = 0; i < 65; i++) record(table.at, i, i < 64 ? 6 : 3, (int)i, i < 64 ? i + 1 : 0, i < 64);
+    for (uint32_t i = 0; i < 65; i++) set_word(record(table.at, i, i < 64 ? 6 : 3, (int)i, i < 64 ? i + 1 : 0, i < 64) + 12, i ? i - 1 : 0);
     Answer r = check_table(table.at, 65 * 24, text.at, 0);
     CHECK(r.refusal == 10 && r.first == 64);
-    record(table.at, 63, 3, 63, 0, 0), table.n = 64 * 24;
+    set_word(record(table.at, 63, 3, 63, 0, 0) + 12, 62), table.n = 64 * 24;
     CHECK(check_table(table.at, table.n, text.at, 0).refusal == 0);
     // the deepest queries, on this stack: 32 queries inside each other, each down to the last node by wildcards or by a descent
     for (int descents = 0; descents < 2; descents++) {
@@ -791,6 +834,7 @@ static void edges(void) {
         r = check_table(big, 24 * (n + 1), text.at, text.n);
         CHECK(r.refusal == (n == 1024 ? 0 : 10) && r.first == 0);
         for (size_t i = 0; i < 20; i++) part_of_node(KEY, big, 24 * (n + 1), text.at, text.n, 53 * i, r);
+        for (size_t length = 0; length < 12; length++) path_of_node(big, 24 * (n + 1), text.at, text.n, n, length, r);
     }
     for (size_t n = MOST_TEXT; n <= MOST_TEXT + 1; n++) {
         record(big, 0, 5, 0, 0, (uint32_t)n);

@@ -43,10 +43,10 @@ fi
 
 echo "== faults that must be found"
 cc $flags -c -o target/fuzz/fuzz.o fuzz/fuzz.c
-for fault in $(seq 0 18); do
+for fault in $(seq 0 21); do
     cc -O1 -Wall -Wextra -DFAULT="$fault" -c -o target/fuzz/faults.o fuzz/faults.c
     cc -pthread -o $fuzz-faults target/fuzz/fuzz.o target/fuzz/faults.o "$archive" \
-        -Wl,--wrap=stewpebble_compile,--wrap=stewpebble_check_table,--wrap=stewpebble_select
+        -Wl,--wrap=stewpebble_compile,--wrap=stewpebble_check_table,--wrap=stewpebble_select,--wrap=stewpebble_path_of_node
     found=0
     $fuzz-faults random 20000 1 >target/fuzz/faults.log || found=1
     # fault 0 is none
@@ -55,4 +55,4 @@ for fault in $(seq 0 18); do
         exit 1
     fi
 done
-echo "18 faults found"
+echo "21 faults found"

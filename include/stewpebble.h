@@ -58,6 +58,7 @@ enum stewpebble_refusal {
     STEWPEBBLE_REFUSED_LIST_FULL = 13,       // more nodes are selected than there are places from the start position
     STEWPEBBLE_REFUSED_START_BEYOND = 14,    // the start position is beyond the list's end
     STEWPEBBLE_REFUSED_NO_SUCH_TEXT = 15,    // no such node, or it has no text or no key
+    STEWPEBBLE_REFUSED_PATH_ROOM = 16,       // the room for a path is too small; the length that is needed is set
     STEWPEBBLE_REFUSED_COUNT_FULL = 21       // a count, or the number of plans, would pass 2^53-1
 };
 
@@ -80,6 +81,7 @@ static inline const char *stewpebble_refusal_words(uint32_t refusal) {
     case STEWPEBBLE_REFUSED_LIST_FULL: return "more nodes are selected than the list has places for";
     case STEWPEBBLE_REFUSED_START_BEYOND: return "the start position is beyond the end of the list";
     case STEWPEBBLE_REFUSED_NO_SUCH_TEXT: return "there is no such node, or it has no such text";
+    case STEWPEBBLE_REFUSED_PATH_ROOM: return "the room for the path is too small";
     case STEWPEBBLE_REFUSED_COUNT_FULL: return "a count would pass 9,007,199,254,740,991";
     default: return "there is no such refusal";
     }
@@ -89,11 +91,12 @@ static inline const char *stewpebble_refusal_words(uint32_t refusal) {
 //
 //   byte 0      1       2        4             8             12            16                            24
 //        +------+-------+--------+-------------+-------------+-------------+-----------------------------+
-//        | kind | depth | 0    0 |  key start  | key length  | 0   0  0  0 |            value            |
+//        | kind | depth | 0    0 |  key start  | key length  |   parent    |            value            |
 //        +------+-------+--------+-------------+-------------+-------------+-----------------------------+
 //
 // Node 0 is the root. Children follow each other, and so do the children of all containers, in the containers' order: the first child of a node is 1 plus the
-// number of children of all nodes before it. An empty list or map has 0 and 0. Depth is 0 at the root and one more at each level. The key of a map's member
+// number of children of all nodes before it. An empty list or map has 0 and 0. The parent is the number of the node whose child it is, and
+// 0 at the root. Depth is 0 at the root and one more at each level. The key of a map's member
 // is a part of the text; that of any other node has start 0 and length 0. Texts and keys are UTF-8, and the keys of a map differ.
 enum stewpebble_kind {
     STEWPEBBLE_NULL = 0,
@@ -109,7 +112,7 @@ enum stewpebble_kind {
 struct stewpebble_record {
     uint8_t kind, depth;
     uint16_t zero;
-    uint32_t key_start, key_length, zero_too;
+    uint32_t key_start, key_length, parent;
     union {
         uint64_t none;  // 0, for null, false and true
         int64_t integer;
@@ -177,6 +180,11 @@ uint32_t stewpebble_select(const uint8_t *query, size_t query_length, const uint
 // call checks the whole table; of a table that was accepted and has not changed, the record tells the same.
 uint32_t stewpebble_text_of_node(const uint8_t *table, size_t table_length, const uint8_t *text, size_t text_length, size_t node, uint64_t *start, uint64_t *length);
 uint32_t stewpebble_key_of_node(const uint8_t *table, size_t table_length, const uint8_t *text, size_t text_length, size_t node, uint64_t *start, uint64_t *length);
+
+// Path of a node: 9, 10, 15, 16. The Normalized Path of the node (RFC 9535, section 2.7), as $['a'][0], is written into the first bytes of the room, without a 0
+// behind it. Its length is set, also with 16, and 0 with every other refusal; the least wrong node is set with 10, and 0 otherwise. A path of at most 4,096
+// bytes, compiled and run on the same table, selects that node alone. A length may pass 32 bits, since keys may share their bytes of the text.
+uint32_t stewpebble_path_of_node(const uint8_t *table, size_t table_length, const uint8_t *text, size_t text_length, size_t node, uint8_t *room, size_t room_length, uint64_t *length, uint64_t *wrong);
 
 #ifdef __cplusplus
 }

@@ -1,4 +1,4 @@
-"""Tables of values in plain Python, apart from the definition and the code: document 01's rules, and the table of a value."""
+"""Tables of values in plain Python, apart from the definition and the code: the rules of documents 01 and 02, the Normalized Path of a node, and the table of a value."""
 import struct
 
 NULL, FALSE, TRUE, INTEGER, FLOAT, STRING, LIST, MAP = range(8)
@@ -24,8 +24,8 @@ def check(table, text):
         return 9
     nodes = [struct.unpack_from("<BBHIIIII", table, at) for at in range(0, len(table), 24)]
     parent, keys, begin = {}, {}, 1
-    for i, (kind, depth, zero2, start, size, zero12, low, high) in enumerate(nodes):
-        if kind > 7 or depth > 63 or zero2 or zero12:
+    for i, (kind, depth, zero, start, size, above, low, high) in enumerate(nodes):
+        if kind > 7 or depth > 63 or zero:
             return 10, i
         if kind in (NULL, FALSE, TRUE) and (low or high):
             return 10, i
@@ -41,13 +41,13 @@ def check(table, text):
             if kind == MAP and high > 1024:
                 return 10, i
         if i == 0:
-            if depth or start or size:
+            if above or depth or start or size:
                 return 10, i
         else:
             if i not in parent:
                 return 10, i
             up = parent[i]
-            if depth != nodes[up][1] + 1:
+            if above != up or depth != nodes[up][1] + 1:
                 return 10, i
             if nodes[up][0] == MAP:
                 key = text[start:start + size]
@@ -95,13 +95,47 @@ def named(table, text, node, key):
     return 0, text[start:start + size]
 
 
+# ---- Normalized Paths: RFC 9535, section 2.7
+
+ESCAPES = {8: b"\\b", 9: b"\\t", 10: b"\\n", 12: b"\\f", 13: b"\\r", 39: b"\\'", 92: b"\\\\"}
+
+
+def escaped(key):
+    return b"".join(ESCAPES.get(b) or (bytes([b]) if b >= 32 else b"\\u%04x" % b) for b in key)
+
+
+def steps(table, text, node):
+    """The path of a node of an accepted table, by ranges of children."""
+    up, path = parents(table), b""
+    while node in up:
+        above = up[node]
+        if table[24 * above] == MAP:
+            start, size = struct.unpack_from("<II", table, 24 * node + 4)
+            step = b"['%s']" % escaped(text[start:start + size])
+        else:
+            step = b"[%d]" % (node - min(child for child in up if up[child] == above))
+        path, node = step + path, above
+    return b"$" + path
+
+
+def path(table, text, node, room):
+    """(refusal, number, what is written): the number is the length needed with 0 and 16, and the node with 10."""
+    wrong = check(table, text)
+    if wrong is not None:
+        return (9, 0, b"") if wrong == 9 else (10, wrong[1], b"")
+    if node >= len(table) // 24:
+        return 15, 0, b""
+    s = steps(table, text, node)
+    return (16, len(s), b"") if room < len(s) else (0, len(s), s)
+
+
 # ---- tables made from values
 
 def build(value):
     """The table and the text of a Python value. Dicts are maps; texts and keys are bytes, or strings that are encoded in UTF-8."""
-    records, text, queue, begin = [], b"", [(value, 0, 0, 0)], 1
+    records, text, queue, begin = [], b"", [(value, 0, 0, 0, 0)], 1
     while queue:
-        v, depth, start, size = queue.pop(0)
+        v, depth, start, size, above = queue.pop(0)
         v = v.encode() if isinstance(v, str) else v
         low = high = 0
         if v is None or v is False or v is True:
@@ -124,6 +158,6 @@ def build(value):
                 key = item[0].encode() if isinstance(item[0], str) else item[0]
                 at = len(text) if kind == MAP else 0
                 text += key
-                queue.append((item[1], depth + 1, at, len(key)))
-        records.append(struct.pack("<BBHIIIII", kind, depth, 0, start, size, 0, low, high))
+                queue.append((item[1], depth + 1, at, len(key), len(records)))
+        records.append(struct.pack("<BBHIIIII", kind, depth, 0, start, size, above, low, high))
     return b"".join(records), text

@@ -1,5 +1,5 @@
 #!/usr/bin/env python3
-"""Writes stdin and stdout of the program probe, beside this file: lines of calls, and the answers that document 01 asks for.
+"""Writes stdin and stdout of the program probe, beside this file: lines of calls, and the answers that documents 01 and 02 ask for.
 
 The rules are written once more in tools/, plainly and apart from the definition and the code, so that the three are held against each other. queries.py
 has the queries. Run it with no arguments; it always writes the same files.
@@ -10,7 +10,7 @@ HERE = os.path.dirname(os.path.abspath(__file__))
 sys.dont_write_bytecode = True
 sys.path[:0] = [HERE, os.path.join(HERE, "..", "..", "tools")]
 import plans, queries, reference
-from tables import FLOAT, INTEGER, LIST, MAP, STRING, build, check, named, parents
+from tables import FLOAT, INTEGER, LIST, MAP, STRING, build, check, named, parents, path
 
 NODES, TEXT, LINE, QUERY, PLAN, PLACES = 8192, 65536, 524800, 8192, 65536, 65535
 TABLE = 24 * NODES
@@ -72,6 +72,7 @@ ROOMS = {
     b"table": [TABLE, TEXT],
     b"text": [TABLE, TEXT, None],
     b"key": [TABLE, TEXT, None],
+    b"path": [TABLE, TEXT, None, None],
     b"compile": [QUERY, None, None],
     b"plan": [PLAN, PLAN],
     b"run": [PLAN, PLAN, TABLE, TEXT, None, None],
@@ -100,6 +101,13 @@ def answer_text(table, text, node):
 
 def answer_key(table, text, node):
     return answer_part(table, text, node, True)
+
+
+def answer_path(table, text, node, room):
+    if room > PLAN:
+        raise TooLong
+    refusal, n, written = path(table, text, node, room)
+    return "refused %d %d" % (refusal, n) if refusal else "ok " + shown(written)
 
 
 def answer_compile(query, plan_room, pool_room):
@@ -194,8 +202,12 @@ def broken(table, text):
         yield from at(every, lambda i: put(table, i, 1, bytes([new])))
     yield from at(every, lambda i: put(table, i, 1, bytes([depth(i) + 1])))
     yield from at(range(1, n), lambda i: put(table, i, 1, bytes([depth(i) - 1])))
-    for byte in (2, 3, 12, 13, 14, 15):
+    for byte in (2, 3, 13, 14, 15):
         yield from at(every, lambda i: put(table, i, byte, b"\x01"))
+    yield from at(every, lambda i: put(table, i, 12, u32(up.get(i, 0) + 1)))
+    yield from at(range(1, n), lambda i: put(table, i, 12, u32(i)))
+    yield from at([i for i in every if up.get(i, 0)], lambda i: put(table, i, 12, u32(0)))
+    yield from at([i for i in every if up.get(i, 0)], lambda i: put(table, i, 12, u32(up[i] - 1)))
     plain = [i for i in every if i == 0 or kinds[up[i]] != MAP]
     yield from at(plain, lambda i: put(table, i, 4, u32(1)))
     yield from at(plain, lambda i: put(table, i, 8, u32(1)))
@@ -281,8 +293,8 @@ def write_lines():
         table_line(*build(chain(levels)))
     deep, text = build(chain(63))
     table_line(put(deep, 63, 0, b"\x06"), text)
-    table_line(put(put(deep, 63, 0, b"\x06"), 63, 16, u32(64) + u32(1)) + put(deep[-24:], 0, 1, b"\x40"), text)
-    table_line(put(put(deep, 63, 0, b"\x06"), 63, 16, u32(64) + u32(1)) + put(deep[-24:], 0, 1, b"\x3f"), text)
+    table_line(put(put(deep, 63, 0, b"\x06"), 63, 16, u32(64) + u32(1)) + put(put(deep[-24:], 0, 1, b"\x40"), 0, 12, u32(63)), text)
+    table_line(put(put(deep, 63, 0, b"\x06"), 63, 16, u32(64) + u32(1)) + put(put(deep[-24:], 0, 1, b"\x3f"), 0, 12, u32(63)), text)
     # members to the limit and past it, keys that differ late, and equal keys far apart
     for count in (1023, 1024, 1025):
         table_line(*build({b"%04x" % k: None for k in range(count)}))
@@ -334,6 +346,29 @@ def write_lines():
     lines.append(b"table " + b"0" * LINE)
     say(b"text", hexed(one), hexed(fill[:41]), 0)
     say(b"text", hexed(one), hexed(fill[:40]), 0)
+
+
+# ---- paths
+
+def path_lines():
+    keys = [bytes(range(32)), b"\"'\\/\x7f", "é€😀".encode(), b"", b"a b"]
+    values = [SAMPLE, EVERY, MEMBERS, None, [[]], {k: [k] for k in keys}, {b"k": {k: {b"x": None} for k in keys}}, [None] * 101, chain(63)]
+    for value in values:
+        table, text = build(value)
+        n = len(table) // 24
+        for node in sorted({n - 1, n} if n > 40 else {*range(n + 1), 65535, 10 ** 18}):
+            length = path(table, text, node, PLAN)[1]
+            for room in sorted({0, length - 1, length, length + 1}) if length else [9]:
+                say(b"path", hexed(table), hexed(text), node, room)
+    for room in (PLAN, PLAN + 1):
+        say(b"path", *map(hexed, build(SAMPLE)), 5, room)
+    table, text = build(MEMBERS)
+    for wrong in dict.fromkeys(broken(table, text)):
+        say(b"path", hexed(wrong), hexed(text), 4, 100)
+    t, x = build(SAMPLE)
+    t, x = hexed(t), hexed(x)
+    lines.extend([b"path", b"path " + t + b" " + x, b"path " + t + b" " + x + b" 1", b"path " + t + b" " + x + b" 1 ", b"path " + t + b" " + x + b" 1 9 9",
+                  b"path " + t + b" " + x + b" - 9", b"path " + t + b" " + x + b" 1 -", b"paths " + t + b" " + x + b" 1 9", b"path - - 0 0"])
 
 
 # ---- compile, plan, run and select
@@ -481,6 +516,7 @@ select_lines()
 order_lines()
 word_lines()
 take_lines()
+path_lines()
 with open(os.path.join(HERE, "stdin"), "wb") as f:
     f.write(b"\n".join(lines))
 with open(os.path.join(HERE, "stdout"), "w") as f:

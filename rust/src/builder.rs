@@ -1,5 +1,5 @@
 //! The table of a value, laid out by the rules of tables.
-use crate::limits::{grouped, MAX_DEPTH, MAX_MEMBERS, MAX_NODES, MAX_TEXT};
+use crate::limits::{grouped, MAX_DEPTH, MAX_MEMBERS, MAX_NODES, MAX_TEXT, RECORD};
 use crate::{Kind, Value};
 use alloc::collections::{BTreeSet, VecDeque};
 use alloc::string::String;
@@ -64,7 +64,7 @@ impl std::error::Error for TableError {}
 /// The records and the texts of a value.
 pub(crate) fn build(value: &Value) -> Result<(Vec<u8>, Vec<u8>), TableError> {
     let mut builder = Builder { records: Vec::new(), texts: Vec::new(), queue: VecDeque::new(), next_child: 1 };
-    builder.queue.push_back(Pending { value, depth: 0, key: None });
+    builder.queue.push_back(Pending { value, depth: 0, key: None, parent: 0 });
     while let Some(node) = builder.queue.pop_front() {
         builder.record(&node)?;
     }
@@ -91,6 +91,8 @@ struct Pending<'a> {
     value: &'a Value,
     depth: u8,
     key: Option<&'a str>,
+    /// The node whose child it is; 0 for the root.
+    parent: u32,
 }
 
 /// Builds the records node by node; the children of a node are queued behind all that are queued already.
@@ -116,8 +118,14 @@ impl<'a> Builder<'a> {
             return Err(TableError::TooManyNodes { nodes });
         }
         self.next_child = nodes;
-        self.queue.extend(members.map(|(key, value)| Pending { value, depth: depth + 1, key }));
+        let parent = self.next_node();
+        self.queue.extend(members.map(|(key, value)| Pending { value, depth: depth + 1, key, parent }));
         Ok((first as u32, count as u32))
+    }
+
+    /// The node whose record is written next.
+    fn next_node(&self) -> u32 {
+        (self.records.len() / RECORD) as u32
     }
 
     fn members(&mut self, depth: u8, members: &'a [(String, Value)]) -> Result<(u32, u32), TableError> {
@@ -153,7 +161,7 @@ impl<'a> Builder<'a> {
         let (kind, payload) = self.payload(node)?;
         self.records.extend_from_slice(&[kind as u8, node.depth, 0, 0]);
         self.records.extend_from_slice(&pair(key).to_le_bytes());
-        self.records.extend_from_slice(&[0; 4]);
+        self.records.extend_from_slice(&node.parent.to_le_bytes());
         self.records.extend_from_slice(&payload.to_le_bytes());
         Ok(())
     }

@@ -15,6 +15,7 @@ extern "C" {
     fn stewpebble_run(plan: *const u8, plan_length: usize, pool: *const u8, pool_length: usize, table: *const u8, table_length: usize, text: *const u8, text_length: usize, list: *mut u32, list_length: usize, start: usize, count: *mut u64, node: *mut u64) -> u32;
     fn stewpebble_select(query: *const u8, query_length: usize, table: *const u8, table_length: usize, text: *const u8, text_length: usize, list: *mut u32, list_length: usize, start: usize, count: *mut u64, node: *mut u64) -> u32;
     fn stewpebble_text_of_node(table: *const u8, table_length: usize, text: *const u8, text_length: usize, node: usize, start: *mut u64, length: *mut u64) -> u32;
+    fn stewpebble_path_of_node(table: *const u8, table_length: usize, text: *const u8, text_length: usize, node: usize, room: *mut u8, room_length: usize, length: *mut u64, wrong: *mut u64) -> u32;
     fn stewpebble_key_of_node(table: *const u8, table_length: usize, text: *const u8, text_length: usize, node: usize, start: *mut u64, length: *mut u64) -> u32;
 }
 
@@ -92,4 +93,13 @@ pub fn key_of_node(table: &[u8], text: &[u8], node: u32) -> Result<(usize, usize
     // SAFETY: the slices and the two numbers are borrowed for the call, as the module says.
     let number = unsafe { stewpebble_key_of_node(table.as_ptr(), table.len(), text.as_ptr(), text.len(), node as usize, &mut start, &mut length) };
     answer(number, 0, 0, (start as usize, length as usize))
+}
+
+/// The length of the path of a node, which stands in the first bytes of the room.
+pub fn path_of_node(table: &[u8], text: &[u8], node: u32, room: &mut [u8]) -> Result<usize, Refused> {
+    let (mut length, mut wrong) = (0, 0);
+    // SAFETY: the slices and the two numbers are borrowed for the call, as the module says.
+    let number = unsafe { stewpebble_path_of_node(table.as_ptr(), table.len(), text.as_ptr(), text.len(), node as usize, room.as_mut_ptr(), room.len(), &mut length, &mut wrong) };
+    // Only 10 sets the node, and only 16 the length.
+    answer(number, length + wrong, 0, length as usize)
 }

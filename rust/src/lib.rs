@@ -3,8 +3,8 @@
 //! A query is compiled once into a [`Plan`], values are laid out once in a [`Table`], and [`Plan::run`] hands out the
 //! [`Node`]s that the query selects. Every operation is thin over a function of the proved library: what a query means,
 //! when each refusal is given and what is written where are stated in the repository and proved of the code. What is Rust
-//! here, and tested instead, is said where it is: reading and writing JSON, laying out a table, reading a part of it, and
-//! changing one node of it.
+//! here, and tested instead, is said where it is: reading and writing JSON, laying out a table, reading a part of it or a
+//! node's path, and changing one node of it.
 //!
 //! ```
 //! use stewpebble::{Plan, Table};
@@ -54,6 +54,7 @@ mod item;
 mod json;
 mod limits;
 mod node;
+mod path;
 mod plan;
 mod refusal;
 #[cfg(feature = "serde_json")]
@@ -68,9 +69,10 @@ pub use error::Error;
 pub use item::{Item, Items};
 pub use json::JsonError;
 pub use node::{Kind, Node, Nodes};
+pub use path::Path;
 pub use plan::{compile, compile_bytes, select, select_into, select_up_to, Plan, DEFAULT_LIMIT};
 pub use refusal::Refusal;
-pub use table::{check_table, key_of_node, text_of_node, Table};
+pub use table::{check_table, key_of_node, path_of_node, text_of_node, Table};
 pub use tally::Tally;
 pub use value::Value;
 

@@ -1,6 +1,6 @@
 //! Nodes of a table: what a query selects, and what each is.
 use crate::value::{write_float, write_text};
-use crate::{Table, Value};
+use crate::{Path, Table, Value};
 use alloc::vec;
 use alloc::vec::Vec;
 use core::fmt;
@@ -239,6 +239,18 @@ impl<'t> Node<'t> {
     pub fn position(&self) -> Option<usize> {
         let first = self.table.children_of(self.table.parent_of(self.number)?).start;
         Some(self.number.saturating_sub(first) as usize)
+    }
+
+    /// Its Normalized Path: the address that selects it alone, and no other node of the table.
+    ///
+    /// ```
+    /// let table: stewpebble::Table = r#"{"a":[1,{"b c":2}]}"#.parse().unwrap();
+    /// assert_eq!(table.node(4).unwrap().path().to_string(), "$['a'][1]['b c']");
+    /// assert_eq!(table.root().path().to_string(), "$");
+    /// ```
+    #[must_use]
+    pub fn path(&self) -> Path<'t> {
+        Path(*self)
     }
 
     fn payload(&self) -> u64 {

@@ -95,6 +95,13 @@ pub enum Refusal {
         /// The node.
         node: u32,
     },
+    /// 16: the room for the path of a node is too small. It is then as it was.
+    PathRoom {
+        /// The bytes that the path has.
+        bytes: u64,
+        /// The bytes of the room.
+        room: usize,
+    },
     /// 21: a count of items, or of plans, would pass 2^53-1.
     CountFull,
     /// A number that this version of the crate has no name for. The archive is of another version.
@@ -160,6 +167,7 @@ impl Refusal {
             Refusal::ListFull { .. } | Refusal::LimitPassed { .. } => 13,
             Refusal::StartBeyond { .. } => 14,
             Refusal::NoSuchNode { .. } | Refusal::NoText { .. } | Refusal::NoKey { .. } => 15,
+            Refusal::PathRoom { .. } => 16,
             Refusal::CountFull => 21,
             Refusal::Unknown { number } => *number,
         }
@@ -200,6 +208,7 @@ impl fmt::Display for Refusal {
             Refusal::NoSuchNode { node, nodes } => write!(f, "there is no node {node}: the table has {} nodes, from 0 on", grouped(nodes)),
             Refusal::NoText { node } => write!(f, "node {node} is no text"),
             Refusal::NoKey { node } => write!(f, "node {node} is no member of a map, so it has no key"),
+            Refusal::PathRoom { bytes, room } => write!(f, "the path has {} bytes, and the room has {}", Grouped(bytes), grouped(room)),
             Refusal::CountFull => write!(f, "a count would pass {}", Grouped(MAX_EXACT)),
             Refusal::Unknown { number } => write!(f, "the library refuses with the number {number}, which this version of the crate has no name for"),
         }

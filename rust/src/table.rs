@@ -6,7 +6,6 @@ use crate::foreign::{self, Refused};
 use crate::limits::RECORD;
 use crate::refusal::Given;
 use crate::{Error, Kind, Node, Refusal, Value};
-use alloc::vec;
 use alloc::vec::Vec;
 use core::fmt;
 use core::ops::Range;
@@ -28,9 +27,6 @@ use core::str::FromStr;
 pub struct Table {
     pub(crate) records: Vec<u8>,
     pub(crate) texts: Vec<u8>,
-    /// The parent of each node, and 0 for the root. A table has fewer nodes than 16 bits count, and a change of a node
-    /// keeps the shape.
-    parents: Vec<u16>,
 }
 
 /// Checks a table of values: records of 24 bytes, and their texts.
@@ -77,6 +73,31 @@ pub fn key_of_node<'a>(records: &[u8], texts: &'a [u8], node: u32) -> Result<&'a
     part_of_node(records, texts, foreign::key_of_node(records, texts, node), node, Refusal::NoKey { node })
 }
 
+/// The Normalized Path of a node (RFC 9535, section 2.7) of a table that is lent, in the first bytes of the room: how many
+/// they are. The table is checked as a whole at each call; [`Node::path`] is the same of a table that was accepted before.
+///
+/// A path of at most 4,096 bytes, compiled and run on its table, selects that node alone, and no two nodes of a table share
+/// a path.
+///
+/// ```
+/// use stewpebble::{path_of_node, Refusal, Table};
+///
+/// let table: Table = r#"{"a":[10,20.0,30],"b":"é"}"#.parse()?;
+/// let mut room = [0; 16];
+/// let length = path_of_node(table.records(), table.texts(), 5, &mut room)?;
+/// assert_eq!(&room[..length], b"$['a'][2]");
+/// assert_eq!(path_of_node(table.records(), table.texts(), 5, &mut room[..8]), Err(Refusal::PathRoom { bytes: 9, room: 8 }));
+/// # Ok::<(), stewpebble::Error>(())
+/// ```
+pub fn path_of_node(records: &[u8], texts: &[u8], node: u32, room: &mut [u8]) -> Result<usize, Refusal> {
+    let size = room.len();
+    foreign::path_of_node(records, texts, node, room).map_err(|refused| match refused.number {
+        15 => Refusal::NoSuchNode { node, nodes: records.len() / RECORD },
+        16 => Refusal::PathRoom { bytes: refused.first, room: size },
+        _ => Refusal::new(refused, given(records, texts)),
+    })
+}
+
 /// The part that the library's operation found. Its refusals of the table itself come with the numbers of the check.
 fn part_of_node<'a>(records: &[u8], texts: &'a [u8], found: Result<(usize, usize), Refused>, node: u32, none: Refusal) -> Result<&'a str, Refusal> {
     match found {
@@ -116,7 +137,7 @@ impl Table {
     /// ```
     pub fn from_value(value: &Value) -> Result<Table, crate::TableError> {
         let (records, texts) = crate::builder::build(value)?;
-        Ok(Table::accepted(records, texts))
+        Ok(Table { records, texts })
     }
 
     /// The table of a JSON text.
@@ -142,20 +163,7 @@ impl Table {
     /// ```
     pub fn from_bytes(records: Vec<u8>, texts: Vec<u8>) -> Result<Table, Refusal> {
         check_table(&records, &texts)?;
-        Ok(Table::accepted(records, texts))
-    }
-
-    /// A table that keeps to the rules. Its nodes learn their parents.
-    fn accepted(records: Vec<u8>, texts: Vec<u8>) -> Table {
-        let nodes = records.len() / RECORD;
-        let mut table = Table { records, texts, parents: vec![0; nodes] };
-        for node in 0..nodes as u32 {
-            let Range { start, end } = table.children_of(node);
-            if let Some(parents) = table.parents.get_mut(start as usize..end as usize) {
-                parents.fill(node as u16);
-            }
-        }
-        table
+        Ok(Table { records, texts })
     }
 
     /// The records, 24 bytes for each node.
@@ -203,7 +211,7 @@ impl Table {
     /// assert_eq!(values, ["[1,[2]]", "1", "[2]", "2"]);
     /// ```
     pub fn nodes(&self) -> impl ExactSizeIterator<Item = Node<'_>> + DoubleEndedIterator + Clone + '_ {
-        (0..self.parents.len() as u32).map(move |number| Node::new(self, number))
+        (0..self.count() as u32).map(move |number| Node::new(self, number))
     }
 
     /// The node of a number, if there is one.
@@ -215,7 +223,7 @@ impl Table {
     /// ```
     #[must_use]
     pub fn node(&self, number: u32) -> Option<Node<'_>> {
-        ((number as usize) < self.parents.len()).then(|| Node::new(self, number))
+        ((number as usize) < self.count()).then(|| Node::new(self, number))
     }
 
     /// The node of the whole value.
@@ -240,7 +248,7 @@ impl Table {
     /// assert_eq!(table.text(2), Err(Refusal::NoSuchNode { node: 2, nodes: 2 }));
     /// ```
     pub fn text(&self, node: u32) -> Result<&str, Refusal> {
-        let none = || absent(node, self.parents.len(), Refusal::NoText { node });
+        let none = || absent(node, self.count(), Refusal::NoText { node });
         let record = self.record(node).filter(|record| record[0] == Kind::Text as u8).ok_or_else(none)?;
         part(&self.texts, word(record, 16) as usize, word(record, 20) as usize).ok_or_else(none)
     }
@@ -255,7 +263,7 @@ impl Table {
     /// assert_eq!(table.key(2), Err(Refusal::NoKey { node: 2 }));
     /// ```
     pub fn key(&self, node: u32) -> Result<&str, Refusal> {
-        let none = || absent(node, self.parents.len(), Refusal::NoKey { node });
+        let none = || absent(node, self.count(), Refusal::NoKey { node });
         let parent = self.parent_of(node).ok_or_else(none)?;
         if self.kind_of(parent) != Kind::Map {
             return Err(none());
@@ -281,6 +289,11 @@ impl Table {
     /// What an operation on this table is given.
     pub(crate) fn given(&self) -> Given<'static> {
         given(&self.records, &self.texts)
+    }
+
+    /// How many nodes there are.
+    fn count(&self) -> usize {
+        self.records.len() / RECORD
     }
 
     fn record(&self, node: u32) -> Option<&[u8; RECORD]> {
@@ -309,7 +322,7 @@ impl Table {
     pub(crate) fn parent_of(&self, node: u32) -> Option<u32> {
         match node {
             0 => None,
-            _ => self.parents.get(node as usize).map(|&parent| u32::from(parent)),
+            _ => self.record(node).map(|record| word(record, 12)),
         }
     }
 }
@@ -343,6 +356,6 @@ impl fmt::Display for Table {
 
 impl fmt::Debug for Table {
     fn fmt(&self, f: &mut fmt::Formatter<'_>) -> fmt::Result {
-        f.debug_struct("Table").field("nodes", &self.parents.len()).field("texts", &self.texts.len()).finish_non_exhaustive()
+        f.debug_struct("Table").field("nodes", &self.count()).field("texts", &self.texts.len()).finish_non_exhaustive()
     }
 }

@@ -2,7 +2,7 @@
 //! in place, and values that have no table.
 mod common;
 use common::Random;
-use stewpebble::{check_table, compile, key_of_node, text_of_node, EditError, Kind, Number, Refusal, Table, TableError, Value};
+use stewpebble::{check_table, compile, key_of_node, path_of_node, select, text_of_node, EditError, Kind, Number, Refusal, Table, TableError, Value};
 
 /// Every text and key of a table is what the library's operation gives, also beyond its end.
 fn parts_agree(table: &Table) {
@@ -11,7 +11,25 @@ fn parts_agree(table: &Table) {
     for node in (0..beyond + 2).chain([u32::MAX]) {
         assert_eq!(table.text(node), text_of_node(records, texts, node), "text of node {node} of {table}");
         assert_eq!(table.key(node), key_of_node(records, texts, node), "key of node {node} of {table}");
+        path_agrees(table, node);
     }
+}
+
+/// The path of a node is what the library's operation writes, in any room, and selects that node alone.
+fn path_agrees(table: &Table, node: u32) {
+    let mut room = [b'-'; 4096];
+    let written = path_of_node(table.records(), table.texts(), node, &mut room);
+    let Some(there) = table.node(node) else {
+        assert_eq!(written, Err(Refusal::NoSuchNode { node, nodes: table.nodes().len() }));
+        return;
+    };
+    let path = there.path().to_string();
+    assert_eq!((written, &room[..path.len()], room[path.len()]), (Ok(path.len()), path.as_bytes(), b'-'), "path of node {node} of {table}");
+    assert_eq!(select(&path, table).unwrap().numbers(), [node], "{path}");
+    let mut less = vec![b'-'; path.len() - 1];
+    let short = Refusal::PathRoom { bytes: path.len() as u64, room: less.len() };
+    assert_eq!(path_of_node(table.records(), table.texts(), node, &mut less), Err(short));
+    assert!(less.iter().all(|&b| b == b'-'));
 }
 
 #[test]
@@ -40,6 +58,7 @@ fn parts_of_tables_of_bytes() {
                 refused += 1;
                 assert_eq!(text_of_node(&records, &texts, 0), Err(refusal));
                 assert_eq!(key_of_node(&records, &texts, 0), Err(refusal));
+                assert_eq!(path_of_node(&records, &texts, 0, &mut [0; 9]), Err(refusal));
             }
         }
     }

@@ -18,3 +18,4 @@ pub mod Evaluation
 pub mod Selecting
 pub mod Plans
 pub mod Outcomes
+pub mod Paths

@@ -35,6 +35,10 @@ keyStart T i = field T i 4 4
 abbrev pub keyLength : List ℕ → ℕ → ℕ
 keyLength T i = field T i 8 4
 
+-- "Bytes 12-15 of each record now hold the parent's node number, 0 at the root" (document 02, W2)
+abbrev pub parentAt : List ℕ → ℕ → ℕ
+parentAt T i = field T i 12 4
+
 -- bytes 16-23 as one number, and as two: text start and length, first child and child count
 abbrev pub payload : List ℕ → ℕ → ℕ
 payload T i = field T i 16 8
@@ -101,9 +105,9 @@ parentOf T i = parentBelow T i i
 
 -- ---- the rules for a node
 
--- "Byte 0 kind", "Byte 1 depth, at most 63. Bytes 2-3 and 12-15 zero."
+-- "Byte 0 kind", "Byte 1 depth, at most 63. Bytes 2-3 .. zero." Document 02, W2: "Document 01's 'bytes 12-15 zero' goes".
 unfoldable pub headRight : List ℕ → ℕ → Bool
-headRight T i = leb (kindAt T i) kindMap && (leb (depthAt T i) maxDepth && (eqb (field T i 2 2) 0 && eqb (field T i 12 4) 0))
+headRight T i = leb (kindAt T i) kindMap && (leb (depthAt T i) maxDepth && eqb (field T i 2 2) 0)
 
 -- "finite float bits": the exponent's field is not all ones
 unfoldable pub isFinite : ℕ → Bool
@@ -136,13 +140,13 @@ keyDiffers T X i j (suc n) = not (sameBytes (keyBytes T X j) (keyBytes T X i)) &
 unfoldable pub memberRight : List ℕ → List ℕ → ℕ → ℕ → Bool
 memberRight T X p i = goodPart X (keyStart T i) (keyLength T i) && keyDiffers T X i (firstChild T p) (i - firstChild T p)
 
--- what is asked of a node by its parent: "Depth is 0 at the root, else the parent's plus 1", and the rules on keys
+-- what is asked of a node by its parent: its number in bytes 12-15, "Depth is 0 at the root, else the parent's plus 1", and the rules on keys
 unfoldable pub placeRight : List ℕ → List ℕ → ℕ → Option ℕ → Bool
 placeRight T X i none = false
-placeRight T X i (some p) = eqb (depthAt T i) (depthAt T p + 1) && cond (eqb (kindAt T p) kindMap) (memberRight T X p i) (noKey T i)
+placeRight T X i (some p) = eqb (parentAt T i) p && (eqb (depthAt T i) (depthAt T p + 1) && cond (eqb (kindAt T p) kindMap) (memberRight T X p i) (noKey T i))
 
 unfoldable pub standsRight : List ℕ → List ℕ → ℕ → Bool
-standsRight T X zero = eqb (depthAt T zero) 0 && noKey T zero
+standsRight T X zero = eqb (parentAt T zero) 0 && (eqb (depthAt T zero) 0 && noKey T zero)
 standsRight T X (suc i) = placeRight T X (suc i) (parentOf T (suc i))
 
 -- no rule fails at node i

@@ -20,7 +20,7 @@ use Rattle.definition.specs.TableOutcomes.{PartOutcome, tableOutcome, textOutco
 use Rattle.definition.specs.Selecting.{RunOutcome, runBy}
 use Rattle.definition_examples.specs.Computes.{computes}
 use Rattle.definition_examples.specs.Texts.{bytes, hex}
-use Rattle.definition_examples.specs.Sample.{node, table, changed, sampleTable, sampleText}
+use Rattle.definition_examples.specs.Sample.{node, under, table, changed, sampleTable, sampleText}
 use Rattle.definition_examples.specs.Gives.{selects, planSelects, all}
 use Rattle.definition_examples.specs.Points.{reads}
 
@@ -102,24 +102,24 @@ unfolding computes
 sampleAnswersHold = refl
 
 abbrev lengths : List ℕ
-lengths = table (node 6 0 0 0 1 6 ∷ node 5 1 0 0 0 7 ∷ node 7 1 0 0 7 1 ∷ node 0 1 0 0 0 0 ∷ node 2 1 0 0 0 0 ∷ node 5 1 0 0 0 0 ∷ node 6 1 0 0 0 0 ∷ node 0 2 7 1 0 0 ∷ [])
+lengths = table (node 6 0 0 0 1 6 ∷ node 5 1 0 0 0 7 ∷ node 7 1 0 0 7 1 ∷ node 0 1 0 0 0 0 ∷ node 2 1 0 0 0 0 ∷ node 5 1 0 0 0 0 ∷ node 6 1 0 0 0 0 ∷ under 2 (node 0 2 7 1 0 0) ∷ [])
 
 abbrev pub answers : List Answer
 answers =
     -- [7]
     answer "$[1::-1]" (table (node 6 0 0 0 1 1 ∷ node 3 1 0 0 7 0 ∷ [])) [] (1 ∷ []) ∷
     -- [[1]]
-    answer "$..[0]" (table (node 6 0 0 0 1 1 ∷ node 6 1 0 0 2 1 ∷ node 3 2 0 0 1 0 ∷ [])) [] (1 ∷ 2 ∷ []) ∷
+    answer "$..[0]" (table (node 6 0 0 0 1 1 ∷ node 6 1 0 0 2 1 ∷ under 1 (node 3 2 0 0 1 0) ∷ [])) [] (1 ∷ 2 ∷ []) ∷
     -- {"a": {"b": 1}, "b": 2}
-    answer "$..['b','a']" (table (node 7 0 0 0 1 2 ∷ node 7 1 0 1 3 1 ∷ node 3 1 1 1 2 0 ∷ node 3 2 2 1 1 0 ∷ [])) (bytes "abb") (2 ∷ 1 ∷ 3 ∷ []) ∷
+    answer "$..['b','a']" (table (node 7 0 0 0 1 2 ∷ node 7 1 0 1 3 1 ∷ node 3 1 1 1 2 0 ∷ under 1 (node 3 2 2 1 1 0) ∷ [])) (bytes "abb") (2 ∷ 1 ∷ 3 ∷ []) ∷
     -- [true, null, [true], {}, 1, "x"]
-    answer "$[?@<=@]" (table (node 6 0 0 0 1 6 ∷ node 2 1 0 0 0 0 ∷ node 0 1 0 0 0 0 ∷ node 6 1 0 0 7 1 ∷ node 7 1 0 0 0 0 ∷ node 3 1 0 0 1 0 ∷ node 5 1 0 0 0 1 ∷ node 2 2 0 0 0 0 ∷ [])) (bytes "x") (2 ∷ 3 ∷ 4 ∷ 5 ∷ 6 ∷ []) ∷
+    answer "$[?@<=@]" (table (node 6 0 0 0 1 6 ∷ node 2 1 0 0 0 0 ∷ node 0 1 0 0 0 0 ∷ node 6 1 0 0 7 1 ∷ node 7 1 0 0 0 0 ∷ node 3 1 0 0 1 0 ∷ node 5 1 0 0 0 1 ∷ under 3 (node 2 2 0 0 0 0) ∷ [])) (bytes "x") (2 ∷ 3 ∷ 4 ∷ 5 ∷ 6 ∷ []) ∷
     -- [true, false, 1]
     answer "$[?@!=true]" (table (node 6 0 0 0 1 3 ∷ node 2 1 0 0 0 0 ∷ node 1 1 0 0 0 0 ∷ node 3 1 0 0 1 0 ∷ [])) [] (2 ∷ 3 ∷ []) ∷
     -- [[{"x": 1}], [{"x": 1, "y": 2}]]
-    answer "$[?@==$[1]]" (table (node 6 0 0 0 1 2 ∷ node 6 1 0 0 3 1 ∷ node 6 1 0 0 4 1 ∷ node 7 2 0 0 5 1 ∷ node 7 2 0 0 6 2 ∷ node 3 3 0 1 1 0 ∷ node 3 3 1 1 1 0 ∷ node 3 3 2 1 2 0 ∷ [])) (bytes "xxy") (2 ∷ []) ∷
+    answer "$[?@==$[1]]" (table (node 6 0 0 0 1 2 ∷ node 6 1 0 0 3 1 ∷ node 6 1 0 0 4 1 ∷ under 1 (node 7 2 0 0 5 1) ∷ under 2 (node 7 2 0 0 6 2) ∷ under 3 (node 3 3 0 1 1 0) ∷ under 4 (node 3 3 1 1 1 0) ∷ under 4 (node 3 3 2 1 2 0) ∷ [])) (bytes "xxy") (2 ∷ []) ∷
     -- [{"x": 1, "y": [2.0]}, {"y": [2], "x": 1.0}]
-    answer "$[?@==$[1]]" (table (node 6 0 0 0 1 2 ∷ node 7 1 0 0 3 2 ∷ node 7 1 0 0 5 2 ∷ node 3 2 0 1 1 0 ∷ node 6 2 1 1 7 1 ∷ node 6 2 2 1 8 1 ∷ node 4 2 3 1 0 0x3FF00000 ∷ node 4 3 0 0 0 0x40000000 ∷ node 3 3 0 0 2 0 ∷ [])) (bytes "xyyx") (1 ∷ 2 ∷ []) ∷
+    answer "$[?@==$[1]]" (table (node 6 0 0 0 1 2 ∷ node 7 1 0 0 3 2 ∷ node 7 1 0 0 5 2 ∷ under 1 (node 3 2 0 1 1 0) ∷ under 1 (node 6 2 1 1 7 1) ∷ under 2 (node 6 2 2 1 8 1) ∷ under 2 (node 4 2 3 1 0 0x3FF00000) ∷ under 4 (node 4 3 0 0 0 0x40000000) ∷ under 5 (node 3 3 0 0 2 0) ∷ [])) (bytes "xyyx") (1 ∷ 2 ∷ []) ∷
     -- `!value(@)` on [0, 0.0, -0.0, 1, "", [], {}, null, false, true]
     planAnswer "01 03 01 00 09 05 00 02 0A 1B 18 15 0A" "" notValueHere (table (node 6 0 0 0 1 10 ∷ node 3 1 0 0 0 0 ∷ node 4 1 0 0 0 0 ∷ node 4 1 0 0 0 0x80000000 ∷ node 3 1 0 0 1 0 ∷ node 5 1 0 0 0 0 ∷ node 6 1 0 0 0 0 ∷ node 7 1 0 0 0 0 ∷ node 0 1 0 0 0 0 ∷ node 1 1 0 0 0 0 ∷ node 2 1 0 0 0 0 ∷ [])) [] (1 ∷ 2 ∷ 3 ∷ 5 ∷ 6 ∷ 7 ∷ 8 ∷ 9 ∷ []) ∷
     -- ["a😀é", {"x": null}, null, true, "", []]: W3, texts by scalar values, maps and lists by children, 0 of the others
@@ -128,7 +128,7 @@ answers =
     answer "$[?length(@)==0]" lengths (bytes "a😀éx") (3 ∷ 4 ∷ 5 ∷ 6 ∷ []) ∷
     answer "$[?length(@.x)==0]" lengths (bytes "a😀éx") (1 ∷ 2 ∷ 3 ∷ 4 ∷ 5 ∷ 6 ∷ []) ∷
     -- `!length(@)` on [[1]]
-    planAnswer "01 03 01 00 09 05 00 02 0A 1A 18 15 0A" "" notLengthHere (table (node 6 0 0 0 1 1 ∷ node 6 1 0 0 2 1 ∷ node 3 2 0 0 1 0 ∷ [])) [] [] ∷
+    planAnswer "01 03 01 00 09 05 00 02 0A 1A 18 15 0A" "" notLengthHere (table (node 6 0 0 0 1 1 ∷ node 6 1 0 0 2 1 ∷ under 1 (node 3 2 0 0 1 0) ∷ [])) [] [] ∷
     -- ["a", "b", "ab", 1]
     answer "$[?@<'b']" (table (node 6 0 0 0 1 4 ∷ node 5 1 0 0 0 1 ∷ node 5 1 0 0 1 1 ∷ node 5 1 0 0 2 2 ∷ node 3 1 0 0 1 0 ∷ [])) (bytes "abab") (1 ∷ 3 ∷ []) ∷
     -- [1, 1.5, 2, -1.5]
@@ -144,14 +144,14 @@ answers =
     answer "$[?@<1]" (table (node 6 0 0 0 1 4 ∷ node 2 1 0 0 0 0 ∷ node 0 1 0 0 0 0 ∷ node 5 1 0 0 0 1 ∷ node 6 1 0 0 0 0 ∷ [])) (bytes "a") [] ∷
     answer "$[?@>='a']" (table (node 6 0 0 0 1 4 ∷ node 2 1 0 0 0 0 ∷ node 0 1 0 0 0 0 ∷ node 5 1 0 0 0 1 ∷ node 6 1 0 0 0 0 ∷ [])) (bytes "a") (3 ∷ []) ∷
     -- [{"x": 1}, {"x": 1, "y": 2}]
-    answer "$[?@==$[1]]" (table (node 6 0 0 0 1 2 ∷ node 7 1 0 0 3 1 ∷ node 7 1 0 0 4 2 ∷ node 3 2 0 1 1 0 ∷ node 3 2 0 1 1 0 ∷ node 3 2 1 1 2 0 ∷ [])) (bytes "xy") (2 ∷ []) ∷
+    answer "$[?@==$[1]]" (table (node 6 0 0 0 1 2 ∷ node 7 1 0 0 3 1 ∷ node 7 1 0 0 4 2 ∷ under 1 (node 3 2 0 1 1 0) ∷ under 2 (node 3 2 0 1 1 0) ∷ under 2 (node 3 2 1 1 2 0) ∷ [])) (bytes "xy") (2 ∷ []) ∷
     -- [{"x": 1}, {"y": 1}]
-    answer "$[?@==$[1]]" (table (node 6 0 0 0 1 2 ∷ node 7 1 0 0 3 1 ∷ node 7 1 0 0 4 1 ∷ node 3 2 0 1 1 0 ∷ node 3 2 1 1 1 0 ∷ [])) (bytes "xy") (2 ∷ []) ∷
+    answer "$[?@==$[1]]" (table (node 6 0 0 0 1 2 ∷ node 7 1 0 0 3 1 ∷ node 7 1 0 0 4 1 ∷ under 1 (node 3 2 0 1 1 0) ∷ under 2 (node 3 2 1 1 1 0) ∷ [])) (bytes "xy") (2 ∷ []) ∷
     -- [[1], [1, 2]]
-    answer "$[?@==$[1]]" (table (node 6 0 0 0 1 2 ∷ node 6 1 0 0 3 1 ∷ node 6 1 0 0 4 2 ∷ node 3 2 0 0 1 0 ∷ node 3 2 0 0 1 0 ∷ node 3 2 0 0 2 0 ∷ [])) [] (2 ∷ []) ∷
-    answer "$[?@==$[0]]" (table (node 6 0 0 0 1 2 ∷ node 6 1 0 0 3 1 ∷ node 6 1 0 0 4 2 ∷ node 3 2 0 0 1 0 ∷ node 3 2 0 0 1 0 ∷ node 3 2 0 0 2 0 ∷ [])) [] (1 ∷ []) ∷
+    answer "$[?@==$[1]]" (table (node 6 0 0 0 1 2 ∷ node 6 1 0 0 3 1 ∷ node 6 1 0 0 4 2 ∷ under 1 (node 3 2 0 0 1 0) ∷ under 2 (node 3 2 0 0 1 0) ∷ under 2 (node 3 2 0 0 2 0) ∷ [])) [] (2 ∷ []) ∷
+    answer "$[?@==$[0]]" (table (node 6 0 0 0 1 2 ∷ node 6 1 0 0 3 1 ∷ node 6 1 0 0 4 2 ∷ under 1 (node 3 2 0 0 1 0) ∷ under 2 (node 3 2 0 0 1 0) ∷ under 2 (node 3 2 0 0 2 0) ∷ [])) [] (1 ∷ []) ∷
     -- [[1], [2]]
-    answer "$[?@==$[1]]" (table (node 6 0 0 0 1 2 ∷ node 6 1 0 0 3 1 ∷ node 6 1 0 0 4 1 ∷ node 3 2 0 0 1 0 ∷ node 3 2 0 0 2 0 ∷ [])) [] (2 ∷ []) ∷
+    answer "$[?@==$[1]]" (table (node 6 0 0 0 1 2 ∷ node 6 1 0 0 3 1 ∷ node 6 1 0 0 4 1 ∷ under 1 (node 3 2 0 0 1 0) ∷ under 2 (node 3 2 0 0 2 0) ∷ [])) [] (2 ∷ []) ∷
     []
 
 pub answersHold : allAnswered answers ≡ true
@@ -179,11 +179,17 @@ tables =
     broken sampleTable sampleText 0 0 ∷
     -- a kind above 7
     wrong 72 8 3 ∷
-    -- bytes 2, 3, 12 and 15 set
+    -- bytes 2 and 3 set
     wrong 2 1 0 ∷
     wrong 3 1 0 ∷
+    -- another parent than the node's: a root with one, the node itself, no parent, one too many, and the highest byte set
     wrong 12 1 0 ∷
+    wrong 36 1 1 ∷
+    wrong 84 0 3 ∷
+    wrong 108 2 4 ∷
     wrong 135 1 5 ∷
+    -- [[1]] as it was written while bytes 12-15 were zero
+    broken (table (node 6 0 0 0 1 1 ∷ node 6 1 0 0 2 1 ∷ node 3 2 0 0 1 0 ∷ [])) [] 10 2 ∷
     -- a depth that is not one more than the parent's
     wrong 97 1 4 ∷
     -- a null with a payload, in its lowest and in its highest byte, and a true with that of a list

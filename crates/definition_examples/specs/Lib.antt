@@ -15,3 +15,4 @@ pub mod Classes
 pub mod Rights
 pub mod Limits
 pub mod Deep
+pub mod Paths

@@ -12,6 +12,10 @@ four n = n % 256 ∷ n / 256 % 256 ∷ n / 65536 % 256 ∷ n / 16777216 % 256 �
 abbrev pub node : ℕ → ℕ → ℕ → ℕ → ℕ → ℕ → List ℕ
 node kind depth keyAt keySize low high = kind ∷ depth ∷ 0 ∷ 0 ∷ (four keyAt ++ (four keySize ++ (four 0 ++ (four low ++ four high))))
 
+-- a record with the number of its parent in bytes 12-15, where that is not the root
+abbrev pub under : ℕ → List ℕ → List ℕ
+under p r = take 12 r ++ (four p ++ drop 16 r)
+
 -- records, end to end
 abbrev pub table : List (List ℕ) → List ℕ
 table [] = []
@@ -37,15 +41,15 @@ textB = node 5 1 1 1 2 2
 
 -- node 3, the integer 10
 abbrev pub ten : List ℕ
-ten = node 3 2 0 0 10 0
+ten = under 1 (node 3 2 0 0 10 0)
 
 -- node 4, the float 20.0
 abbrev pub twenty : List ℕ
-twenty = node 4 2 0 0 0 0x40340000
+twenty = under 1 (node 4 2 0 0 0 0x40340000)
 
 -- node 5, the integer 30
 abbrev pub thirty : List ℕ
-thirty = node 3 2 0 0 30 0
+thirty = under 1 (node 3 2 0 0 30 0)
 
 abbrev pub sampleTable : List ℕ
 sampleTable = root ++ (listA ++ (textB ++ (ten ++ (twenty ++ thirty))))

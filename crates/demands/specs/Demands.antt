@@ -6,6 +6,7 @@
 --   select         SelectsOnly s T X L at o           check_table    ChecksTableOnly T X o
 --   run            RunsOnly plan pool T X L at o      text_of_node   TextOnly T X i o, and TextBegins: which part of the text it is
 --   tally          TalliesOnly plan pool C m o        key_of_node    KeyOnly T X i o, and KeyBegins
+--   path_of_node   PathOnly T X i B o
 -- where C are the counts before and m is the number of plans.
 -- None of them requires anything, so they hold for all input. Each operation also ends on all input: the toolchain's logic is one of total correctness (its guide DESIGN,
 -- "Termination": a triple holds only of code that ends, and a loop or a cycle of calls is shown to end by a measure), so a function that is proved ends wherever its `requires` holds.
@@ -16,29 +17,33 @@ use mathlib.Core.Path.{_≡_, sym, ap, _∙_}
 use mathlib.Core.List.{List, [], _∷_}
 use mathlib.Core.Option.{Option, none}
 use lib.IntN.{ℤ}
-use lib.ListN.{length, replicate}
+use lib.ListN.{length, take, replicate}
 use Rattle.definition.specs.Limits.{maxQuery, maxPlan}
 use Rattle.definition.specs.Forms.{Query}
 use Rattle.definition.specs.Plans.{planOf, poolOf}
 use Rattle.definition.specs.Slices.{slicePlaces}
 use Rattle.definition.specs.StandardSlices.{rfcPlaces}
-use Rattle.definition.specs.Tables.{checkTable, tree}
+use Rattle.definition.specs.Tables.{nodeCount, checkTable, tree}
 use Rattle.definition.specs.Tables.Checked.{accepted, wrongAt}
 use Rattle.definition.specs.TableOutcomes.{TableOutcome, PartOutcome}
+use Rattle.definition.specs.Paths.{PathOutcome, pathOf}
 use Rattle.definition.specs.Evaluation.{selected}
 use Rattle.definition.specs.Outcomes.{Reading, Reads, Spells, CompileOutcome, Compiles, RunOutcome, Runs, Selects, ChecksPlan, runBy}
 use Rattle.definition.specs.Outcomes.Reading.{form}
 use Rattle.definition_examples.specs.Rows.{starredRows}
 use Rattle.standards.specs.Slices.{Standard, slices-standard, no-start-standard}
 use Rattle.tables.specs.Places.{begins-one}
+use Rattle.addresses.specs.Normalized.{Normalized}
+use Rattle.addresses.specs.Normalized as addresses
+use Rattle.addresses.specs.Unlike as unlike
 use Rattle.spelled.specs.One.{checks-one, runs-one}
 use Rattle.tallies.specs.Items.{kindsOf}
 use Rattle.tallies.specs.Forms.{itemsOf}
 use Rattle.tallies.specs.Tallies.{TallyOutcome, Tallies, tallyBy, withPlan, allKinds}
 use Rattle.tallies.specs.Meets.{plan-items}
 use Rattle.tallies.specs.Taken.{occurring, example, example-counts}
-use Rattle.demands.specs.Promises.{Settled, ReadsOnly, CompilesOnly, SelectsOnly, RunsOnly, ChecksPlanOnly, TalliesOnly, ChecksTableOnly, TextOnly, TextBegins, KeyOnly, KeyBegins, CompileCase, Listed, RunCase, planIn, poolIn, Written, Stored, AllServed, AllAnswer, Unchanged, Taken, Counted, planBytes}
-use Rattle.demands.specs.Refusals.{First, LeastWrong, NoText, NoKey, compileRules, selectRules, runRules, planRules, tableRules, partRules, tallyRules}
+use Rattle.demands.specs.Promises.{Settled, ReadsOnly, CompilesOnly, SelectsOnly, RunsOnly, ChecksPlanOnly, TalliesOnly, ChecksTableOnly, TextOnly, TextBegins, KeyOnly, KeyBegins, PathOnly, CompileCase, Listed, RunCase, PathCase, alone, planIn, poolIn, Written, Stored, AllServed, AllAnswer, Unchanged, Taken, Counted, planBytes}
+use Rattle.demands.specs.Refusals.{First, LeastWrong, NoText, NoKey, compileRules, selectRules, runRules, planRules, tableRules, partRules, pathRules, tallyRules}
 use Rattle.demands.specs.Firsts.{exactly}
 use Rattle.demands.specs.Checks.{wrong-why}
 use Rattle.demands.specs.Exactly.{compile-first, select-first, run-first, plan-check-first, table-check-first, text-first, key-first, tally-first}
@@ -50,6 +55,7 @@ use Rattle.demands.specs.Stored.{stored}
 use Rattle.demands.specs.Served.{servingPlan, servingPool, versions, served}
 use Rattle.demands.specs.Selected.{starred-answers}
 use Rattle.demands.specs.Series.{leaves, series}
+use Rattle.demands.specs.Paths.{path-case, path-first, case-written, path-compiles, path-runs, path-selected}
 
 -- ---- 1. Each operation has one outcome for each input. Its contract says so: two outcomes that are allowed beside the one answered coincide.
 
@@ -75,6 +81,9 @@ one-text T X i a b = a ∙ sym b
 pub one-key : (T X : List ℕ) (i : ℕ) {o o′ : PartOutcome} → KeyOnly T X i o → KeyOnly T X i o′ → o ≡ o′
 one-key T X i a b = a ∙ sym b
 
+pub one-path : (T X : List ℕ) (i : ℕ) (B : List ℕ) {o o′ : PathOutcome} → PathOnly T X i B o → PathOnly T X i B o′ → o ≡ o′
+one-path T X i B a b = a ∙ sym b
+
 -- and the part is one: its bytes are the outcome's, and it begins at one place
 pub one-text-place : (T : List ℕ) (i n : ℕ) {t p p′ : ℕ × ℕ} → TextBegins T i n t p → TextBegins T i n t p′ → p ≡ p′
 one-text-place T i n = begins-one
@@ -82,7 +91,7 @@ one-text-place T i n = begins-one
 pub one-key-place : (T : List ℕ) (i n : ℕ) {t p p′ : ℕ × ℕ} → KeyBegins T i n t p → KeyBegins T i n t p′ → p ≡ p′
 one-key-place T i n = begins-one
 
--- CompileCase and RunCase list the answers, each with its condition and with what every lent byte and place holds
+-- CompileCase, RunCase and PathCase list the answers, each with its condition and with what every lent byte and place holds
 pub compile-answers : {s P R : List ℕ} {c : CompileOutcome} → Compiles s P R c → (x : Reading) × Reads s x × CompileCase P R x c
 compile-answers = compile-cases
 
@@ -91,6 +100,9 @@ select-answers = select-cases
 
 pub run-answers : {plan pool T X L : List ℕ} {at : ℕ} {o : RunOutcome} → Runs plan pool T X L at o → (x : Reading) × Spells plan pool x × RunCase T X L at x o
 run-answers = run-cases
+
+pub path-answers : (T X : List ℕ) (i : ℕ) (B : List ℕ) {o : PathOutcome} → PathOnly T X i B o → PathCase T X i B o
+path-answers T X i B k = path-case T X i B k
 
 -- Exactly when: each operation answers n if and only if n is the first number of its order whose condition holds, or n is 0 and no condition holds.
 -- Refusals.antt has a condition for each row of document 01's table, and the orders.
@@ -114,6 +126,9 @@ text-exactly T X i k = exactly (partRules (NoText T i) T X) (text-first T X i k)
 
 pub key-exactly : (T X : List ℕ) (i : ℕ) {o : PartOutcome} → KeyOnly T X i o → (n : ℕ) → (o .number ≡ n) ↔ First (partRules (NoKey T i) T X) n
 key-exactly T X i k = exactly (partRules (NoKey T i) T X) (key-first T X i k)
+
+pub path-exactly : (T X : List ℕ) (i : ℕ) (B : List ℕ) {o : PathOutcome} → PathOnly T X i B o → (n : ℕ) → (o .refusal ≡ n) ↔ First (pathRules T X i B) n
+path-exactly T X i B k = exactly (pathRules T X i B) (path-first T X i B k)
 
 pub tally-exactly : {plan pool C : List ℕ} {m : ℕ} {o : TallyOutcome} → TalliesOnly plan pool C m o → (n : ℕ) → (o .refusal ≡ n) ↔ First (tallyRules plan pool C m) n
 tally-exactly {plan} {pool} {C} {m} k = exactly (tallyRules plan pool C m) (tally-first (k .is))
@@ -220,3 +235,28 @@ standard-slices = slices-standard
 -- a slice with no start is standard on every list
 pub startless-standard : (n : ℕ) (c : Option ℤ) → Standard n none c
 startless-standard = no-start-standard
+
+-- ---- 8. Normalized Paths (W2). `pathOf T X i` (definition/specs/Paths.antt) is the path of node i, by ranges of children and RFC 9535's words.
+
+-- what the operation writes with refusal 0 is the path of a node of an accepted table
+pub path-written : (T X : List ℕ) (i : ℕ) (B : List ℕ) {o : PathOutcome} → PathOnly T X i B o → o .refusal ≡ 0 → (checkTable T X ≡ accepted) × (i < nodeCount T) × (take (o .size) (o .room) ≡ pathOf T X i)
+path-written T X i B k z = case-written (path-case T X i B k) z
+
+-- a path of at most 4,096 bytes, compiled into rooms of 65,535 bytes and run, selects that node alone, in every list with a place from the start position on
+pub path-selects : (T X : List ℕ) → checkTable T X ≡ accepted → (i : ℕ) → i < nodeCount T → length (pathOf T X i) ≤ maxQuery
+    → {P R : List ℕ} {c : CompileOutcome} → CompilesOnly (pathOf T X i) P R c → maxPlan ≤ length P → maxPlan ≤ length R
+    → (c .refusal ≡ 0) × ((L : List ℕ) (at : ℕ) (o : RunOutcome) → at < length L → Runs (planIn c) (poolIn c) T X L at o → o ≡ alone i L at)
+path-selects T X h i l m k a b = let z = path-compiles T X h i l m k a b in (z, λ L at o p r. path-runs T X h i l m k z p r)
+
+-- and so does select of it
+pub path-select : (T X : List ℕ) → checkTable T X ≡ accepted → (i : ℕ) → i < nodeCount T → length (pathOf T X i) ≤ maxQuery
+    → {L : List ℕ} {at : ℕ} {o : RunOutcome} → at < length L → SelectsOnly (pathOf T X i) T X L at o → o ≡ alone i L at
+path-select T X h i l m p k = path-selected T X h i l m p k
+
+-- two nodes of a table never share a path, whatever its length
+pub paths-differ : (T X : List ℕ) → checkTable T X ≡ accepted → (i j : ℕ) → i < nodeCount T → j < nodeCount T → pathOf T X i ≡ pathOf T X j → i ≡ j
+paths-differ = unlike.paths-differ
+
+-- a path is a text of section 2.7's grammar that names the steps to its node, and the only one: `Normalized` (addresses/specs/Normalized.antt) has the grammar
+pub path-normalized : (T X : List ℕ) → checkTable T X ≡ accepted → (i : ℕ) → i < nodeCount T → Normalized T X i
+path-normalized = addresses.path-normalized

@@ -13,5 +13,6 @@ pub mod Stored
 pub mod Served
 pub mod Selected
 pub mod Series
+pub mod Paths
 pub mod Demands
 pub mod Refused

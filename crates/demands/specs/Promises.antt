@@ -2,7 +2,7 @@
 -- What they are made of in turn stands in the crate `definition` and, for tally, in `tallies`: the RFC's grammar and document 01's rules, with no code of ours.
 --   s             the bytes of a query                 P, R   the rooms lent to compile for the plan and for the pool, before
 --   plan, pool    the bytes of a plan and of a pool    T, X   the bytes of a table and of its text
---   L, at         the lent list before, and the start position; c, o, n: what an operation answers, with all that its lent rooms and places hold afterwards
+--   L, at         the lent list before, and the start position; B the room lent for a path, before; c, o, n: what an operation answers, with all that its lent rooms and places hold afterwards
 -- Assumes nothing: these are definitions.
 use Prim.Native.Nat.{ℕ, _+_, _-_, _≤_, _<_}
 use mathlib.Core.Path.{_≡_}
@@ -10,9 +10,10 @@ use mathlib.Core.List.{List, [], _∷_, _++_, map}
 use lib.ListN.{length, take, drop, getD, replicate}
 use Rattle.definition.specs.Forms.{Query}
 use Rattle.definition.specs.Plans.{planOf, poolOf}
-use Rattle.definition.specs.Tables.{lowWord, keyStart, checkTable, tree}
+use Rattle.definition.specs.Tables.{nodeCount, lowWord, keyStart, checkTable, tree}
 use Rattle.definition.specs.Tables.Checked.{accepted, sized, wrongAt}
 use Rattle.definition.specs.TableOutcomes.{TableOutcome, PartOutcome, tableOutcome, textOutcome, keyOutcome}
+use Rattle.definition.specs.Paths.{PathOutcome, pathOf, pathOutcome}
 use Rattle.definition.specs.Evaluation.{selected}
 use Rattle.definition.specs.Outcomes.{Reading, Reads, Translates, CompileOutcome, Compiles, RunOutcome, Runs, Selects, ChecksPlan, runBy}
 use Rattle.definition.specs.Outcomes.Reading.{refused, form}
@@ -66,6 +67,10 @@ TextOnly T X i o = o ≡ textOutcome T X i
 abbrev pub KeyOnly : List ℕ → List ℕ → ℕ → PartOutcome → Type 0
 KeyOnly T X i o = o ≡ keyOutcome T X i
 
+-- path of a node: its answer, and what the room B holds afterwards
+abbrev pub PathOnly : List ℕ → List ℕ → ℕ → List ℕ → PathOutcome → Type 0
+PathOnly T X i B o = o ≡ pathOutcome T X i B
+
 -- which part of the lent text comes with the number n: t and p are where in memory the text and the part begin, a block and a byte of it
 abbrev pub TextBegins : List ℕ → ℕ → ℕ → ℕ × ℕ → ℕ × ℕ → Type 0
 TextBegins T i n t p = Begins p t (partStart n (lowWord T i))
@@ -109,6 +114,23 @@ pub data RunCase (T X L : List ℕ) (at : ℕ) : Reading → RunOutcome → Type
   wrongNode : (q : Query) (i : ℕ) → checkTable T X ≡ wrongAt i → RunCase T X L at (form q) (record { refusal = 10; count = 0; node = i; places = L })
   -- the table is accepted: the nodes are in the list, or 14 or 13
   lists : (q : Query) {o : RunOutcome} → checkTable T X ≡ accepted → Listed (selected q (tree T X)) L at o → RunCase T X L at (form q) o
+
+-- Path of a node: the answer, and what the room B holds afterwards.
+pub data PathCase (T X : List ℕ) (i : ℕ) (B : List ℕ) : PathOutcome → Type 0 where
+  -- 9 and 10: the table is refused
+  wrongSize : checkTable T X ≡ sized → PathCase T X i B (record { refusal = 9; size = 0; node = 0; room = B })
+  wrongNode : (j : ℕ) → checkTable T X ≡ wrongAt j → PathCase T X i B (record { refusal = 10; size = 0; node = j; room = B })
+  -- 15: there is no such node
+  noNode : checkTable T X ≡ accepted → nodeCount T ≤ i → PathCase T X i B (record { refusal = 15; size = 0; node = 0; room = B })
+  -- 16: the room is too small; the answer carries the length needed, and no byte changes
+  smallRoom : checkTable T X ≡ accepted → i < nodeCount T → length B < length (pathOf T X i) → PathCase T X i B (record { refusal = 16; size = length (pathOf T X i); node = 0; room = B })
+  -- the path stands in the first bytes of the room, and no byte behind it changes
+  writes : checkTable T X ≡ accepted → i < nodeCount T → length (pathOf T X i) ≤ length B
+      → PathCase T X i B (record { refusal = 0; size = length (pathOf T X i); node = 0; room = pathOf T X i ++ drop (length (pathOf T X i)) B })
+
+-- A run or a selection that found the node i alone: it stands at the start position, and no other place changes.
+abbrev pub alone : ℕ → List ℕ → ℕ → RunOutcome
+alone i L at = record { refusal = 0; count = 1; node = 0; places = take at L ++ (i ∷ []) ++ drop (at + 1) L }
 
 -- ---- what compile writes
 

@@ -1,6 +1,6 @@
--- When each operation refuses: a condition for each row of document 01's "Refusal numbers" and for refusal 21, and each operation's order. The letters are those of Promises.antt.
+-- When each operation refuses: a condition for each row of document 01's "Refusal numbers" and for refusals 16 and 21, and each operation's order. The letters are those of Promises.antt.
 -- Assumes nothing: these are definitions.
-use Prim.Native.Nat.{ℕ, _+_, _%_, _<_}
+use Prim.Native.Nat.{ℕ, _+_, _%_, _≤_, _<_}
 use mathlib.Core.Path.{_≡_}
 use mathlib.Core.Logic.{_⊎_}
 use mathlib.Core.List.{List, [], _∷_, _++_}
@@ -17,6 +17,7 @@ use Rattle.definition.specs.Walk.Walked.{walked}
 use Rattle.definition.specs.Plans.{planOf, poolOf}
 use Rattle.definition.specs.Tables.{nodeCount, nodeRight, tree}
 use Rattle.definition.specs.TableOutcomes.{hasText, hasKey}
+use Rattle.definition.specs.Paths.{pathOf}
 use Rattle.definition.specs.Evaluation.{selected}
 use Rattle.definition.specs.Outcomes.{Reads, Translates}
 use Rattle.definition.specs.Outcomes.Reading.{form}
@@ -102,6 +103,14 @@ NoText T i = hasText T i ≡ false
 abbrev pub NoKey : List ℕ → ℕ → Type 0
 NoKey T i = hasKey T i ≡ false
 
+-- 15 for a path, which every node of an accepted table has
+abbrev pub NoNode : List ℕ → ℕ → Type 0
+NoNode T i = nodeCount T ≤ i
+
+-- 16: "path room too small"
+abbrev pub PathTooLong : List ℕ → List ℕ → ℕ → List ℕ → Type 0
+PathTooLong T X i B = length B < length (pathOf T X i)
+
 -- 21: "a count would pass 2^53-1": the number of plans, or the count of some kind
 abbrev pub CountPasses : List ℕ → List ℕ → ℕ → Type 0
 CountPasses plan C m = (maxInt < m + 1) ⊎ ((k : ℕ) × (k < allKinds) × (maxInt < getD C k 0 + occurrences k (kindsOf plan)))
@@ -156,6 +165,10 @@ runRules plan pool T X L at = planRules plan pool ++ listRules (λ q. Translates
 -- "Text and key of a node: 9, 10, 15", where W says that the node has none
 abbrev pub partRules : Type 0 → List ℕ → List ℕ → List Rule
 partRules W T X = tableRules T X ++ rule 15 W ∷ []
+
+-- path of a node: 9, 10, 15, 16
+abbrev pub pathRules : List ℕ → List ℕ → ℕ → List ℕ → List Rule
+pathRules T X i B = tableRules T X ++ rule 15 (NoNode T i) ∷ rule 16 (PathTooLong T X i B) ∷ []
 
 -- tally: 11, 21
 abbrev pub tallyRules : List ℕ → List ℕ → List ℕ → ℕ → List Rule

@@ -46,9 +46,11 @@ use Rattle.definition.specs.Outcomes.{Reads, Translates, CompileOutcome, RunOut
 use Rattle.definition.specs.Outcomes.Reading.{refused, form}
 use Rattle.definition.specs.Outcomes.Reads.{tooEarly, noTree, hasTree}
 use Rattle.definition.specs.TableOutcomes.{TableOutcome, PartOutcome}
+use Rattle.definition.specs.Paths.{PathOutcome}
 use Rattle.definition_examples.specs.Computes.{computes}
+use Rattle.definition_examples.specs.Paths.{walked}
 use Rattle.tallies.specs.Tallies.{TallyOutcome}
-use Rattle.demands.specs.Promises.{CompilesOnly, RunsOnly, ChecksPlanOnly, ChecksTableOnly, TextOnly, KeyOnly, TalliesOnly}
+use Rattle.demands.specs.Promises.{CompilesOnly, RunsOnly, ChecksPlanOnly, ChecksTableOnly, TextOnly, KeyOnly, PathOnly, TalliesOnly}
 use Rattle.demands.specs.Refusals.{NotTranslated}
 use Rattle.demands.specs.Rooms.{noBlank as o}
 use Rattle.demands.specs.Running.{runs-as}
@@ -223,6 +225,11 @@ textless o k = ap (λ (o : PartOutcome). o .number) k
 pub keyless : (o : PartOutcome) → KeyOnly nullTable [] 0 o → o .number ≡ 15
 unfolding computes
 keyless o k = ap (λ (o : PartOutcome). o .number) k
+
+-- 16: the root's path has one byte
+pub pathless : (o : PathOutcome) → PathOnly nullTable [] 0 [] o → o .refusal ≡ 16
+unfolding walked
+pathless o k = ap (λ (o : PathOutcome). o .refusal) k
 
 -- 21: the number of plans is 2^53-1 already
 pub full : (C : List ℕ) (o : TallyOutcome) → TalliesOnly rootPlan [] C maxInt o → o .refusal ≡ 21

@@ -9,7 +9,10 @@ use Rattle.definition.specs.Bytes.{part}
 use Rattle.definition.specs.Tables.{Checked}
 use Rattle.definition.specs.Tables.Checked.{accepted, sized, wrongAt}
 use Rattle.definition.specs.TableOutcomes.{PartOutcome, partBy, foundPart, refusedPart}
+use Rattle.definition.specs.Paths.{PathOutcome}
 use Rattle.demands.specs.Promises.{Settled, ChecksPlanOnly}
+use Rattle.address.specs.declared.PathWritten.{PathWritten}
+use Rattle.address.specs.Outcomes.{told}
 use Rattle.plan.specs.Checks.{refusal}
 use Rattle.run.specs.declared.Ran.{Ran}
 use Rattle.run.specs.Outcomes.{ran}
@@ -73,3 +76,8 @@ settled-as {F = F} a e = subst (Settled F) (sym e) a
 -- what a selection comes to, from the case that it is
 pub selects-told : {r r' : Selection} → r ≡ r' → (L : List ℕ) → selected r' L ≡ selected r L
 selects-told e L = ap (λ (x : Selection). selected x L) (sym e)
+
+-- ---- path of a node
+
+pub path-told : {r r' : PathWritten} (B : List ℕ) {o : PathOutcome} → r ≡ r' → told r B ≡ o → told r' B ≡ o
+path-told B e h = ap (λ (x : PathWritten). told x B) (sym e) ∙ h

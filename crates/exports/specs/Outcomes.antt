@@ -5,6 +5,7 @@ use mathlib.Core.Bool.{cond}
 use mathlib.Core.List.{List}
 use lib.Dec.{eqb}
 use Rattle.definition.specs.TableOutcomes.{TableOutcome}
+use Rattle.definition.specs.Paths.{PathOutcome}
 use Rattle.definition.specs.Outcomes.{CompileOutcome, RunOutcome}
 use Rattle.run.specs.declared.Ran.{Ran}
 use Rattle.run.specs.Outcomes.{ran}
@@ -16,6 +17,9 @@ told n i = record { refusal = n; node = i }
 pub record Placed (refusal at n start len : ℕ) : Type 0 where
   pub starts : start ≡ cond (eqb refusal 0) at 0
   pub long : len ≡ cond (eqb refusal 0) n 0
+
+abbrev pub addressed : ℕ → ℕ → ℕ → List ℕ → PathOutcome
+addressed n l i B = record { refusal = n; size = l; node = i; room = B }
 
 abbrev pub compiled : ℕ → ℕ → ℕ → List ℕ → List ℕ → CompileOutcome
 compiled n p l P L = record { refusal = n; planLength = p; poolLength = l; planRoom = P; poolRoom = L }

@@ -1,11 +1,12 @@
 // The operations as functions that a C or Rust engine links: plain numbers and slices, each thin over the operation of `promises`, with its statement carried over.
 // include/stewpebble.h declares them for C.
-ghost use Rattle.demands.specs.Promises.{CompilesOnly, SelectsOnly, RunsOnly, ChecksPlanOnly, ChecksTableOnly, TextOnly, KeyOnly, TalliesOnly};
+ghost use Rattle.demands.specs.Promises.{CompilesOnly, SelectsOnly, RunsOnly, ChecksPlanOnly, ChecksTableOnly, TextOnly, KeyOnly, PathOnly, TalliesOnly};
 ghost use Rattle.table.specs.Outcomes.{answered};
 ghost use Rattle.tally.specs.Counts.{tallied};
 ghost use Rattle.definition.specs.Bytes.{part};
 ghost use Rattle.definition.specs.Tables.{lowWord, highWord, keyStart, keyLength};
-ghost use Rattle.exports.specs.Outcomes.{told, Placed, compiled, ranTo, Tells};
+ghost use Rattle.exports.specs.Outcomes.{told, Placed, addressed, compiled, ranTo, Tells};
+use address::PathWritten;
 use run::Ran;
 use select::Selection;
 use table::TableChecked;
@@ -78,6 +79,39 @@ pub extern "C" fn stewpebble_key_of_node(
     *start = records::key_start(table, node) as u64;
     *length = records::key_length(table, node) as u64;
     0
+}
+
+// Path of a node: the refusal, 0 for none; the path's length is set, also where refusal 16 names it, and 0 otherwise; the node of refusal 10 is set, and 0 otherwise.
+#[no_mangle]
+pub extern "C" fn stewpebble_path_of_node(
+    table: &[u8],
+    text: &[u8],
+    node: usize,
+    room: &mut [u8],
+    length: &mut u64,
+    wrong: &mut u64,
+) -> u32
+    ensures { λ r. ⌜ PathOnly (now (table .entry)) (now (text .entry)) node (now (room .entry)) (addressed r (now (length .exit)) (now (wrong .exit)) (now (room .exit))) ⌝ }
+{
+    let answer = promises::path_of_node(table, text, node, room);
+    *length = 0;
+    *wrong = 0;
+    match answer {
+        PathWritten::Written(n) => {
+            *length = n as u64;
+            0
+        }
+        PathWritten::WrongSize => 9,
+        PathWritten::WrongNode(i) => {
+            *wrong = i as u64;
+            10
+        }
+        PathWritten::NoNode => 15,
+        PathWritten::SmallRoom(n) => {
+            *length = n as u64;
+            16
+        }
+    }
 }
 
 // Compile: the refusal, 0 for none; the lengths of plan and pool are set, also where refusal 12 names them, and 0 otherwise.

@@ -1,5 +1,6 @@
 // The words of a call, read one after the other. Each word has a room of its own here, and what it holds goes on to the next word's function.
 use crate::list_calls;
+use crate::path_calls;
 use crate::plan_calls;
 use crate::table_calls;
 use crate::tally_calls;
@@ -18,6 +19,7 @@ pub enum Call {
     Table,
     Text,
     Key,
+    Path,
     Compile,
     Plan,
     Run,
@@ -39,6 +41,7 @@ pub fn start(line: &[u8], from: usize, call: Call) {
         Call::Table => with_table(line, from, b"", b"", call),
         Call::Text => with_table(line, from, b"", b"", call),
         Call::Key => with_table(line, from, b"", b"", call),
+        Call::Path => with_table(line, from, b"", b"", call),
         Call::Compile => with_query(line, from, call),
         Call::Plan => with_plan(line, from, call),
         Call::Run => with_plan(line, from, call),
@@ -139,6 +142,7 @@ fn finish<'a>(
         Call::Table => table_calls::check(table, text),
         Call::Text => table_calls::node(line, from, table, text, false),
         Call::Key => table_calls::node(line, from, table, text, true),
+        Call::Path => path_calls::answer(line, from, table, text),
         Call::Run => list_calls::answer(line, from, query, pool, table, text, false),
         Call::Select => list_calls::answer(line, from, query, pool, table, text, true),
         Call::Compile => bad_line(),

@@ -4,14 +4,15 @@
 //     table TABLE TEXT                         ok | refused 9 | refused 10 NODE
 //     text TABLE TEXT NODE                     ok PART | refused N
 //     key TABLE TEXT NODE                      ok PART | refused N
+//     path TABLE TEXT NODE ROOM                ok PATH | refused N NUMBER
 //     compile QUERY ROOM ROOM                  ok PLAN POOL | refused N LENGTH LENGTH
 //     plan PLAN POOL                           ok | refused 11
 //     run PLAN POOL TABLE TEXT LENGTH START    ok COUNT PLACES | refused N NODE PLACES
 //     select QUERY TABLE TEXT LENGTH START     ok COUNT PLACES | refused N NODE PLACES
 //     take COUNTS PLANS PLAN POOL              ok COUNTS PLANS | refused N
 //
-// The rooms of compile are the sizes that are lent for the plan and for the pool, at most 65,536 each. Behind its answer stands ` changed` if a lent byte
-// changed that is to keep its value. LENGTH is the length of the list that is lent to run and select, at most 65,535, and START any number. The places
+// The rooms of compile are the sizes that are lent for the plan and for the pool, at most 65,536 each, and so is the room of path. Behind an answer of either
+// stands ` changed` if a lent byte changed that is to keep its value. The number of a refused path is the length that is needed or the wrong node, or 0. LENGTH is the length of the list that is lent to run and select, at most 65,535, and START any number. The places
 // of the list are written from the first to the last that the call wrote, with a dot for one that it did not write. Numbers that a refusal's row does not
 // name are 0. COUNTS are 256 numbers of eight bytes, little-endian, and PLANS is how many plans were taken.
 //
@@ -19,11 +20,13 @@
 //
 //     calls         the words of a line, read one after the other
 //     list_calls    run and select
+//     path_calls    path
 //     plan_calls    compile and plan
 //     table_calls   table, text and key
 //     tally_calls   take
 mod calls;
 mod list_calls;
+mod path_calls;
 mod plan_calls;
 mod table_calls;
 mod tally_calls;
@@ -46,7 +49,7 @@ fn call(line: &[u8], from: usize, call: Call, many: usize) {
     calls::start(line, from, call);
 }
 
-// Answers a line whose first word is none of table, text and key.
+// Answers a line whose first word is none of table, text, key and path.
 fn answer_more(line: &[u8], name: &[u8], from: usize) {
     if parts::same_bytes(name, b"compile") {
         call(line, from, Call::Compile, 4);
@@ -86,6 +89,10 @@ fn answer(line: &[u8]) {
     }
     if parts::same_bytes(name, b"key") {
         call(line, from, Call::Key, 4);
+        return;
+    }
+    if parts::same_bytes(name, b"path") {
+        call(line, from, Call::Path, 5);
         return;
     }
     answer_more(line, name, from);

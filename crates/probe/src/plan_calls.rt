@@ -6,8 +6,8 @@ use lines::words::NumberWord;
 ghost use mathlib.Core.Path.{_≡_};
 ghost use lib.ListN.{length};
 
-// The most that is lent for a plan or for a pool.
-const ROOM: usize = 65536;
+// The most that is lent for a plan, for a pool or for a path.
+pub const ROOM: usize = 65536;
 // What every lent byte holds before the call.
 const FILL: u8 = 0xa5;
 
@@ -34,7 +34,7 @@ pub fn answer(line: &[u8], from: usize, query: &[u8]) {
 }
 
 // A room whose bytes are known.
-fn filled() -> [u8; 65536]
+pub fn filled() -> [u8; 65536]
     ensures { λ r. ⌜ 65536 ≡ length r ⌝ }
 {
     [FILL; ROOM]
@@ -76,7 +76,7 @@ fn show(query: &[u8], plan: &mut [u8], pool: &mut [u8]) {
 }
 
 // Whether every byte of a room from a place on holds what it held before the call.
-fn kept(room: &[u8], from: usize) -> bool {
+pub fn kept(room: &[u8], from: usize) -> bool {
     let mut i = from;
     while i < room.len() {
         if room[i] != FILL {

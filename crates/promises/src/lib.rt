@@ -1,13 +1,15 @@
 // The public operations, each with the very statement that is promised of it: `demands` has the types (Promises.antt) and what follows from them (Demands.antt).
 // Each is thin over the operation of its name below, requires nothing, and leaves one outcome for each input. A contract below that said less would not prove this crate.
-ghost use Rattle.demands.specs.Promises.{CompilesOnly, SelectsOnly, RunsOnly, ChecksPlanOnly, ChecksTableOnly, TextOnly, TextBegins, KeyOnly, KeyBegins, TalliesOnly};
+ghost use Rattle.demands.specs.Promises.{CompilesOnly, SelectsOnly, RunsOnly, ChecksPlanOnly, ChecksTableOnly, TextOnly, TextBegins, KeyOnly, KeyBegins, PathOnly, TalliesOnly};
 ghost use Rattle.compile.specs.Steps.{outcome};
 ghost use Rattle.select.specs.Selections.{selected};
 ghost use Rattle.run.specs.Outcomes.{ran};
 ghost use Rattle.plan.specs.Checks.{refusal};
 ghost use Rattle.table.specs.Outcomes.{reported, answered};
+ghost use Rattle.address.specs.Outcomes.{told};
 ghost use denote.Ref.{ptr};
 ghost use Rattle.tally.specs.Counts.{tallied};
+use address::PathWritten;
 use compile::Compiled;
 use run::Ran;
 use select::Selection;
@@ -76,6 +78,13 @@ pub fn key_of_node<'a>(table: &[u8], text: &'a [u8], node: usize, number: &mut u
     ensures place { λ r. ⌜ KeyBegins (now (table .entry)) node (now (number .exit)) (ptr (text .entry)) (ptr r) ⌝ }
 {
     table::key_of_node(table, text, node, number)
+}
+
+// The Normalized Path of a node, in the first bytes of the lent room, or a refusal: 9, 10, 15 or 16, and then the room is as it was.
+pub fn path_of_node(table: &[u8], text: &[u8], node: usize, room: &mut [u8]) -> PathWritten
+    ensures { λ r. ⌜ PathOnly (now (table .entry)) (now (text .entry)) node (now (room .entry)) (told r (now (room .exit))) ⌝ }
+{
+    address::path_of_node(table, text, node, room)
 }
 
 // Takes a plan with its pool into the counts of kinds and the number of plans: 0, or refusal 11 or 21, and then nothing is counted.

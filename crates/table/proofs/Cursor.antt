@@ -112,13 +112,6 @@ module _ (T X : List ℕ) where
   pub right-next : (i : ℕ) → RightBelow T X i → nodeRight T X i ≡ true → RightBelow T X (i + 1)
   right-next i r h k l = right-more T X i r h k (omega arith)
 
--- a cursor before node 1 is one before every later node
-pub cursor-later : (T : List ℕ) (i : ℕ) {q : Cursor} → 0 < i → CursorAt T 1 q → CursorAt T i q
-cursor-later T i l h =
-    let u = h .earlier in
-    let v = h .from-le in
-    record { earlier = omega arith; from-is = h .from-is; from-le = omega arith; end-is = h .end-is }
-
 -- the cursor at the root, before node 1
 pub root-cursor : (T : List ℕ) (c : ℕ) → c ≡ childCount T 0 → CursorAt T 1 (record { parent = 0; from = 1; end = 1 + c })
 root-cursor T c z =

@@ -1,17 +1,14 @@
 // The text and the key of a node: whether there is one, the refusal where there is none, and the part of the text that holds it.
 ghost use mathlib.Core.Path.{_≡_};
-ghost use mathlib.Core.Option.{some};
 ghost use Prim.Native.Nat.{_<_, _≤_, _+_};
 ghost use lib.ListN.{length};
-ghost use Rattle.definition.specs.Tables.{nodeCount, keyStart, keyLength, lowWord, highWord, keyBytes, textBytesAt, parentOf};
+ghost use Rattle.definition.specs.Tables.{nodeCount, keyStart, keyLength, lowWord, highWord, keyBytes, textBytesAt};
 ghost use Rattle.definition.specs.TableOutcomes.{hasText, hasKey, textOutcome, keyOutcome};
-ghost use Rattle.tables.specs.Accepted.{Rooted};
+ghost use Rattle.tables.specs.Accepted.{Parented};
 ghost use Rattle.tables.specs.Places.{Begins};
 ghost use denote.Ref.{ptr};
 use crate::TableChecked;
 use crate::records;
-use crate::scan;
-use crate::scan::Cursor;
 
 const RECORD: usize = 24;
 
@@ -37,27 +34,9 @@ fn has_text(table: &[u8], node: usize) -> bool
     records::kind(table, node) == KIND_TEXT
 }
 
-// The parent of a node behind the root.
-pub fn parent(table: &[u8], node: usize) -> usize
-    requires { ⌜ Rooted (now table) × (0 < node) × (node < nodeCount (now table)) ⌝ }
-    ensures { λ r. ⌜ parentOf (now (table .entry)) node ≡ some r ⌝ }
-{
-    let end = 1 + records::child_count(table, 0) as usize;
-    let found = scan::to_parent(
-        table,
-        node,
-        Cursor {
-            parent: 0,
-            from: 1,
-            end,
-        },
-    );
-    found.parent
-}
-
 // Whether a number is that of a member of a map.
 fn has_key(table: &[u8], node: usize) -> bool
-    requires { ⌜ Rooted (now table) ⌝ }
+    requires { ⌜ Parented (now table) ⌝ }
     ensures { λ r. ⌜ r ≡ hasKey (now (table .entry)) node ⌝ }
 {
     if table.len() / RECORD <= node {
@@ -66,7 +45,7 @@ fn has_key(table: &[u8], node: usize) -> bool
     if node == 0 {
         return false;
     }
-    let above = parent(table, node);
+    let above = records::parent(table, node) as usize;
     records::kind(table, above) == KIND_MAP
 }
 

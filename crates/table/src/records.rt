@@ -1,7 +1,7 @@
 // The fields of a record of 24 bytes. Each function asks that the node is one of the table.
 ghost use mathlib.Core.Path.{_≡_};
 ghost use Prim.Native.Nat.{_<_};
-ghost use Rattle.definition.specs.Tables.{nodeCount, field, kindAt, depthAt, keyStart, keyLength, payload as payloadAt, lowWord, highWord, childCount};
+ghost use Rattle.definition.specs.Tables.{nodeCount, field, kindAt, depthAt, keyStart, keyLength, parentAt, payload as payloadAt, lowWord, highWord, childCount};
 use text::bytes;
 
 const RECORD: usize = 24;
@@ -34,14 +34,6 @@ pub fn zeros_2(table: &[u8], node: usize) -> u16
     bytes::word16(table, RECORD * node + 2) as u16
 }
 
-// Bytes 12-15, which are to be zero.
-pub fn zeros_12(table: &[u8], node: usize) -> u32
-    requires { ⌜ node < nodeCount (now table) ⌝ }
-    ensures { λ r. ⌜ r ≡ field (now (table .entry)) node 12 4 ⌝ }
-{
-    bytes::word32(table, RECORD * node + 12) as u32
-}
-
 // Bytes 4-7: where the key starts.
 pub fn key_start(table: &[u8], node: usize) -> u32
     requires { ⌜ node < nodeCount (now table) ⌝ }
@@ -56,6 +48,14 @@ pub fn key_length(table: &[u8], node: usize) -> u32
     ensures { λ r. ⌜ r ≡ keyLength (now (table .entry)) node ⌝ }
 {
     bytes::word32(table, RECORD * node + 8) as u32
+}
+
+// Bytes 12-15: the parent's node number.
+pub fn parent(table: &[u8], node: usize) -> u32
+    requires { ⌜ node < nodeCount (now table) ⌝ }
+    ensures { λ r. ⌜ r ≡ parentAt (now (table .entry)) node ⌝ }
+{
+    bytes::word32(table, RECORD * node + 12) as u32
 }
 
 // Bytes 16-23 as one number.

@@ -64,9 +64,6 @@ pub fn head_right(table: &[u8], node: usize) -> bool
     if records::zeros_2(table, node) != 0 {
         return false;
     }
-    if records::zeros_12(table, node) != 0 {
-        return false;
-    }
     true
 }
 
@@ -169,7 +166,7 @@ fn member_right(
     keys::joins_chain(table, text, node, from, heads, links)
 }
 
-// What a parent asks of its child: the depth, and the key as the parent's kind has it. The parent's first child is from.
+// What a parent asks of its child: its number, the depth, and the key as the parent's kind has it. The parent's first child is from.
 pub fn place_right(
     table: &[u8],
     text: &[u8],
@@ -187,6 +184,10 @@ pub fn place_right(
     ensures { λ r. ⌜ r ≡ placeRight (now (table .entry)) (now (text .entry)) node (some parent) ⌝ }
     ensures { λ r. ⌜ (r ≡ true → Kept (now (table .entry)) (now (text .entry)) (node + 1) parent from (now (heads .exit)) (now (links .exit))) ⌝ }
 {
+    let named = records::parent(table, node) as usize;
+    if named != parent {
+        return false;
+    }
     let deep = records::depth(table, node) as usize;
     let above = records::depth(table, parent) as usize;
     if deep != above + 1 {
@@ -207,6 +208,9 @@ pub fn root_right(table: &[u8], text: &[u8]) -> bool
         return false;
     }
     if !payload_right(table, text, 0, 1, false) {
+        return false;
+    }
+    if records::parent(table, 0) != 0 {
         return false;
     }
     if records::depth(table, 0) != 0 {

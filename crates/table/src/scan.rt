@@ -33,7 +33,7 @@ pub enum NodeChecked {
 }
 
 // Moves a cursor forward to the parent of a node that has one.
-pub fn to_parent(table: &[u8], node: usize, cursor: Cursor) -> Cursor
+fn to_parent(table: &[u8], node: usize, cursor: Cursor) -> Cursor
     requires { ⌜ HasParent (now table) node × CursorAt (now table) node cursor ⌝ }
     ensures { λ r. ⌜ ParentAt (now (table .entry)) node r ⌝ }
 {

@@ -3,23 +3,24 @@ use Prim.Native.Nat.{ℕ, zero, suc, _+_, _-_, _≤_, _<_}
 use mathlib.Core.Path.{_≡_, refl, sym, ap, _∙_, subst}
 use mathlib.Core.List.{List}
 use mathlib.Core.Bool.{Bool, true, false, not, _&&_}
+use mathlib.Core.Option.{some}
 use lib.Dec.{eqb, leb, ltb}
 use lib.ListN.{length}
 use native.Mathlib.Omega.{arith}
 use borrow.Author.Tests.{ltb-true, ltb-false, eqb-true, eqb-false, not-true}
 use Rattle.definition.specs.Limits.{maxDepth, maxMembers}
 use Rattle.definition.specs.Bytes.{sameBytes}
-use Rattle.definition.specs.Tables.{nodeCount, kindAt, depthAt, keyStart, keyLength, payload, lowWord, highWord, kindFloat, kindText, kindList, kindMap, childCount, countsBefore, firstChild, keyBytes, goodPart, isFinite, rangeRight, payloadRight, noKey, keyDiffers, memberRight, placeRight, standsRight, nodeRight, checkTable}
+use Rattle.definition.specs.Tables.{nodeCount, kindAt, depthAt, parentAt, keyStart, keyLength, payload, lowWord, highWord, kindFloat, kindText, kindList, kindMap, childCount, countsBefore, firstChild, keyBytes, goodPart, parentOf, isFinite, rangeRight, payloadRight, noKey, keyDiffers, memberRight, placeRight, standsRight, nodeRight, checkTable}
 use Rattle.definition.specs.Tables.Checked.{accepted}
 use Rattle.tables.specs.Bools.{and-left, and-right}
 use Rattle.tables.specs.Counts.{counts-next}
-use Rattle.tables.specs.Parents.{InRange}
+use Rattle.tables.specs.Parents.{InRange, parent-is, parent-some}
 use Rattle.tables.specs.Least.{RightBelow, accepted-right}
 use Rattle.tables.specs.Sizes.{RightSize, right-size}
-use Rattle.tables.specs.Rights.{kind-small, depth-small, range-first, count-list, count-map, count-other, payload-float, payload-text, list-range, map-range, map-members, right-head, right-payload, right-place, stands-under, place-deeper, place-key, member-part, member-differs, root-depth-zero, right-reached, children-later, first-inside}
+use Rattle.tables.specs.Rights.{kind-small, depth-small, range-first, count-list, count-map, count-other, payload-float, payload-text, list-range, map-range, map-members, right-head, right-payload, right-place, stands-under, place-deeper, place-number, place-key, member-part, member-differs, root-depth-zero, right-reached, children-later, first-inside}
 
 -- The size is right, and of each node i: the kind and the depth are in range; the children stand behind i and inside the table, where the record says,
--- one deeper than i; a text is a good part of the text, a float finite; the keys of a map's members are good parts and pairwise different.
+-- one deeper than i and with its number; a text is a good part of the text, a float finite; the keys of a map's members are good parts and pairwise different.
 pub record Accepted (T X : List ℕ) : Type 0 where
   pub size : RightSize T X
   pub kinds : (i : ℕ) → i < nodeCount T → kindAt T i ≤ kindMap
@@ -29,6 +30,7 @@ pub record Accepted (T X : List ℕ) : Type 0 where
   pub inside : (i : ℕ) → i < nodeCount T → firstChild T i + childCount T i ≤ nodeCount T
   pub first : (i : ℕ) → i < nodeCount T → 0 < childCount T i → lowWord T i ≡ firstChild T i
   pub deeper : (i : ℕ) → i < nodeCount T → (k : ℕ) → k < childCount T i → depthAt T (firstChild T i + k) ≡ depthAt T i + 1
+  pub parents : (i : ℕ) → i < nodeCount T → (k : ℕ) → k < childCount T i → parentAt T (firstChild T i + k) ≡ i
   pub floats : (i : ℕ) → i < nodeCount T → kindAt T i ≡ kindFloat → isFinite (payload T i) ≡ true
   pub texts : (i : ℕ) → i < nodeCount T → kindAt T i ≡ kindText → goodPart X (lowWord T i) (highWord T i) ≡ true
   pub members : (i : ℕ) → i < nodeCount T → kindAt T i ≡ kindMap → childCount T i ≤ maxMembers
@@ -101,6 +103,7 @@ module _ (T X : List ℕ) where
           inside = inside-of;
           first = first-of;
           deeper = λ i l k m. place-deeper T X (firstChild T i + k) i (place-of i l k m);
+          parents = λ i l k m. place-number T X (firstChild T i + k) i (place-of i l k m);
           floats = λ i l m. sym (payload-float T X i m) ∙ right-payload T X i (r i l);
           texts = λ i l m. sym (payload-text T X i m) ∙ right-payload T X i (r i l);
           members = members-of;
@@ -112,11 +115,24 @@ module _ (T X : List ℕ) where
   pub accepted-gives : checkTable T X ≡ accepted → Accepted T X
   accepted-gives h = let w = accepted-right T X h in right-all (right-size T X (w .0)) (w .1)
 
--- a table in which every node behind the root has a parent, and no range of children passes the end
-pub record Rooted (T : List ℕ) : Type 0 where
-  pub some-node : 0 < nodeCount T
-  pub later : (i : ℕ) → i < nodeCount T → i < firstChild T i
-  pub inside : (i : ℕ) → i < nodeCount T → firstChild T i + childCount T i ≤ nodeCount T
+-- a table in which the record of every node behind the root names the node's parent
+pub record Parented (T : List ℕ) : Type 0 where
+  pub parent : (i : ℕ) → 0 < i → i < nodeCount T → parentOf T i ≡ some (parentAt T i)
 
-pub accepted-rooted : (T X : List ℕ) → Accepted T X → Rooted T
-accepted-rooted T X a = record { some-node = a .size .some-node; later = a .later; inside = a .inside }
+-- in an accepted table the parent of a node is the one that bytes 12-15 of its record name
+pub parent-written : (T X : List ℕ) → Accepted T X → (i : ℕ) → 0 < i → i < nodeCount T → parentOf T i ≡ some (parentAt T i)
+parent-written T X a i z l =
+    let w = a .later i l in
+    let q = parent-some T i z (omega arith) in
+    let p : ℕ = q .0 in
+    let below = q .1 in
+    let g = q .2 in
+    let u = g .above in
+    let v = g .within in
+    let c = counts-next T p in
+    let is : firstChild T p + (i - firstChild T p) ≡ i = omega arith in
+    let n : parentAt T i ≡ p = subst (λ (x : ℕ). parentAt T x ≡ p) is (a .parents p (omega arith) (i - firstChild T p) (omega arith)) in
+    parent-is T p i (q .1) g ∙ ap some (sym n)
+
+pub accepted-parented : (T X : List ℕ) → Accepted T X → Parented T
+accepted-parented T X a = record { parent = parent-written T X a }

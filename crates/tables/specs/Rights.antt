@@ -11,7 +11,7 @@ use borrow.Author.Tests.{leb-true, ltb-true, ltb-false, eqb-true, eqb-false, le-
 use Rattle.definition.specs.Limits.{maxDepth, maxMembers}
 use Rattle.definition.specs.Bytes.{part}
 use Rattle.definition.specs.Utf8.{isUtf8}
-use Rattle.definition.specs.Tables.{nodeCount, field, kindAt, depthAt, keyStart, keyLength, payload, lowWord, highWord, kindFloat, kindText, kindList, kindMap, isContainer, childCount, countsBefore, firstChild, goodPart, parentOf, headRight, isFinite, rangeRight, payloadRight, noKey, keyDiffers, memberRight, placeRight, standsRight, nodeRight}
+use Rattle.definition.specs.Tables.{nodeCount, field, kindAt, depthAt, parentAt, keyStart, keyLength, payload, lowWord, highWord, kindFloat, kindText, kindList, kindMap, isContainer, childCount, countsBefore, firstChild, goodPart, parentOf, headRight, isFinite, rangeRight, payloadRight, noKey, keyDiffers, memberRight, placeRight, standsRight, nodeRight}
 use Rattle.tables.specs.Bools.{and-left, and-right, and-both, and-not-left, and-not-right, both-answers}
 use Rattle.tables.specs.Counts.{counts-root, counts-next}
 use Rattle.tables.specs.Parents.{InRange, parent-is, parent-none}
@@ -44,9 +44,9 @@ module _ (T : List ℕ) (i : ℕ) where
   depthTest = leb (depthAt T i) maxDepth
 
   zeroTests : Bool
-  zeroTests = eqb (field T i 2 2) 0 && eqb (field T i 12 4) 0
+  zeroTests = eqb (field T i 2 2) 0
 
-  -- a record's head is wrong by its kind, by its depth, by bytes 2-3 or by bytes 12-15
+  -- a record's head is wrong by its kind, by its depth or by bytes 2-3
   pub head-kind : kindMap < kindAt T i → headRight T i ≡ false
   unfolding headRight kindTest depthTest zeroTests
   head-kind h = and-not-left kindTest (depthTest && zeroTests) (lt-leb (kindAt T i) kindMap h)
@@ -57,15 +57,11 @@ module _ (T : List ℕ) (i : ℕ) where
 
   pub head-low : (field T i 2 2 ≡ 0 → ⊥) → headRight T i ≡ false
   unfolding headRight kindTest depthTest zeroTests
-  head-low h = and-not-right kindTest (depthTest && zeroTests) (and-not-right depthTest zeroTests (and-not-left (eqb (field T i 2 2) 0) (eqb (field T i 12 4) 0) (ne-eqb (field T i 2 2) 0 h)))
+  head-low h = and-not-right kindTest (depthTest && zeroTests) (and-not-right depthTest zeroTests (ne-eqb (field T i 2 2) 0 h))
 
-  pub head-high : (field T i 12 4 ≡ 0 → ⊥) → headRight T i ≡ false
-  unfolding headRight kindTest depthTest zeroTests
-  head-high h = and-not-right kindTest (depthTest && zeroTests) (and-not-right depthTest zeroTests (and-not-right (eqb (field T i 2 2) 0) (eqb (field T i 12 4) 0) (ne-eqb (field T i 12 4) 0 h)))
-
-  pub head-all : kindAt T i ≤ kindMap → depthAt T i ≤ maxDepth → field T i 2 2 ≡ 0 → field T i 12 4 ≡ 0 → headRight T i ≡ true
+  pub head-all : kindAt T i ≤ kindMap → depthAt T i ≤ maxDepth → field T i 2 2 ≡ 0 → headRight T i ≡ true
   unfolding headRight
-  head-all a b d e = rw (le-leb (kindAt T i) kindMap a, le-leb (depthAt T i) maxDepth b, eq-eqb (field T i 2 2) 0 d, eq-eqb (field T i 12 4) 0 e)
+  head-all a b d = rw (le-leb (kindAt T i) kindMap a, le-leb (depthAt T i) maxDepth b, eq-eqb (field T i 2 2) 0 d)
 
   -- a right head has a kind of the document, and a depth that it allows
   pub kind-small : headRight T i ≡ true → kindAt T i ≤ kindMap
@@ -231,26 +227,37 @@ module _ (T X : List ℕ) (i : ℕ) where
   stands-alone l h = stands-by i l ∙ ap (placeRight T X i) (parent-none T i h)
 
   module _ (p : ℕ) where
-    -- the place under a parent: the depth, and then the key as the parent's kind asks
+    underDepth : Bool
+    underDepth = eqb (depthAt T i) (depthAt T p + 1) && cond (eqb (kindAt T p) kindMap) (memberRight T X p i) (noKey T i)
+
+    -- the place under a parent: its number, the depth, and then the key as the parent's kind asks
+    pub place-parent : (parentAt T i ≡ p → ⊥) → placeRight T X i (some p) ≡ false
+    unfolding placeRight
+    place-parent h = rw (ne-eqb (parentAt T i) p h)
+
     pub place-depth : (depthAt T i ≡ depthAt T p + 1 → ⊥) → placeRight T X i (some p) ≡ false
-    unfolding placeRight
-    place-depth h = rw (ne-eqb (depthAt T i) (depthAt T p + 1) h)
+    unfolding placeRight underDepth
+    place-depth h = and-not-right (eqb (parentAt T i) p) underDepth (rw (ne-eqb (depthAt T i) (depthAt T p + 1) h))
 
-    pub place-member : depthAt T i ≡ depthAt T p + 1 → kindAt T p ≡ kindMap → placeRight T X i (some p) ≡ memberRight T X p i
+    pub place-member : parentAt T i ≡ p → depthAt T i ≡ depthAt T p + 1 → kindAt T p ≡ kindMap → placeRight T X i (some p) ≡ memberRight T X p i
     unfolding placeRight
-    place-member h k = rw (eq-eqb (depthAt T i) (depthAt T p + 1) h, eq-eqb (kindAt T p) kindMap k)
+    place-member n h k = rw (eq-eqb (parentAt T i) p n, eq-eqb (depthAt T i) (depthAt T p + 1) h, eq-eqb (kindAt T p) kindMap k)
 
-    pub place-plain : depthAt T i ≡ depthAt T p + 1 → (kindAt T p ≡ kindMap → ⊥) → placeRight T X i (some p) ≡ noKey T i
+    pub place-plain : parentAt T i ≡ p → depthAt T i ≡ depthAt T p + 1 → (kindAt T p ≡ kindMap → ⊥) → placeRight T X i (some p) ≡ noKey T i
     unfolding placeRight
-    place-plain h k = rw (eq-eqb (depthAt T i) (depthAt T p + 1) h, ne-eqb (kindAt T p) kindMap k)
+    place-plain n h k = rw (eq-eqb (parentAt T i) p n, eq-eqb (depthAt T i) (depthAt T p + 1) h, ne-eqb (kindAt T p) kindMap k)
 
     -- what a right place gives
+    pub place-number : placeRight T X i (some p) ≡ true → parentAt T i ≡ p
+    unfolding placeRight underDepth
+    place-number h = eqb-true (parentAt T i) p (and-left (eqb (parentAt T i) p) underDepth h)
+
     pub place-deeper : placeRight T X i (some p) ≡ true → depthAt T i ≡ depthAt T p + 1
-    unfolding placeRight
-    place-deeper h = eqb-true (depthAt T i) (depthAt T p + 1) (and-left (eqb (depthAt T i) (depthAt T p + 1)) (cond (eqb (kindAt T p) kindMap) (memberRight T X p i) (noKey T i)) h)
+    unfolding placeRight underDepth
+    place-deeper h = eqb-true (depthAt T i) (depthAt T p + 1) (and-left (eqb (depthAt T i) (depthAt T p + 1)) (cond (eqb (kindAt T p) kindMap) (memberRight T X p i) (noKey T i)) (and-right (eqb (parentAt T i) p) underDepth h))
 
     pub place-key : placeRight T X i (some p) ≡ true → kindAt T p ≡ kindMap → memberRight T X p i ≡ true
-    place-key h k = sym (place-member (place-deeper h) k) ∙ h
+    place-key h k = sym (place-member (place-number h) (place-deeper h) k) ∙ h
 
     pub member-bad : goodPart X (keyStart T i) (keyLength T i) ≡ false → memberRight T X p i ≡ false
     unfolding memberRight
@@ -269,17 +276,28 @@ module _ (T X : List ℕ) (i : ℕ) where
     member-differs h = and-right (goodPart X (keyStart T i) (keyLength T i)) (keyDiffers T X i (firstChild T p) (i - firstChild T p)) h
 
 -- the root's place
+rootTests : List ℕ → Bool
+rootTests T = eqb (depthAt T 0) 0 && noKey T 0
+
+pub root-number : (T X : List ℕ) → (parentAt T 0 ≡ 0 → ⊥) → standsRight T X 0 ≡ false
+unfolding standsRight rootTests
+root-number T X h = and-not-left (eqb (parentAt T 0) 0) (rootTests T) (ne-eqb (parentAt T 0) 0 h)
+
 pub root-depth : (T X : List ℕ) → (depthAt T 0 ≡ 0 → ⊥) → standsRight T X 0 ≡ false
-unfolding standsRight
-root-depth T X h = and-not-left (eqb (depthAt T 0) 0) (noKey T 0) (ne-eqb (depthAt T 0) 0 h)
+unfolding standsRight rootTests
+root-depth T X h = and-not-right (eqb (parentAt T 0) 0) (rootTests T) (and-not-left (eqb (depthAt T 0) 0) (noKey T 0) (ne-eqb (depthAt T 0) 0 h))
 
 pub root-depth-zero : (T X : List ℕ) → standsRight T X 0 ≡ true → depthAt T 0 ≡ 0
-unfolding standsRight
-root-depth-zero T X h = eqb-true (depthAt T 0) 0 (and-left (eqb (depthAt T 0) 0) (noKey T 0) h)
+unfolding standsRight rootTests
+root-depth-zero T X h = eqb-true (depthAt T 0) 0 (and-left (eqb (depthAt T 0) 0) (noKey T 0) (and-right (eqb (parentAt T 0) 0) (rootTests T) h))
 
-pub root-key : (T X : List ℕ) → depthAt T 0 ≡ 0 → standsRight T X 0 ≡ noKey T 0
+pub root-number-zero : (T X : List ℕ) → standsRight T X 0 ≡ true → parentAt T 0 ≡ 0
+unfolding standsRight rootTests
+root-number-zero T X h = eqb-true (parentAt T 0) 0 (and-left (eqb (parentAt T 0) 0) (rootTests T) h)
+
+pub root-key : (T X : List ℕ) → parentAt T 0 ≡ 0 → depthAt T 0 ≡ 0 → standsRight T X 0 ≡ noKey T 0
 unfolding standsRight
-root-key T X h = rw (eq-eqb (depthAt T 0) 0 h)
+root-key T X n h = rw (eq-eqb (parentAt T 0) 0 n, eq-eqb (depthAt T 0) 0 h)
 
 module _ (T X : List ℕ) where
   -- the counts before a right node reach it

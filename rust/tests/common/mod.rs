@@ -50,10 +50,10 @@ pub fn value(random: &mut Random, deep: usize) -> Value {
 /// tables break a rule.
 pub fn bytes(random: &mut Random) -> (Vec<u8>, Vec<u8>) {
     let texts = "aébc😀déef".as_bytes().to_vec();
-    let (mut records, mut pending, mut next) = (Vec::new(), vec![(0u8, false, 0usize)], 1u32);
+    let (mut records, mut pending, mut next) = (Vec::new(), vec![(0u8, false, 0usize, 0u32)], 1u32);
     let mut done = 0;
     while done < pending.len() {
-        let (depth, member, place) = pending[done];
+        let (depth, member, place, parent) = pending[done];
         let kind = if done == 0 || random.below(3) == 0 { 6 + random.below(2) as u8 } else { random.below(8) as u8 };
         let mut payload = match kind {
             3 => random.next(),
@@ -67,7 +67,7 @@ pub fn bytes(random: &mut Random) -> (Vec<u8>, Vec<u8>) {
                 payload = u64::from(next) | (count as u64) << 32;
             }
             next += count as u32;
-            pending.extend((0..count).map(|place| (depth + 1, kind == 7, place)));
+            pending.extend((0..count).map(|place| (depth + 1, kind == 7, place, done as u32)));
         }
         // The keys of a map's members: the empty part at 0 first, then parts of different lengths.
         let key = match (member, place) {
@@ -76,7 +76,7 @@ pub fn bytes(random: &mut Random) -> (Vec<u8>, Vec<u8>) {
         };
         records.extend_from_slice(&[kind, depth, 0, 0]);
         records.extend_from_slice(&u64::to_le_bytes(key));
-        records.extend_from_slice(&[0; 4]);
+        records.extend_from_slice(&parent.to_le_bytes());
         records.extend_from_slice(&u64::to_le_bytes(payload));
         done += 1;
     }

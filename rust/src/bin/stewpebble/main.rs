@@ -1,7 +1,6 @@
 //! The command line tool: selects values of a JSON text by a query. `stewpebble --help` says how it is used.
 mod explain;
 mod options;
-mod paths;
 
 use options::{Asked, Options};
 use std::ffi::OsStr;
@@ -66,7 +65,7 @@ fn select(options: &Options) -> Result<Status, Failure> {
     let write = |out: &mut dyn Write| {
         for node in nodes {
             if options.paths {
-                write!(out, "{}\t", paths::Path(node))?;
+                write!(out, "{}\t", node.path())?;
             }
             writeln!(out, "{node}")?;
         }

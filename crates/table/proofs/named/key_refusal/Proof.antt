@@ -4,7 +4,7 @@ use Rattle.definition.specs.Tables.{checkTable, keyBytes}
 use Rattle.definition.specs.TableOutcomes.{hasKey, keyOutcome}
 use Rattle.tables.specs.Outcomes.{number-sized, number-wrong, number-lacking, number-found}
 use Rattle.table.proofs.Answers.{says-accepted, says-sized, says-wrong}
-use Rattle.tables.specs.Accepted.{accepted-gives, accepted-rooted}
+use Rattle.tables.specs.Accepted.{accepted-gives, accepted-parented}
 use borrow.Author.Needs.{needs}
 use Rattle.table.proofs.named.key_refusal.Statement.{statement}
 use Rattle.table.proofs.named.key_refusal.Tie as tie
@@ -18,7 +18,7 @@ enum-told c = search needs
 has-key-requires : tie.Need-has-key-requires
 has-key-requires c κs =
     let a = c .before .before .before .before .before .args in
-    accepted-rooted (a .table .now) (a .text .now) (accepted-gives (a .table .now) (a .text .now) (says-accepted (a .table .now) (a .text .now) (c .before .before .check-table .result) (c .before .before .check-table .ensures) (c .enum-told .given .1)))
+    accepted-parented (a .table .now) (a .text .now) (accepted-gives (a .table .now) (a .text .now) (says-accepted (a .table .now) (a .text .now) (c .before .before .check-table .result) (c .before .before .check-table .ensures) (c .enum-told .given .1)))
 
 returns : tie.Need-returns
 unfolding keyOutcome

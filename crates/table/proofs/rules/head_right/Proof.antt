@@ -1,7 +1,7 @@
 -- Each return is one way in which a head is wrong, or right. Assumes nothing.
 use native.Mathlib.Omega.{arith}
 use mathlib.Core.Path.{sym, _∙_}
-use Rattle.tables.specs.Rights.{head-kind, head-depth, head-low, head-high, head-all}
+use Rattle.tables.specs.Rights.{head-kind, head-depth, head-low, head-all}
 use borrow.Author.Needs.{needs}
 use Rattle.table.proofs.rules.head_right.Statement.{statement}
 use Rattle.table.proofs.rules.head_right.Tie as tie
@@ -28,18 +28,10 @@ returns-3 c =
     let a = c .before .before .before .before .before .before .before .args in
     sym (head-low (a .table .now) (a .node) (omega arith))
 
-zeros-12-requires : tie.Need-zeros-12-requires
-zeros-12-requires c κs = search needs
-
 returns-4 : tie.Need-returns-4
 returns-4 c =
-    let a = c .before .before .before .before .before .before .before .before .before .args in
-    sym (head-high (a .table .now) (a .node) (omega arith))
-
-returns-5 : tie.Need-returns-5
-returns-5 c =
-    let a = c .before .before .before .before .before .before .before .before .before .args in
-    sym (head-all (a .table .now) (a .node) (omega arith) (omega arith) (omega arith) (omega arith))
+    let a = c .before .before .before .before .before .before .before .args in
+    sym (head-all (a .table .now) (a .node) (omega arith) (omega arith) (omega arith))
 
 pub head-right-spec : {M : Type 1} → statement M
 head-right-spec =
@@ -51,6 +43,4 @@ head-right-spec =
     returns-2
     zeros-2-requires
     returns-3
-    zeros-12-requires
-    returns-4
-    returns-5)
+    returns-4)

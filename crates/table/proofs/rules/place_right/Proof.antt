@@ -1,12 +1,23 @@
--- The depth, and then the rule that the kind of the parent asks. Assumes nothing.
+-- The parent's number, the depth, and then the rule that the kind of the parent asks. Assumes nothing.
 use native.Mathlib.Omega.{arith}
 use mathlib.Core.Path.{sym, _∙_}
 use mathlib.Core.Bool.{false≢true}
-use Rattle.tables.specs.Rights.{place-depth, place-member, place-plain}
+use Rattle.tables.specs.Rights.{place-parent, place-depth, place-member, place-plain}
 use Rattle.table.proofs.Kept.{kept-plain}
 use borrow.Author.Needs.{needs}
 use Rattle.table.proofs.rules.place_right.Statement.{statement}
 use Rattle.table.proofs.rules.place_right.Tie as tie
+
+parent-requires : tie.Need-parent-requires
+parent-requires c κs = search needs
+
+cast-named : tie.Need-cast-named
+cast-named c = search needs
+
+returns : tie.Need-returns
+returns c =
+    let a = c .before .before .before .before .before .before .args in
+    (sym (place-parent (a .table .now) (a .text .now) (a .node) (a .parent) (omega arith)), λ z. absurd (false≢true z))
 
 depth-requires : tie.Need-depth-requires
 depth-requires c κs = search needs
@@ -20,12 +31,12 @@ depth-requires-2 c κs = search needs
 cast-above : tie.Need-cast-above
 cast-above c = search needs
 
-add-if1 : tie.Need-add-if1
-add-if1 c = search needs
+add-if2 : tie.Need-add-if2
+add-if2 c = search needs
 
-returns : tie.Need-returns
-returns c =
-    let a = c .before .before .before .before .before .before .before .args in
+returns-2 : tie.Need-returns-2
+returns-2 c =
+    let a = c .before .before .before .before .before .before .before .before .before .args in
     (sym (place-depth (a .table .now) (a .text .now) (a .node) (a .parent) (omega arith)), λ z. absurd (false≢true z))
 
 kind-requires : tie.Need-kind-requires
@@ -33,9 +44,9 @@ kind-requires c κs = search needs
 
 member-right-requires : tie.Need-member-right-requires
 member-right-requires c κs =
-    let s = c .before .before .before .before .before .before .before .before .before .before .before in
+    let s = c .before .before .before .before .before .before .before .before .before .before .before .before .before in
     let e = c .before .before .before .kind .ensures in
-    let t = c .before .before .if2 .taken in
+    let t = c .before .before .if3 .taken in
     (s .pre .0, ((omega arith, s .pre .1 .0 (omega arith)), s .pre .1 .1))
 
 same-length : tie.Need-same-length
@@ -44,41 +55,46 @@ same-length c = search needs
 same-length-2 : tie.Need-same-length-2
 same-length-2 c = search needs
 
-returns-2 : tie.Need-returns-2
-returns-2 c =
-    let a = c .before .before .before .before .before .before .before .before .before .before .before .before .before .before .before .before .args in
+returns-3 : tie.Need-returns-3
+returns-3 c =
+    let a = c .before .before .before .before .before .before .before .before .before .before .before .before .before .before .before .before .before .before .args in
     let m = c .before .before .before .before .member-right in
-    let d = c .before .before .before .before .before .before .before .before .before .if1 .left in
+    let d = c .before .before .before .before .before .before .before .before .before .if2 .left in
     let x = c .before .before .before .before .before .before .before .before .before .before .before .depth .ensures in
     let y = c .before .before .before .before .before .before .before .before .before .before .depth2 .ensures in
+    let n = c .before .before .before .before .before .before .before .before .before .before .before .before .if1 .left in
+    let p = c .before .before .before .before .before .before .before .before .before .before .before .before .before .parent .ensures in
     let k = c .before .before .before .before .before .before .before .before .kind .ensures in
-    let t = c .before .before .before .before .before .before .before .if2 .taken in
-    (m .ensures .0 ∙ sym (place-member (a .table .now) (a .text .now) (a .node) (a .parent) (omega arith) (omega arith)), m .ensures .1)
+    let t = c .before .before .before .before .before .before .before .if3 .taken in
+    (m .ensures .0 ∙ sym (place-member (a .table .now) (a .text .now) (a .node) (a .parent) (omega arith) (omega arith) (omega arith)), m .ensures .1)
 
 no-key-requires : tie.Need-no-key-requires
 no-key-requires c κs = search needs
 
-returns-3 : tie.Need-returns-3
-returns-3 c =
-    let s = c .before .before .before .before .before .before .before .before .before .before in
+returns-4 : tie.Need-returns-4
+returns-4 c =
+    let s = c .before .before .before .before .before .before .before .before .before .before .before .before in
     let a = s .args in
-    let t = c .before .if2 .left in
-    (c .no-key .ensures ∙ sym (place-plain (a .table .now) (a .text .now) (a .node) (a .parent) (omega arith) (omega arith)), λ _. kept-plain (a .table .now) (a .text .now) (a .node) (a .parent) (a .from) (a .heads .now) (a .links .now) (s .pre .1 .1 .0) (λ l. let m = l .is-map in omega arith))
+    let t = c .before .if3 .left in
+    (c .no-key .ensures ∙ sym (place-plain (a .table .now) (a .text .now) (a .node) (a .parent) (omega arith) (omega arith) (omega arith)), λ _. kept-plain (a .table .now) (a .text .now) (a .node) (a .parent) (a .from) (a .heads .now) (a .links .now) (s .pre .1 .1 .0) (λ l. let m = l .is-map in omega arith))
 
 pub place-right-spec : {M : Type 1} → statement M
 place-right-spec =
     tie.close
     (tie.spec
+    parent-requires
+    cast-named
+    returns
     depth-requires
     cast-deep
     depth-requires-2
     cast-above
-    add-if1
-    returns
+    add-if2
+    returns-2
     kind-requires
     member-right-requires
     same-length
     same-length-2
-    returns-2
+    returns-3
     no-key-requires
-    returns-3)
+    returns-4)

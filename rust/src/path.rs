@@ -1,13 +1,31 @@
-//! The places of nodes, written as the Normalized Paths of RFC 9535, section 2.7.
-use std::fmt::{self, Write};
-use stewpebble::Node;
+//! The Normalized Path of a node: RFC 9535, section 2.7.
+//!
+//! It is read from the records of a table that was accepted. The library's own operation, which is proved, is
+//! [`path_of_node`](crate::path_of_node); the tests hold the two against each other.
+use crate::Node;
+use alloc::vec::Vec;
+use core::fmt::{self, Write};
+use core::iter::successors;
 
-/// The path of a node from the root.
-pub struct Path<'t>(pub Node<'t>);
+/// The Normalized Path of a node from the root, written by `Display`.
+///
+/// ```
+/// use stewpebble::{select, Table};
+///
+/// let table: Table = r#"{"a":[10,20.0,30],"it's":"é"}"#.parse()?;
+/// let paths: Vec<String> = select("$..*", &table)?.map(|node| node.path().to_string()).collect();
+/// assert_eq!(paths, ["$['a']", r"$['it\'s']", "$['a'][0]", "$['a'][1]", "$['a'][2]"]);
+///
+/// // The path selects that node alone.
+/// assert_eq!(select(&paths[4], &table)?.numbers(), [5]);
+/// # Ok::<(), stewpebble::Error>(())
+/// ```
+#[derive(Clone, Copy, Debug, PartialEq, Eq)]
+pub struct Path<'t>(pub(crate) Node<'t>);
 
 impl fmt::Display for Path<'_> {
     fn fmt(&self, f: &mut fmt::Formatter<'_>) -> fmt::Result {
-        let mut steps: Vec<Node<'_>> = std::iter::successors(Some(self.0), |node| node.parent()).collect();
+        let mut steps: Vec<Node<'_>> = successors(Some(self.0), |node| node.parent()).collect();
         // The root, which is no child, is the sign at the beginning.
         steps.pop();
         f.write_char('$')?;

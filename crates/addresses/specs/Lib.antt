@@ -1,0 +1,12 @@
+pub mod Finds
+pub mod Escapes
+pub mod Digits
+pub mod Unlike
+pub mod Texts
+pub mod Trees
+pub mod Shallow
+pub mod Addresses
+pub mod Normal
+pub mod Normalized
+pub mod Upwards
+pub mod Lengths
