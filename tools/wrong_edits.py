@@ -21,7 +21,7 @@ EXAMPLES = "crates/definition_examples/specs"
 FIRST = {
     "Limits": "Limits", "Utf8": "Classes", "Brackets": "Refusals", "Lexical": "Classes", "Literals": "Numbers", "Slices": "Rows", "Tables": "Cases",
     "Forms": "Points", "QueryForms": "Rights", "Walk": "Points", "Compare": "Cases", "Evaluation": "Cases", "Selecting": "Cases", "Outcomes": "Examples",
-    "Plans": "Points",
+    "Plans": "Points", "Paths": "Paths",
 }
 # the module of the examples that takes longest, and comes last
 SLOW = "Deep"
