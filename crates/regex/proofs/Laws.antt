@@ -16,8 +16,8 @@ use Rattle.regexps_texts.specs.Scalars.{scalarsOf, scalars-of}
 use Rattle.regex_code.specs.Flat.{flat}
 use Rattle.regex_chars.specs.Laws.{slice-end}
 use Rattle.regex_total.specs.Answers.{Matched, Widths}
-use Rattle.regex_marks.specs.Runs.{Ran, Weighs}
-use Rattle.regex_plain.specs.Rows.{Known}
+use Rattle.regex_marks.specs.Runs.{Ran, Weighs, Grows}
+use Rattle.regex_plain.specs.Rows.{Known, Open}
 use Rattle.regex.specs.Tested.{Tested, Missed}
 
 -- for any expression that the code is of, and any text that the bytes are of
@@ -58,3 +58,6 @@ by-marks s t room n {next} {m} {b} w h r k =
 -- the first n of those that are lent are n
 pub taken : (n : ℕ) (ms : List ℕ) → n ≤ length ms → n ≤ length (take (n - 0) ms)
 taken n ms h = let e = length-take-le (n - 0) ms (omega arith) in omega arith
+
+pub grows : (s : List ℕ) → Open s → Grows s
+grows s o = record { of = o .of }

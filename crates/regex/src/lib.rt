@@ -3,6 +3,7 @@
 use regex_marks::run;
 use regex_marks::weigh;
 use regex_plain::ask;
+use regex_plain::open_ended;
 use regex_total::matches;
 use regex_total::measure;
 ghost use mathlib.Core.Path.{_≡_};
@@ -54,5 +55,6 @@ pub fn test(code: &[u32], text: &[u8], marks: &mut [u8]) -> bool
         let end = text.len();
         return matches(code, 0, text, 0, end);
     }
-    run(code, text, &mut marks[0..n])
+    let o = open_ended(code);
+    run(code, text, &mut marks[0..n], o)
 }

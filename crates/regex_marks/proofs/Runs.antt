@@ -14,14 +14,14 @@ use Rattle.regex_chars.specs.Classes.{Hits}
 use Rattle.regex_chars.specs.Laws.{slice-end, slice-nil, encodeAll-none, encodeAll-cons, encodeAll-nil}
 use lib.Dec.{eqb, leb}
 use borrow.Author.Tests.{eqb-true, eqb-false, eq-eqb, leb-true, leb-false}
-use Rattle.regexps.specs.Words.{upto, any, Told, fails}
+use Rattle.regexps.specs.Words.{upto, any, Told, holds, fails}
 use Rattle.regexps.specs.Regexp.{Regexp, empty, class, then, or, times, Describes, hits}
-use Rattle.regexps.specs.Agree.{told}
+use Rattle.regexps.specs.Agree.{told, told-true}
 use Rattle.regex_code.specs.Flat.{flat, head, of-empty, of-class, of-then, of-or, of-upto, of-any, of-other, of-nothing, word, behind, word-of}
 use Rattle.regex_code.specs.Skips.{SkipsClass}
 use Rattle.regex_marks.specs.Marks.{size, copies, endless, Rest}
 use Rattle.regex_marks.specs.Moves.{Moved, Shifted}
-use Rattle.regex_marks.specs.Runs.{Clear, Reading, Read, Ran, Weighs, Capped, Entered}
+use Rattle.regex_marks.specs.Runs.{Clear, Grows, Reading, Read, Ran, Weighs, Capped, Entered}
 use Rattle.regex_marks.proofs.Frames.{rest-none, good-none}
 use Rattle.regex_marks.proofs.Laws.{some-code}
 
@@ -145,6 +145,16 @@ read-dead {s} {t} {ms} {i} {b} room e h z g =
           (λ k.
           ⊎-elim (λ y. absurd (omega (arith, y .0))) (rest-none ms (z .at) x 0 (d .left))
           (d .back (d .left) (subst (Describes x) (d .eq) k)));
+    }
+
+-- where what was read is described, and any end may follow, the text is described
+pub read-open : {s t ms : List ℕ} {i : ℕ} {b : Bool} (room : ℕ) → room ≡ length ms → Grows s → b ≡ true → Read s t i ms b → Ran s t room true
+read-open {s} {t} {ms} {i} {b} room e o h g =
+    record {
+      of =
+          λ x cs q u r.
+          let d = g .of x cs q u (omega arith) in
+          holds (subst (Describes x) (sym (d .eq)) (o .of x q (d .done) (d .left) (told-true (d .told) h)));
     }
 
 -- WEIGHTS

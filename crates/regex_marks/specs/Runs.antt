@@ -40,6 +40,10 @@ pub record Read (s t : List ℕ) (i : ℕ) (ms : List ℕ) (b : Bool) : Type 0 w
 pub record Ran (s t : List ℕ) (room : ℕ) (b : Bool) : Type 0 where
   pub of : (x : Regexp) (cs : List ℕ) → s ≡ flat x [] → t ≡ encodeAll cs → size x ≤ room → Told (Describes x cs) b
 
+-- a text that is described is described with any end
+pub record Grows (s : List ℕ) : Type 0 where
+  pub of : (x : Regexp) → s ≡ flat x [] → (u v : List ℕ) → Describes x u → Describes x (u ++ v)
+
 -- a number of marks, right if it is within the cap
 pub record Weighs (s : List ℕ) (at cap next n : ℕ) : Type 0 where
   pub from : at ≤ next

@@ -6,12 +6,12 @@ use regex_code::skip;
 use regex_code::skip_class;
 use regex_code::wide;
 ghost use mathlib.Core.Path.{_≡_};
-ghost use mathlib.Core.Bool.{_&&_, _||_};
+ghost use mathlib.Core.Bool.{true, _&&_, _||_};
 ghost use Prim.Native.Nat.{_+_, _-_, _≤_, _<_, _^_, pred};
 ghost use lib.Dec.{eqb, leb};
 ghost use lib.ListN.{length, getD};
 ghost use Rattle.regex_marks.specs.Moves.{Shifted, Copied, Endless};
-ghost use Rattle.regex_marks.specs.Runs.{Read, Ran, Clear, Dead, Weighs, Capped, Entered};
+ghost use Rattle.regex_marks.specs.Runs.{Read, Ran, Clear, Dead, Grows, Weighs, Capped, Entered};
 ghost use Rattle.regex_marks.specs.Steps.{chainOf, forkOf, linkOf, loopOf, lastOf, enterOf, stopOf, bareOf, bareLoopOf};
 
 // What a pass over a part says: the place behind its code, the number of its marks, whether it describes the empty word, and
@@ -425,8 +425,8 @@ fn dead(marks: &mut [u8]) -> bool
     true
 }
 
-fn read(code: &[u32], text: &[u8], marks: &mut [u8], empty: bool) -> bool
-    requires { ⌜ Read (now code) (now text) 0 (now marks) empty ⌝ }
+fn read(code: &[u32], text: &[u8], marks: &mut [u8], empty: bool, grows: bool) -> bool
+    requires { ⌜ Read (now code) (now text) 0 (now marks) empty ⌝ ∗ ⌜ (grows ≡ true → Grows (now code)) ⌝ }
     ensures { λ r. ⌜ Ran (now (code .entry)) (now (text .entry)) (length (now (marks .entry))) r ⌝ }
 {
     let end = text.len();
@@ -436,21 +436,28 @@ fn read(code: &[u32], text: &[u8], marks: &mut [u8], empty: bool) -> bool
         let first = i == 0;
         let c = char_at(text, i, end);
         let s = shift(code, 0, marks, 0, first, c.value);
+        last = s.now;
+        if grows {
+            if last {
+                return true;
+            }
+        }
         if dead(marks) {
             return false;
         }
-        last = s.now;
         i = c.next;
     }
     last
 }
 
-// Whether the text is described by the expression that the code is of.
-pub fn run(code: &[u32], text: &[u8], marks: &mut [u8]) -> bool
+// Whether the text is described by the expression that the code is of. Where that grows, and what was read is described, so is the
+// text.
+pub fn run(code: &[u32], text: &[u8], marks: &mut [u8], grows: bool) -> bool
+    requires { ⌜ (grows ≡ true → Grows (now code)) ⌝ }
     ensures { λ r. ⌜ Ran (now (code .entry)) (now (text .entry)) (length (now (marks .entry))) r ⌝ }
 {
     clear(marks);
     let s = shift(code, 0, marks, 0, false, 0);
     let e = s.empty;
-    read(code, text, marks, e)
+    read(code, text, marks, e, grows)
 }

@@ -14,7 +14,8 @@ use Rattle.regexps.specs.Regexp.{Regexp, Range, class, then, One, Describes}
 use Rattle.regexps.specs.Laws.{join, join-map, join-left, nil-join}
 use Rattle.regexps.specs.Scope.{anything-all}
 use Rattle.regex_code.specs.Flat.{flat, flag, flatRanges, of-empty, of-class, of-then, of-any, word, word-of}
-use Rattle.regex_plain.specs.Rows.{letters, Letter, Free, Every, Front, Past, Spelt, Row, Plainly, Sought}
+use Rattle.regex_code.specs.Skips.{Skips}
+use Rattle.regex_plain.specs.Rows.{letters, Letter, Free, Every, Front, Past, Spelt, Row, Plainly, Sought, Open}
 
 -- one character more
 letters-snoc : (s : List ℕ) (at n : ℕ) → letters s at (suc n) ≡ letters s at n ++ (getD s (at + 6 * n + 4) 0 ∷ [])
@@ -255,3 +256,40 @@ module _ (s : List ℕ) where
       first e x r q =
           of-then (λ x r. Says s n x) _ _ z
           (λ a y r d. let b = free-any 1 (omega arith) f a (flat y r) d in second e a y r (b .1) (b .0)) x r q
+
+  -- an expression that ends in any text
+  pub open-end :
+      {a b : ℕ} → 5 ≤ length s → getD s 0 0 ≡ 2 → Skips s 1 a → a < length s → getD s a 0 ≡ 2 → Skips s (a + 1) b
+      → length s - 5 ≡ b → Free s b → Open s
+  open-end {a} {b} h z k l m n o f = record { of = λ x q. first x [] (sym (word s 0 (omega arith)) ∙ q) }
+    where
+      grown :
+          (p y g : Regexp) → ((w : List ℕ) → Describes g w) → (u v : List ℕ) → Describes (then p (then y g)) u
+          → Describes (then p (then y g)) (u ++ v)
+      grown p y g all u v j =
+          let i = j .is-back in
+          record {
+            fore = j .fore;
+            back = j .back ++ v;
+            eq = ap (λ t. t ++ v) (j .eq) ∙ append-assoc (j .fore) (j .back) v;
+            is-fore = j .is-fore;
+            is-back =
+                record {
+                  fore = i .fore;
+                  back = i .back ++ v;
+                  eq = ap (λ t. t ++ v) (i .eq) ∙ append-assoc (i .fore) (i .back) v;
+                  is-fore = i .is-fore;
+                  is-back = all (i .back ++ v);
+                };
+          }
+
+      second :
+          (p q : Regexp) (r : List ℕ) → drop a s ≡ flat q r → (u v : List ℕ) → Describes (then p q) u → Describes (then p q) (u ++ v)
+      second p q r e =
+          of-then (λ q r. (u v : List ℕ) → Describes (then p q) u → Describes (then p q) (u ++ v)) _ _ m
+          (λ y g r d. grown p y g (free-any b (omega arith) f g r (n .rest y (flat g r) d) .1)) q r (sym (word s a l) ∙ e)
+
+      first : (x : Regexp) (r : List ℕ) → getD s 0 0 ∷ drop 1 s ≡ flat x r → (u v : List ℕ) → Describes x u → Describes x (u ++ v)
+      first x r e =
+          of-then (λ x r. (u v : List ℕ) → Describes x u → Describes x (u ++ v)) _ _ z
+          (λ p q r d. second p q r (k .rest p (flat q r) d)) x r e

@@ -91,3 +91,7 @@ pub record Sought (s : List ℕ) (ok : Bool) (n : ℕ) : Type 0 where
 -- the answer, where it is known
 pub record Known (s t : List ℕ) (ok b : Bool) : Type 0 where
   pub of : ok ≡ true → (x : Regexp) (w : List ℕ) → s ≡ flat x [] → t ≡ encodeAll w → Told (Describes x w) b
+
+-- a text that is described is described with any end
+pub record Open (s : List ℕ) : Type 0 where
+  pub of : (x : Regexp) → s ≡ flat x [] → (u v : List ℕ) → Describes x u → Describes x (u ++ v)

@@ -1,11 +1,12 @@
 // Expressions that are a row of single characters: a match is a comparison, and a search looks for the row at one character of the
 // text after the other. Of any other expression nothing is said here.
 use regex_chars::char_at;
+use regex_code::skip;
 ghost use mathlib.Core.Path.{_≡_};
 ghost use mathlib.Core.Bool.{true};
 ghost use Prim.Native.Nat.{_+_, _*_, _≤_, _<_};
 ghost use lib.ListN.{length};
-ghost use Rattle.regex_plain.specs.Rows.{Letter, Free, Spelt, Plainly, Begins, Whole, Found, Sought, Known};
+ghost use Rattle.regex_plain.specs.Rows.{Letter, Free, Spelt, Plainly, Begins, Whole, Found, Sought, Known, Open};
 
 // The words of one character and of what follows it: 2 1 0 1 C C.
 fn letter(code: &[u32], at: usize) -> bool
@@ -239,4 +240,28 @@ pub fn ask(code: &[u32], text: &[u8]) -> Answer
         known: false,
         value: false,
     }
+}
+
+// Whether the expression ends in any text, as that of a search does: then a text that is described is described with any end.
+pub fn open_ended(code: &[u32]) -> bool
+    ensures { λ r. ⌜ (r ≡ true → Open (now (code .entry))) ⌝ }
+{
+    if code.len() < 5 {
+        return false;
+    }
+    if code[0] != 2 {
+        return false;
+    }
+    let a = skip(code, 1);
+    if code.len() <= a {
+        return false;
+    }
+    if code[a] != 2 {
+        return false;
+    }
+    let b = skip(code, a + 1);
+    if code.len() - 5 != b {
+        return false;
+    }
+    free(code, b)
 }

@@ -1,6 +1,6 @@
 -- `regex::test` meets its contract. Assumes nothing.
 use borrow.Author.Needs.{needs}
-use Rattle.regex.proofs.Laws.{by-plain, by-length, by-total, by-marks, taken}
+use Rattle.regex.proofs.Laws.{by-plain, by-length, by-total, by-marks, taken, grows}
 use native.Mathlib.Omega.{arith}
 use Rattle.regex.proofs.test.Statement.{statement}
 use Rattle.regex.proofs.test.Tie as tie
@@ -29,6 +29,9 @@ matches-requires c κs = search needs
 returns-3 : tie.Need-returns-3
 returns-3 c = by-total _ _ _ (c .matches .ensures)
 
+open-ended-requires : tie.Need-open-ended-requires
+open-ended-requires c κs = search needs
+
 sub-run : tie.Need-sub-run
 sub-run c = search needs
 
@@ -39,13 +42,13 @@ part-run-end : tie.Need-part-run-end
 part-run-end c = search needs
 
 run-requires : tie.Need-run-requires
-run-requires c κs = search needs
+run-requires c κs = λ e. grows _ (c .before .open-ended .ensures e)
 
 same-length : tie.Need-same-length
 same-length c = search needs
 
 returns-4 : tie.Need-returns-4
-returns-4 c = by-marks _ _ _ _ (c .before .before .before .before .before .weigh .ensures) (c .before .before .before .before .if3 .left) (c .before .before .run .ensures) (taken _ _ (omega (arith, c .before .before .before .before .if3 .left, c .before .before .before .before .before .before .lesser .ensures)))
+returns-4 c = by-marks _ _ _ _ (c .before .before .before .before .before .before .weigh .ensures) (c .before .before .before .before .before .if3 .left) (c .before .before .run .ensures) (taken _ _ (omega (arith, c .before .before .before .before .before .if3 .left, c .before .before .before .before .before .before .before .lesser .ensures)))
 
 pub test-spec : {M : Type 1} → statement M
 test-spec =
@@ -59,6 +62,7 @@ test-spec =
     weigh-requires
     matches-requires
     returns-3
+    open-ended-requires
     sub-run
     part-run-start
     part-run-end

@@ -1,7 +1,7 @@
 -- `regex_marks::run` meets its contract. Assumes nothing.
 use borrow.Author.Needs.{needs}
-use mathlib.Core.Path.{_∙_}
 use Rattle.regex_marks.proofs.Runs.{read-start, ran-room}
+use mathlib.Core.Path.{_∙_}
 use Rattle.regex_marks.proofs.run.Statement.{statement}
 use Rattle.regex_marks.proofs.run.Tie as tie
 
@@ -12,7 +12,7 @@ shift-requires : tie.Need-shift-requires
 shift-requires c κs = search needs
 
 read-requires : tie.Need-read-requires
-read-requires c κs = read-start (c .before .before .before .before .before .before .before .clear .ensures) (c .before .before .before .shift .ensures)
+read-requires c κs = (read-start (c .before .before .before .before .before .before .before .clear .ensures) (c .before .before .before .shift .ensures), c .before .before .before .before .before .before .before .before .before .before .before .before .pre)
 
 same-length : tie.Need-same-length
 same-length c = search needs
