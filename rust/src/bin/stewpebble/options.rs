@@ -10,7 +10,7 @@ Selects values of a JSON text by a JSONPath query.
 The JSON is read from FILE, or from standard input where FILE is - or not there.
 Each selected value is written as a line of JSON.
 
-    -p, --paths      before each value its Normalized Path, as $['a'][0], and a tab
+    -p, --paths      before each value its path, as $['a'][0], and a tab
         --plan       write the plan that QUERY compiles to; no JSON is read
     -e, --explain    where something is refused, say what can be done about it
     -l, --limit N    refuse to select more than N nodes (1,048,576 if not given)
