@@ -1,6 +1,7 @@
 // Nanoseconds per node of the table check, beside a bare pass that adds up the same bytes, in one run.
 // The bare pass is made twice and timed the second time, so that each is timed with the table in the caches.
-// Tables: many small maps; 63 maps of 1,024 members, with any keys and with keys of one bucket; one list of numbers.
+// Tables: many small maps; 63 maps of 1,024 members, with any keys and with keys of one bucket; one list of numbers; lists in lists,
+// 60 levels deep; one list of texts.
 #include "../include/stewpebble.h"
 #include <stdio.h>
 #include <stdlib.h>
@@ -72,6 +73,27 @@ static void list_of_numbers(size_t count) {
     nodes = 1 + count;
 }
 
+// A list of `width` lists, each of which holds one list, and so on for `levels` levels.
+static void lists_in_lists(size_t width, size_t levels) {
+    text_length = 0;
+    record(0, 6, 0, 0, 0, 0, 1, width);
+    for (size_t d = 0; d < levels; d++)
+        for (size_t k = 0; k < width; k++) {
+            size_t at = 1 + d * width + k;
+            record(at, 6, 1 + d, 0, 0, d ? at - width : 0, d + 1 < levels ? at + width : 0, d + 1 < levels);
+        }
+    nodes = 1 + width * levels;
+}
+
+// A list of `count` texts of `length` letters each.
+static void list_of_texts(size_t count, size_t length) {
+    memset(text, 'a', count * length);
+    text_length = count * length;
+    record(0, 6, 0, 0, 0, 0, 1, count);
+    for (size_t k = 0; k < count; k++) record(1 + k, 5, 1, 0, 0, 0, length * k, length);
+    nodes = 1 + count;
+}
+
 static double now(void) {
     struct timespec t;
     clock_gettime(CLOCK_PROCESS_CPUTIME_ID, &t);
@@ -126,5 +148,9 @@ int main(void) {
     measure("one list of numbers");
     list_of_numbers(65534);
     measure("one list of numbers");
+    lists_in_lists(1000, 60);
+    measure("lists in lists, 60 levels");
+    list_of_texts(50000, 20);
+    measure("one list of texts");
     return 0;
 }
