@@ -7,7 +7,7 @@ use lib.Dec.{ltb}
 use native.Mathlib.Omega.{arith}
 use native.Mathlib.Numerals.{add-one}
 use borrow.Author.Tests.{ltb-true, ltb-false}
-use Rattle.definition.specs.Tables.{nodeCount, kindAt, kindMap, childCount, countsBefore, firstChild, nodeRight}
+use Rattle.definition.specs.Tables.{nodeCount, kindAt, depthAt, highWord, kindMap, childCount, countsBefore, firstChild, nodeRight}
 use Rattle.tables.specs.Counts.{counts-root, counts-next, counts-monotone}
 use Rattle.tables.specs.Parents.{InRange}
 use Rattle.tables.specs.Least.{RightBelow, right-more}
@@ -19,6 +19,18 @@ use Rattle.table.specs.Words.{Child, KeysInside, MembersBefore, HasParen
 -- the counts before a node and the node behind it, as the code adds them
 step-counts : (T : List ℕ) (p : ℕ) → countsBefore T (suc (p + 1)) ≡ countsBefore T (suc p) + childCount T (p + 1)
 step-counts T p = counts-next T (p + 1) ∙ rw add-one
+
+-- the cursor at a node with a range
+abbrev pub ranged : List ℕ → ℕ → ℕ → ℕ → Cursor
+ranged T p f e = record { parent = p; from = f; end = e; kind = kindAt T p; depth = depthAt T p }
+
+-- a cursor's range with the kind and the depth of its node
+pub cursor-ranged : (T : List ℕ) (i : ℕ) (q : Cursor) → CursorAt T i q → CursorAt T i (ranged T (q .parent) (q .from) (q .end))
+cursor-ranged T i q h = record { earlier = h .earlier; from-is = h .from-is; from-le = h .from-le; end-is = h .end-is; kind-is = refl; depth-is = refl }
+
+-- the cursor with the kind and the depth that were read
+pub ranged-read : (T : List ℕ) (i : ℕ) (q : Cursor) → q .kind ≡ kindAt T (q .parent) → q .depth ≡ depthAt T (q .parent) → CursorAt T i (ranged T (q .parent) (q .from) (q .end)) → CursorAt T i q
+ranged-read T i q k d h = record { earlier = h .earlier; from-is = h .from-is; from-le = h .from-le; end-is = h .end-is; kind-is = k; depth-is = d }
 
 module _ (T : List ℕ) (i : ℕ) (q : Cursor) (n : HasParent T i) (h : CursorAt T i q) (e : q .end ≤ i) where
   -- a node whose range ends at or before i is not the last before i, if i has a parent
@@ -46,12 +58,12 @@ module _ (T : List ℕ) (i : ℕ) (q : Cursor) (n : HasParent T i) (h : CursorAt
       omega arith
 
   -- the cursor at the next node
-  pub next-cursor : (c : ℕ) → c ≡ childCount T (q .parent + 1) → CursorAt T i (record { parent = q .parent + 1; from = q .end; end = q .end + c })
+  pub next-cursor : (c : ℕ) → c ≡ childCount T (q .parent + 1) → CursorAt T i (ranged T (q .parent + 1) (q .end) (q .end + c))
   next-cursor c z =
       let s = step-counts T (q .parent) in
       let k = h .end-is in
       let g : firstChild T (suc (q .parent)) ≡ firstChild T (q .parent + 1) = ap (firstChild T) (sym (add-one (q .parent))) in
-      record { earlier = next-earlier; from-is = k ∙ g; from-le = e; end-is = omega arith }
+      record { earlier = next-earlier; from-is = k ∙ g; from-le = e; end-is = omega arith; kind-is = refl; depth-is = refl }
 
 module _ (T : List ℕ) (i : ℕ) (q : Cursor) (h : ParentAt T i q) where
   -- the parent's range has the node
@@ -64,8 +76,17 @@ module _ (T : List ℕ) (i : ℕ) (q : Cursor) (h : ParentAt T i q) where
       record { above = omega arith; within = omega arith }
 
   -- the node is asked about as a child of that parent
-  pub found-child : i < nodeCount T → nodeCount T ≤ maxNodes → Child T i (q .parent) (q .from)
-  found-child n s = record { node-in = n; earlier = h .place .earlier; from-is = h .place .from-is; from-le = h .place .from-le; small = s }
+  pub found-child : i < nodeCount T → nodeCount T ≤ maxNodes → Child T i q
+  found-child n s = record { node-in = n; under = h; small = s }
+
+  -- the range of a map has as many nodes as the map's record says
+  pub found-count : kindAt T (q .parent) ≡ kindMap → q .from + highWord T (q .parent) ≡ q .end
+  found-count k =
+      let a = h .place .from-is in
+      let b = h .place .end-is in
+      let d = counts-next T (q .parent) in
+      let e = count-map T (q .parent) k in
+      omega arith
 
   -- the keys of the members of the same map before the node lie inside the text
   pub found-keys : (X : List ℕ) → i < nodeCount T → RightBelow T X i → kindAt T (q .parent) ≡ kindMap → KeysInside T X (q .from) i
@@ -98,7 +119,7 @@ module _ (T : List ℕ) (i : ℕ) (q : Cursor) (h : ParentAt T i q) where
   after-node =
       let u = h .place .earlier in
       let v = h .place .from-le in
-      record { earlier = omega arith; from-is = h .place .from-is; from-le = omega arith; end-is = h .place .end-is }
+      record { earlier = omega arith; from-is = h .place .from-is; from-le = omega arith; end-is = h .place .end-is; kind-is = h .place .kind-is; depth-is = h .place .depth-is }
 
 module _ (T X : List ℕ) where
   -- where the children of the next node must begin
@@ -113,11 +134,11 @@ module _ (T X : List ℕ) where
   right-next i r h k l = right-more T X i r h k (omega arith)
 
 -- the cursor at the root, before node 1
-pub root-cursor : (T : List ℕ) (c : ℕ) → c ≡ childCount T 0 → CursorAt T 1 (record { parent = 0; from = 1; end = 1 + c })
-root-cursor T c z =
+pub root-cursor : (T : List ℕ) (c k d : ℕ) → c ≡ childCount T 0 → k ≡ kindAt T 0 → d ≡ depthAt T 0 → CursorAt T 1 (record { parent = 0; from = 1; end = 1 + c; kind = k; depth = d })
+root-cursor T c k d z u v =
     let a = counts-root T in
     let b = counts-next T 0 in
-    record { earlier = omega arith; from-is = omega arith; from-le = omega arith; end-is = omega arith }
+    record { earlier = omega arith; from-is = omega arith; from-le = omega arith; end-is = omega arith; kind-is = u; depth-is = v }
 
 pub root-first : (T : List ℕ) (c : ℕ) → c ≡ childCount T 0 → 1 + c ≡ firstChild T 1
 root-first T c z = let a = counts-root T in let b = counts-next T 0 in omega arith

@@ -6,7 +6,7 @@ use mathlib.Core.Bool.{Bool, true, false}
 use lib.ListN.{length}
 use Rattle.definition.specs.Bytes.{every}
 use Rattle.definition.specs.Limits.{maxNodes, maxMembers}
-use Rattle.definition.specs.Tables.{nodeCount, kindAt, kindMap, highWord, firstChild, keyStart, keyLength, nodeRight}
+use Rattle.definition.specs.Tables.{nodeCount, kindAt, depthAt, kindMap, highWord, firstChild, keyStart, keyLength, nodeRight}
 use Rattle.text.specs.Chars.{isAscii}
 use Rattle.table.specs.Buckets.{bucketAt}
 use Rattle.table.specs.Chains.{HeadsBelow, Chained, Roomy}
@@ -50,14 +50,6 @@ pub record Kept (T X : List ℕ) (i p f : ℕ) (H L : List ℕ) : Type 0 where
   pub room : Roomy T L
   pub chained : Large T p → Chained (bucketAt (length H) T X) f i H L
 
--- a node, an earlier node, and where the range of the earlier one's children begins, at or before the node
-pub record Child (T : List ℕ) (node parent from : ℕ) : Type 0 where
-  pub node-in : node < nodeCount T
-  pub earlier : parent < node
-  pub from-is : from ≡ firstChild T parent
-  pub from-le : from ≤ node
-  pub small : nodeCount T ≤ maxNodes
-
 -- a node of the table, with the place where its children must begin, which the table reaches
 pub record NodeAt (T : List ℕ) (node first : ℕ) : Type 0 where
   pub node-in : node < nodeCount T
@@ -71,17 +63,25 @@ pub record HasParent (T : List ℕ) (node : ℕ) : Type 0 where
   pub first-in : firstChild T node ≤ nodeCount T
   pub reached : node < firstChild T node
 
--- a cursor before node i: an earlier node at or before the parent of i, and the range of its children
+-- a cursor before node i: an earlier node at or before the parent of i, with the range of its children, its kind and its depth
 pub record CursorAt (T : List ℕ) (i : ℕ) (q : Cursor) : Type 0 where
   pub earlier : q .parent < i
   pub from-is : q .from ≡ firstChild T (q .parent)
   pub from-le : q .from ≤ i
   pub end-is : q .end ≡ firstChild T (suc (q .parent))
+  pub kind-is : q .kind ≡ kindAt T (q .parent)
+  pub depth-is : q .depth ≡ depthAt T (q .parent)
 
 -- a cursor at the parent of i
 pub record ParentAt (T : List ℕ) (i : ℕ) (q : Cursor) : Type 0 where
   pub place : CursorAt T i q
   pub end-past : i < q .end
+
+-- a node of the table under a cursor at its parent
+pub record Child (T : List ℕ) (i : ℕ) (q : Cursor) : Type 0 where
+  pub node-in : i < nodeCount T
+  pub under : ParentAt T i q
+  pub small : nodeCount T ≤ maxNodes
 
 -- the cursor, heads and links before node i, which the cursor's range reaches
 pub record Before (T X : List ℕ) (i : ℕ) (q : Cursor) (H L : List ℕ) : Type 0 where

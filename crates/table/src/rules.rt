@@ -7,6 +7,7 @@ ghost use Rattle.definition.specs.Tables.{nodeCount, kindAt, kindMap, firstChil
 ghost use Rattle.table.specs.Words.{Child, MembersBefore, Kept, AsciiIf};
 use crate::keys;
 use crate::records;
+use crate::scan::Cursor;
 use text::encoding;
 
 const RECORD: usize = 24;
@@ -26,7 +27,7 @@ const MAX_DEPTH: u8 = 63;
 const MAX_MEMBERS: u32 = 1024;
 
 // A key in a map of so many members is compared with each earlier one.
-const FEW_MEMBERS: u32 = 8;
+const FEW_MEMBERS: usize = 8;
 
 const FLOAT_SIGN: u64 = 9223372036854775808;
 
@@ -134,23 +135,22 @@ pub fn no_key(table: &[u8], node: usize) -> bool
     records::key_length(table, node) == 0
 }
 
-// The key of a member of a map, whose first member is from. heads and links hold the chains of the members before it, if there are many.
+// The key of a member of the map above. heads and links hold the chains of the members before it, if there are many.
 fn member_right(
     table: &[u8],
     text: &[u8],
     node: usize,
-    parent: usize,
-    from: usize,
+    above: Cursor,
     heads: &mut [u16],
     links: &mut [u16],
     ascii: bool,
 ) -> bool
-    requires { ⌜ Child (now table) node parent from ⌝ }
-    requires { ⌜ (kindAt (now table) parent ≡ kindMap) × MembersBefore (now table) (now text) from node ⌝ }
-    requires { ⌜ Kept (now table) (now text) node parent from (now heads) (now links) ⌝ }
+    requires { ⌜ Child (now table) node above ⌝ }
+    requires { ⌜ (kindAt (now table) (above .parent) ≡ kindMap) × MembersBefore (now table) (now text) (above .from) node ⌝ }
+    requires { ⌜ Kept (now table) (now text) node (above .parent) (above .from) (now heads) (now links) ⌝ }
     requires { ⌜ AsciiIf «ascii» (now text) ⌝ }
-    ensures { λ r. ⌜ r ≡ memberRight (now (table .entry)) (now (text .entry)) parent node ⌝ }
-    ensures { λ r. ⌜ (r ≡ true → Kept (now (table .entry)) (now (text .entry)) (node + 1) parent from (now (heads .exit)) (now (links .exit))) ⌝ }
+    ensures { λ r. ⌜ r ≡ memberRight (now (table .entry)) (now (text .entry)) (above .parent) node ⌝ }
+    ensures { λ r. ⌜ (r ≡ true → Kept (now (table .entry)) (now (text .entry)) (node + 1) (above .parent) (above .from) (now (heads .exit)) (now (links .exit))) ⌝ }
 {
     if !good_part(
         text,
@@ -160,41 +160,40 @@ fn member_right(
     ) {
         return false;
     }
-    if records::high_word(table, parent) <= FEW_MEMBERS {
+    let from = above.from;
+    if above.end - from <= FEW_MEMBERS {
         return keys::key_differs(table, text, node, from);
     }
     keys::joins_chain(table, text, node, from, heads, links)
 }
 
-// What a parent asks of its child: its number, the depth, and the key as the parent's kind has it. The parent's first child is from.
+// What the parent, which is above, asks of its child: its number, the depth, and the key as the parent's kind has it.
 pub fn place_right(
     table: &[u8],
     text: &[u8],
     node: usize,
-    parent: usize,
-    from: usize,
+    above: Cursor,
     heads: &mut [u16],
     links: &mut [u16],
     ascii: bool,
 ) -> bool
-    requires { ⌜ Child (now table) node parent from ⌝ }
-    requires { ⌜ (kindAt (now table) parent ≡ kindMap → MembersBefore (now table) (now text) from node) ⌝ }
-    requires { ⌜ Kept (now table) (now text) node parent from (now heads) (now links) ⌝ }
+    requires { ⌜ Child (now table) node above ⌝ }
+    requires { ⌜ (kindAt (now table) (above .parent) ≡ kindMap → MembersBefore (now table) (now text) (above .from) node) ⌝ }
+    requires { ⌜ Kept (now table) (now text) node (above .parent) (above .from) (now heads) (now links) ⌝ }
     requires { ⌜ AsciiIf «ascii» (now text) ⌝ }
-    ensures { λ r. ⌜ r ≡ placeRight (now (table .entry)) (now (text .entry)) node (some parent) ⌝ }
-    ensures { λ r. ⌜ (r ≡ true → Kept (now (table .entry)) (now (text .entry)) (node + 1) parent from (now (heads .exit)) (now (links .exit))) ⌝ }
+    ensures { λ r. ⌜ r ≡ placeRight (now (table .entry)) (now (text .entry)) node (some (above .parent)) ⌝ }
+    ensures { λ r. ⌜ (r ≡ true → Kept (now (table .entry)) (now (text .entry)) (node + 1) (above .parent) (above .from) (now (heads .exit)) (now (links .exit))) ⌝ }
 {
     let named = records::parent(table, node) as usize;
-    if named != parent {
+    if named != above.parent {
         return false;
     }
     let deep = records::depth(table, node) as usize;
-    let above = records::depth(table, parent) as usize;
-    if deep != above + 1 {
+    if deep != above.depth as usize + 1 {
         return false;
     }
-    if records::kind(table, parent) == KIND_MAP {
-        return member_right(table, text, node, parent, from, heads, links, ascii);
+    if above.kind == KIND_MAP {
+        return member_right(table, text, node, above, heads, links, ascii);
     }
     no_key(table, node)
 }

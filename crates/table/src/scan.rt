@@ -19,11 +19,13 @@ const MAX_MEMBERS: usize = 1024;
 
 const FEW_NODES: usize = 128;
 
-// A node with the range of its children.
+// A node with the range of its children, its kind and its depth, which are read once for all of them.
 pub struct Cursor {
     pub parent: usize,
     pub from: usize,
     pub end: usize,
+    pub kind: u8,
+    pub depth: u8,
 }
 
 // What was found at a node: the cursor before the next node, or a broken rule.
@@ -37,6 +39,9 @@ fn to_parent(table: &[u8], node: usize, cursor: Cursor) -> Cursor
     requires { ⌜ HasParent (now table) node × CursorAt (now table) node cursor ⌝ }
     ensures { λ r. ⌜ ParentAt (now (table .entry)) node r ⌝ }
 {
+    if node < cursor.end {
+        return cursor;
+    }
     let mut parent = cursor.parent;
     let mut from = cursor.from;
     let mut end = cursor.end;
@@ -45,7 +50,15 @@ fn to_parent(table: &[u8], node: usize, cursor: Cursor) -> Cursor
         from = end;
         end += records::child_count(table, parent) as usize;
     }
-    Cursor { parent, from, end }
+    let kind = records::kind(table, parent);
+    let depth = records::depth(table, parent);
+    Cursor {
+        parent,
+        from,
+        end,
+        kind,
+        depth,
+    }
 }
 
 // Holds a node behind the root against the rules. Its children must begin at first.
@@ -75,9 +88,7 @@ fn check_node(
         return NodeChecked::Wrong;
     }
     let found = to_parent(table, node, cursor);
-    let parent = found.parent;
-    let from = found.from;
-    if !rules::place_right(table, text, node, parent, from, heads, links, ascii) {
+    if !rules::place_right(table, text, node, found, heads, links, ascii) {
         return NodeChecked::Wrong;
     }
     NodeChecked::Next(found)
@@ -151,10 +162,14 @@ pub fn scan(table: &[u8], text: &[u8]) -> TableChecked
         return TableChecked::WrongNode(0);
     }
     let end = 1 + records::child_count(table, 0) as usize;
+    let kind = records::kind(table, 0);
+    let depth = records::depth(table, 0);
     let root = Cursor {
         parent: 0,
         from: 1,
         end,
+        kind,
+        depth,
     };
     let ascii = encoding::short_ascii(text, table.len());
     if table.len() / RECORD <= FEW_NODES {

@@ -6,6 +6,7 @@ use Prim.Native.Nat.{ℕ, _-_}
 use borrow.Author.Tests.{not-true, not-false}
 use Rattle.definition.specs.Tables.{goodPart, keyDiffers, keyStart, keyLength}
 use Rattle.tables.specs.Rights.{good-inside, member-bad, member-good}
+use Rattle.table.proofs.Cursor.{found-count}
 use Rattle.table.proofs.Inside.{more-keys}
 use Rattle.table.proofs.Kept.{kept-plain, kept-chained, roomy-same}
 use borrow.Author.Needs.{needs}
@@ -25,38 +26,38 @@ returns : tie.Need-returns
 returns c =
     let a = c .before .before .before .before .before .before .before .before .args in
     let g = sym (c .before .good-part .ensures ∙ ap₂ (goodPart (a .text .now)) (c .before .before .before .key-start .ensures) (c .before .before .key-length .ensures)) ∙ not-true _ (c .if1 .taken) in
-    (sym (member-bad (a .table .now) (a .text .now) (a .node) (a .parent) g), λ z. absurd (false≢true z))
+    (sym (member-bad (a .table .now) (a .text .now) (a .node) (a .above .parent) g), λ z. absurd (false≢true z))
 
-high-word-requires : tie.Need-high-word-requires
-high-word-requires c κs = search needs
+sub-if2 : tie.Need-sub-if2
+sub-if2 c = search needs
 
 key-differs-requires : tie.Need-key-differs-requires
 key-differs-requires c κs =
     let s = c .before .before .before .before .before .before .before .before .before .before in
     let a = s .args in
     let g = sym (c .before .before .before .good-part .ensures ∙ ap₂ (goodPart (a .text .now)) (c .before .before .before .before .before .key-start .ensures) (c .before .before .before .before .key-length .ensures)) ∙ not-false _ (c .before .before .if1 .left) in
-    (s .pre .0 .from-le, more-keys (a .table .now) (a .text .now) (a .from) (a .node) (s .pre .1 .0 .1 .inside) (s .pre .0 .node-in) (good-inside (a .text .now) (keyStart (a .table .now) (a .node)) (keyLength (a .table .now) (a .node)) g))
+    (s .pre .0 .under .place .from-le, more-keys (a .table .now) (a .text .now) (a .above .from) (a .node) (s .pre .1 .0 .1 .inside) (s .pre .0 .node-in) (good-inside (a .text .now) (keyStart (a .table .now) (a .node)) (keyLength (a .table .now) (a .node)) g))
 
 returns-2 : tie.Need-returns-2
 returns-2 c =
     let s = c .before .before .before .before .before .before .before .before .before .before .before in
     let a = s .args in
     let g = sym (c .before .before .before .before .good-part .ensures ∙ ap₂ (goodPart (a .text .now)) (c .before .before .before .before .before .before .key-start .ensures) (c .before .before .before .before .before .key-length .ensures)) ∙ not-false _ (c .before .before .before .if1 .left) in
-    let w = c .before .before .high-word .ensures in
+    let w = found-count (a .table .now) (a .node) (a .above) (s .pre .0 .under) (s .pre .1 .0 .0) in
     let t = c .before .if2 .taken in
-    (c .key-differs .ensures ∙ ap (λ (x : ℕ). keyDiffers (a .table .now) (a .text .now) (a .node) x (a .node - x)) (s .pre .0 .from-is) ∙ sym (member-good (a .table .now) (a .text .now) (a .node) (a .parent) g), λ _. kept-plain (a .table .now) (a .text .now) (a .node) (a .parent) (a .from) (a .heads .now) (a .links .now) (s .pre .1 .1 .0) (λ l. let m = l .many in omega arith))
+    (c .key-differs .ensures ∙ ap (λ (x : ℕ). keyDiffers (a .table .now) (a .text .now) (a .node) x (a .node - x)) (s .pre .0 .under .place .from-is) ∙ sym (member-good (a .table .now) (a .text .now) (a .node) (a .above .parent) g), λ _. kept-plain (a .table .now) (a .text .now) (a .node) (a .above .parent) (a .above .from) (a .heads .now) (a .links .now) (s .pre .1 .1 .0) (λ l. let m = l .many in omega arith))
 
 joins-chain-requires : tie.Need-joins-chain-requires
 joins-chain-requires c κs =
     let s = c .before .before .before .before .before .before .before .before .before .before .before .before in
     let a = s .args in
     let g = sym (c .before .before .before .before .before .good-part .ensures ∙ ap₂ (goodPart (a .text .now)) (c .before .before .before .before .before .before .before .key-start .ensures) (c .before .before .before .before .before .before .key-length .ensures)) ∙ not-false _ (c .before .before .before .before .if1 .left) in
-    let k = more-keys (a .table .now) (a .text .now) (a .from) (a .node) (s .pre .1 .0 .1 .inside) (s .pre .0 .node-in) (good-inside (a .text .now) (keyStart (a .table .now) (a .node)) (keyLength (a .table .now) (a .node)) g) in
-    let w = c .before .before .before .high-word .ensures in
+    let k = more-keys (a .table .now) (a .text .now) (a .above .from) (a .node) (s .pre .1 .0 .1 .inside) (s .pre .0 .node-in) (good-inside (a .text .now) (keyStart (a .table .now) (a .node)) (keyLength (a .table .now) (a .node)) g) in
+    let w = found-count (a .table .now) (a .node) (a .above) (s .pre .0 .under) (s .pre .1 .0 .0) in
     let t = c .before .before .if2 .left in
     let n = s .pre .0 .node-in in
     let m = s .pre .0 .small in
-    (record { inside = k; from-le = s .pre .0 .from-le; few = s .pre .1 .0 .1 .few; small = omega arith }, (s .pre .1 .1 .0 .chained (record { is-map = s .pre .1 .0 .0; many = omega arith }), s .pre .1 .1 .0 .room .place (a .from) (a .node) n (s .pre .1 .0 .1 .few)))
+    (record { inside = k; from-le = s .pre .0 .under .place .from-le; few = s .pre .1 .0 .1 .few; small = omega arith }, (s .pre .1 .1 .0 .chained (record { is-map = s .pre .1 .0 .0; many = omega arith }), s .pre .1 .1 .0 .room .place (a .above .from) (a .node) n (s .pre .1 .0 .1 .few)))
 
 same-length : tie.Need-same-length
 same-length c = search needs
@@ -70,7 +71,7 @@ returns-3 c =
     let a = s .args in
     let j = c .before .before .before .before .joins-chain in
     let g = sym (c .before .before .before .before .before .before .before .before .before .before .good-part .ensures ∙ ap₂ (goodPart (a .text .now)) (c .before .before .before .before .before .before .before .before .before .before .before .before .key-start .ensures) (c .before .before .before .before .before .before .before .before .before .before .before .key-length .ensures)) ∙ not-false _ (c .before .before .before .before .before .before .before .before .before .if1 .left) in
-    (j .ensures .0 ∙ ap (λ (x : ℕ). keyDiffers (a .table .now) (a .text .now) (a .node) x (a .node - x)) (s .pre .0 .from-is) ∙ sym (member-good (a .table .now) (a .text .now) (a .node) (a .parent) g), λ z. kept-chained (a .table .now) (a .text .now) (a .node) (a .parent) (a .from) _ _ (j .ensures .1 .0 z) (roomy-same (j .ensures .1 .1) (s .pre .1 .1 .0 .room)))
+    (j .ensures .0 ∙ ap (λ (x : ℕ). keyDiffers (a .table .now) (a .text .now) (a .node) x (a .node - x)) (s .pre .0 .under .place .from-is) ∙ sym (member-good (a .table .now) (a .text .now) (a .node) (a .above .parent) g), λ z. kept-chained (a .table .now) (a .text .now) (a .node) (a .above .parent) (a .above .from) _ _ (j .ensures .1 .0 z) (roomy-same (j .ensures .1 .1) (s .pre .1 .1 .0 .room)))
 
 pub member-right-spec : {M : Type 1} → statement M
 member-right-spec =
@@ -80,7 +81,7 @@ member-right-spec =
     key-length-requires
     good-part-requires
     returns
-    high-word-requires
+    sub-if2
     key-differs-requires
     returns-2
     joins-chain-requires

@@ -16,8 +16,8 @@ cast-named c = search needs
 
 returns : tie.Need-returns
 returns c =
-    let a = c .before .before .before .before .before .before .args in
-    (sym (place-parent (a .table .now) (a .text .now) (a .node) (a .parent) (omega arith)), λ z. absurd (false≢true z))
+    let a = c .before .before .before .before .before .before .before .args in
+    (sym (place-parent (a .table .now) (a .text .now) (a .node) (a .above .parent) (omega arith)), λ z. absurd (false≢true z))
 
 depth-requires : tie.Need-depth-requires
 depth-requires c κs = search needs
@@ -25,27 +25,23 @@ depth-requires c κs = search needs
 cast-deep : tie.Need-cast-deep
 cast-deep c = search needs
 
-depth-requires-2 : tie.Need-depth-requires-2
-depth-requires-2 c κs = search needs
-
-cast-above : tie.Need-cast-above
-cast-above c = search needs
+cast-if2 : tie.Need-cast-if2
+cast-if2 c = search needs
 
 add-if2 : tie.Need-add-if2
 add-if2 c = search needs
 
 returns-2 : tie.Need-returns-2
 returns-2 c =
-    let a = c .before .before .before .before .before .before .before .before .before .args in
-    (sym (place-depth (a .table .now) (a .text .now) (a .node) (a .parent) (omega arith)), λ z. absurd (false≢true z))
-
-kind-requires : tie.Need-kind-requires
-kind-requires c κs = search needs
+    let s = c .before .before .before .before .before .before .before .before .before .before in
+    let a = s .args in
+    let d = s .pre .0 .under .place .depth-is in
+    (sym (place-depth (a .table .now) (a .text .now) (a .node) (a .above .parent) (omega arith)), λ z. absurd (false≢true z))
 
 member-right-requires : tie.Need-member-right-requires
 member-right-requires c κs =
-    let s = c .before .before .before .before .before .before .before .before .before .before .before .before .before in
-    let e = c .before .before .before .kind .ensures in
+    let s = c .before .before .before .before .before .before .before .before .before .before .before .before .before .before in
+    let e = s .pre .0 .under .place .kind-is in
     let t = c .before .before .if3 .taken in
     (s .pre .0, ((omega arith, s .pre .1 .0 (omega arith)), s .pre .1 .1))
 
@@ -57,26 +53,29 @@ same-length-2 c = search needs
 
 returns-3 : tie.Need-returns-3
 returns-3 c =
-    let a = c .before .before .before .before .before .before .before .before .before .before .before .before .before .before .before .before .before .before .args in
+    let s = c .before .before .before .before .before .before .before .before .before .before .before .before .before .before .before .before .before .before .before in
+    let a = s .args in
     let m = c .before .before .before .before .member-right in
-    let d = c .before .before .before .before .before .before .before .before .before .if2 .left in
-    let x = c .before .before .before .before .before .before .before .before .before .before .before .depth .ensures in
-    let y = c .before .before .before .before .before .before .before .before .before .before .depth2 .ensures in
+    let p = c .before .before .before .before .before .before .before .before .before .before .before .before .before .before .parent .ensures in
     let n = c .before .before .before .before .before .before .before .before .before .before .before .before .if1 .left in
-    let p = c .before .before .before .before .before .before .before .before .before .before .before .before .before .parent .ensures in
-    let k = c .before .before .before .before .before .before .before .before .kind .ensures in
+    let x = c .before .before .before .before .before .before .before .before .before .before .before .depth .ensures in
+    let y = s .pre .0 .under .place .depth-is in
+    let d = c .before .before .before .before .before .before .before .before .before .if2 .left in
+    let k = s .pre .0 .under .place .kind-is in
     let t = c .before .before .before .before .before .before .before .if3 .taken in
-    (m .ensures .0 ∙ sym (place-member (a .table .now) (a .text .now) (a .node) (a .parent) (omega arith) (omega arith) (omega arith)), m .ensures .1)
+    (m .ensures .0 ∙ sym (place-member (a .table .now) (a .text .now) (a .node) (a .above .parent) (omega arith) (omega arith) (omega arith)), m .ensures .1)
 
 no-key-requires : tie.Need-no-key-requires
 no-key-requires c κs = search needs
 
 returns-4 : tie.Need-returns-4
 returns-4 c =
-    let s = c .before .before .before .before .before .before .before .before .before .before .before .before in
+    let s = c .before .before .before .before .before .before .before .before .before .before .before .before .before in
     let a = s .args in
+    let y = s .pre .0 .under .place .depth-is in
+    let k = s .pre .0 .under .place .kind-is in
     let t = c .before .if3 .left in
-    (c .no-key .ensures ∙ sym (place-plain (a .table .now) (a .text .now) (a .node) (a .parent) (omega arith) (omega arith) (omega arith)), λ _. kept-plain (a .table .now) (a .text .now) (a .node) (a .parent) (a .from) (a .heads .now) (a .links .now) (s .pre .1 .1 .0) (λ l. let m = l .is-map in omega arith))
+    (c .no-key .ensures ∙ sym (place-plain (a .table .now) (a .text .now) (a .node) (a .above .parent) (omega arith) (omega arith) (omega arith)), λ _. kept-plain (a .table .now) (a .text .now) (a .node) (a .above .parent) (a .above .from) (a .heads .now) (a .links .now) (s .pre .1 .1 .0) (λ l. let m = l .is-map in omega arith))
 
 pub place-right-spec : {M : Type 1} → statement M
 place-right-spec =
@@ -87,11 +86,9 @@ place-right-spec =
     returns
     depth-requires
     cast-deep
-    depth-requires-2
-    cast-above
+    cast-if2
     add-if2
     returns-2
-    kind-requires
     member-right-requires
     same-length
     same-length-2

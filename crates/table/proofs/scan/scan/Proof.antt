@@ -33,27 +33,37 @@ cast-end c = search needs
 add-end : tie.Need-add-end
 add-end c = search needs
 
+kind-requires : tie.Need-kind-requires
+kind-requires c κs = search needs
+
+depth-requires : tie.Need-depth-requires
+depth-requires c κs = search needs
+
 short-ascii-requires : tie.Need-short-ascii-requires
 short-ascii-requires c κs = search needs
 
 with-few-requires : tie.Need-with-few-requires
 with-few-requires c κs =
-    let s = c .before .before .before .before .before .before .before in
+    let s = c .before .before .before .before .before .before .before .before .before in
     let a = s .args in
-    let n = c .before .before .child-count in
-    let r = sym (c .before .before .before .before .root-right .ensures) ∙ not-false _ (c .before .before .before .if1 .left) in
-    ((root-first (a .table .now) (n .result) (n .ensures), root-cursor (a .table .now) (n .result) (n .ensures)), ((s .pre .0, s .pre .1, root-below (a .table .now) (a .text .now) r), (c .if2 .taken, c .before .short-ascii .ensures)))
+    let n = c .before .before .before .before .child-count in
+    let k = c .before .before .before .kind in
+    let d = c .before .before .depth in
+    let r = sym (c .before .before .before .before .before .before .root-right .ensures) ∙ not-false _ (c .before .before .before .before .before .if1 .left) in
+    ((root-first (a .table .now) (n .result) (n .ensures), root-cursor (a .table .now) (n .result) (k .result) (d .result) (n .ensures) (k .ensures) (d .ensures)), ((s .pre .0, s .pre .1, root-below (a .table .now) (a .text .now) r), (c .if2 .taken, c .before .short-ascii .ensures)))
 
 returns-2 : tie.Need-returns-2
 returns-2 c = search needs
 
 with-chains-requires : tie.Need-with-chains-requires
 with-chains-requires c κs =
-    let s = c .before .before .before .before .before .before .before in
+    let s = c .before .before .before .before .before .before .before .before .before in
     let a = s .args in
-    let n = c .before .before .child-count in
-    let r = sym (c .before .before .before .before .root-right .ensures) ∙ not-false _ (c .before .before .before .if1 .left) in
-    ((root-first (a .table .now) (n .result) (n .ensures), root-cursor (a .table .now) (n .result) (n .ensures)), ((s .pre .0, s .pre .1, root-below (a .table .now) (a .text .now) r), c .before .short-ascii .ensures))
+    let n = c .before .before .before .before .child-count in
+    let k = c .before .before .before .kind in
+    let d = c .before .before .depth in
+    let r = sym (c .before .before .before .before .before .before .root-right .ensures) ∙ not-false _ (c .before .before .before .before .before .if1 .left) in
+    ((root-first (a .table .now) (n .result) (n .ensures), root-cursor (a .table .now) (n .result) (k .result) (d .result) (n .ensures) (k .ensures) (d .ensures)), ((s .pre .0, s .pre .1, root-below (a .table .now) (a .text .now) r), c .before .short-ascii .ensures))
 
 returns-3 : tie.Need-returns-3
 returns-3 c = search needs
@@ -67,6 +77,8 @@ scan-spec =
     child-count-requires
     cast-end
     add-end
+    kind-requires
+    depth-requires
     short-ascii-requires
     with-few-requires
     returns-2

@@ -1,33 +1,38 @@
--- The cursor moves forward from node to node, and stops at the parent. Assumes nothing.
+-- A cursor whose range has the node stays. Another one moves forward from node to node, stops at the parent, and has its kind and depth. Assumes nothing.
 use native.Mathlib.Omega.{arith}
 use borrow.Author.Needs.{needs}
 use Prim.Native.Nat.{_-_}
 use Rattle.table.specs.Words.{CursorAt}
-use Rattle.table.proofs.Cursor.{next-earlier, next-inside, next-cursor}
+use Rattle.table.proofs.Cursor.{ranged, cursor-ranged, ranged-read, next-earlier, next-inside, next-cursor}
 use Rattle.table.proofs.scan.to_parent.Statement.{statement}
 use Rattle.table.proofs.scan.to_parent.Tie as tie
 
 abbrev Inv-loop : tie.InvT-loop
-Inv-loop table node parent₀ from₀ end₀ parent from end = CursorAt table node (record { parent = parent; from = from; end = end })
+Inv-loop table node parent₀ from₀ end₀ parent from end = CursorAt table node (ranged table parent from end)
 
 abbrev μ-loop : tie.MeasureT-loop
 μ-loop table node parent₀ from₀ end₀ parent from end = node - parent
 
+returns : tie.Need-returns Inv-loop μ-loop
+returns c = record { place = c .before .before .before .pre .1; end-past = c .if1 .taken }
+
 loop-holds : tie.Need-loop-holds Inv-loop μ-loop
-loop-holds c = c .before .pre .1
+loop-holds c = let s = c .before .before .before in cursor-ranged (s .args .table .now) (s .args .node) (s .args .cursor) (s .pre .1)
 
 add-parent : tie.Need-add-parent Inv-loop μ-loop
 add-parent c =
     let l = c .before .loop in
-    let s = c .before .before .before in
-    let e = next-earlier (s .args .table .now) (s .args .node) (record { parent = l .parent; from = l .from; end = l .end }) (s .pre .0) (l .inv) (c .loop-test .taken) in
+    let s = c .before .before .before .before .before in
+    let t = s .args .table .now in
+    let e = next-earlier t (s .args .node) (ranged t (l .parent) (l .from) (l .end)) (s .pre .0) (l .inv) (c .loop-test .taken) in
     omega arith
 
 child-count-requires : tie.Need-child-count-requires Inv-loop μ-loop
 child-count-requires c κs =
     let l = c .before .loop in
-    let s = c .before .before .before in
-    let e = next-earlier (s .args .table .now) (s .args .node) (record { parent = l .parent; from = l .from; end = l .end }) (s .pre .0) (l .inv) (c .loop-test .taken) in
+    let s = c .before .before .before .before .before in
+    let t = s .args .table .now in
+    let e = next-earlier t (s .args .node) (ranged t (l .parent) (l .from) (l .end)) (s .pre .0) (l .inv) (c .loop-test .taken) in
     omega (arith, s .pre .0 .node-in)
 
 cast-end : tie.Need-cast-end Inv-loop μ-loop
@@ -36,25 +41,37 @@ cast-end c = search needs
 add-end : tie.Need-add-end Inv-loop μ-loop
 add-end c =
     let l = c .before .before .loop in
-    let s = c .before .before .before .before in
-    let e = next-inside (s .args .table .now) (s .args .node) (record { parent = l .parent; from = l .from; end = l .end }) (s .pre .0) (l .inv) (c .before .loop-test .taken) in
+    let s = c .before .before .before .before .before .before in
+    let t = s .args .table .now in
+    let e = next-inside t (s .args .node) (ranged t (l .parent) (l .from) (l .end)) (s .pre .0) (l .inv) (c .before .loop-test .taken) in
     omega (arith, s .pre .0 .first-in)
 
 loop-less : tie.Need-loop-less Inv-loop μ-loop
 loop-less c =
     let l = c .before .before .loop in
-    let s = c .before .before .before .before in
-    let e = next-earlier (s .args .table .now) (s .args .node) (record { parent = l .parent; from = l .from; end = l .end }) (s .pre .0) (l .inv) (c .before .loop-test .taken) in
+    let s = c .before .before .before .before .before .before in
+    let t = s .args .table .now in
+    let e = next-earlier t (s .args .node) (ranged t (l .parent) (l .from) (l .end)) (s .pre .0) (l .inv) (c .before .loop-test .taken) in
     omega arith
 
 loop-again : tie.Need-loop-again Inv-loop μ-loop
 loop-again c =
     let l = c .before .before .loop in
-    let s = c .before .before .before .before in
-    next-cursor (s .args .table .now) (s .args .node) (record { parent = l .parent; from = l .from; end = l .end }) (s .pre .0) (l .inv) (c .before .loop-test .taken) (c .child-count .result) (c .child-count .ensures)
+    let s = c .before .before .before .before .before .before in
+    let t = s .args .table .now in
+    next-cursor t (s .args .node) (ranged t (l .parent) (l .from) (l .end)) (s .pre .0) (l .inv) (c .before .loop-test .taken) (c .child-count .result) (c .child-count .ensures)
 
-returns : tie.Need-returns Inv-loop μ-loop
-returns c = record { place = c .before .loop .inv; end-past = c .loop-test .left }
+kind-requires : tie.Need-kind-requires Inv-loop μ-loop
+kind-requires c κs = let e = c .before .loop .inv .earlier in let n = c .before .before .before .before .before .pre .0 .node-in in omega arith
+
+depth-requires : tie.Need-depth-requires Inv-loop μ-loop
+depth-requires c κs = let e = c .before .before .loop .inv .earlier in let n = c .before .before .before .before .before .before .pre .0 .node-in in omega arith
+
+returns-2 : tie.Need-returns-2 Inv-loop μ-loop
+returns-2 c =
+    let a = c .before .before .before .before .before .before .before .args in
+    let l = c .before .before .before .loop in
+    record { place = ranged-read (a .table .now) (a .node) _ (c .before .kind .ensures) (c .depth .ensures) (l .inv); end-past = c .before .before .loop-test .left }
 
 pub to-parent-spec : {M : Type 1} → statement M
 to-parent-spec =
@@ -62,6 +79,7 @@ to-parent-spec =
     (tie.spec
     Inv-loop
     μ-loop
+    returns
     loop-holds
     add-parent
     child-count-requires
@@ -69,4 +87,6 @@ to-parent-spec =
     add-end
     loop-less
     loop-again
-    returns)
+    kind-requires
+    depth-requires
+    returns-2)
