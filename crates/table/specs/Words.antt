@@ -4,19 +4,13 @@ use mathlib.Core.Path.{_≡_}
 use mathlib.Core.List.{List}
 use mathlib.Core.Bool.{Bool, true, false}
 use lib.ListN.{length}
-use Rattle.definition.specs.Bytes.{every}
 use Rattle.definition.specs.Limits.{maxNodes, maxMembers}
 use Rattle.definition.specs.Tables.{nodeCount, kindAt, depthAt, kindMap, highWord, firstChild, keyStart, keyLength, nodeRight}
-use Rattle.text.specs.Chars.{isAscii}
 use Rattle.table.specs.Buckets.{bucketAt}
 use Rattle.table.specs.Chains.{HeadsBelow, Chained, Roomy}
 use Rattle.table.specs.declared.scan.Cursor.{Cursor}
 use Rattle.table.specs.declared.scan.NodeChecked.{NodeChecked}
 use Rattle.table.specs.declared.scan.NodeChecked.the-variants.{Next, Wrong}
-
--- where a flag is set, a text is ASCII throughout
-abbrev pub AsciiIf : Bool → List ℕ → Type 0
-AsciiIf b X = b ≡ true → every isAscii X ≡ true
 
 -- the nodes from a place up to an end are nodes of the table, and their keys lie inside the text
 pub record KeysInside (T X : List ℕ) (from end : ℕ) : Type 0 where

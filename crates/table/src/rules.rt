@@ -4,7 +4,8 @@ ghost use mathlib.Core.Option.{some};
 ghost use mathlib.Core.Bool.{true};
 ghost use Prim.Native.Nat.{_<_, _+_};
 ghost use Rattle.definition.specs.Tables.{nodeCount, kindAt, kindMap, firstChild, goodPart, headRight, isFinite, rangeRight, payloadRight, noKey, memberRight, placeRight, nodeRight};
-ghost use Rattle.table.specs.Words.{Child, MembersBefore, Kept, AsciiIf};
+ghost use Rattle.text.specs.Known.{Known};
+ghost use Rattle.table.specs.Words.{Child, MembersBefore, Kept};
 use crate::keys;
 use crate::records;
 use crate::scan::Cursor;
@@ -35,9 +36,9 @@ const FLOAT_UNIT: u64 = 4503599627370496;
 
 const FLOAT_ONES: u64 = 2047;
 
-// Whether a part of the text lies inside it and is UTF-8. Where the text is known to be ASCII, the part is not looked at.
-pub fn good_part(text: &[u8], at: u32, size: u32, ascii: bool) -> bool
-    requires { ⌜ AsciiIf «ascii» (now text) ⌝ }
+// Whether a part of the text lies inside it and is UTF-8. Where the text is known to be ASCII, the part is not looked at; where it is known to be UTF-8, the part's two ends are.
+pub fn good_part(text: &[u8], at: u32, size: u32, known: u8) -> bool
+    requires { ⌜ Known known (now text) ⌝ }
     ensures { λ r. ⌜ r ≡ goodPart (now (text .entry)) at size ⌝ }
 {
     let start = at as usize;
@@ -45,8 +46,11 @@ pub fn good_part(text: &[u8], at: u32, size: u32, ascii: bool) -> bool
     if text.len() < end {
         return false;
     }
-    if ascii {
+    if known == encoding::KNOWN_ASCII {
         return true;
+    }
+    if known == encoding::KNOWN_UTF8 {
+        return encoding::part_between(text, start, end);
     }
     encoding::is_utf8(&text[start..end])
 }
@@ -92,9 +96,9 @@ pub fn range_right(table: &[u8], node: usize, first: usize) -> bool
 }
 
 // Bytes 16-23, as the kind asks; first is where the range of a container's children must begin.
-pub fn payload_right(table: &[u8], text: &[u8], node: usize, first: usize, ascii: bool) -> bool
+pub fn payload_right(table: &[u8], text: &[u8], node: usize, first: usize, known: u8) -> bool
     requires { ⌜ (node < nodeCount (now table)) × (first ≡ firstChild (now table) node) ⌝ }
-    requires { ⌜ AsciiIf «ascii» (now text) ⌝ }
+    requires { ⌜ Known known (now text) ⌝ }
     ensures { λ r. ⌜ r ≡ payloadRight (now (table .entry)) (now (text .entry)) node ⌝ }
 {
     let k = records::kind(table, node);
@@ -112,7 +116,7 @@ pub fn payload_right(table: &[u8], text: &[u8], node: usize, first: usize, ascii
             text,
             records::low_word(table, node),
             records::high_word(table, node),
-            ascii,
+            known,
         );
     }
     if k == KIND_LIST {
@@ -143,12 +147,12 @@ fn member_right(
     above: Cursor,
     heads: &mut [u16],
     links: &mut [u16],
-    ascii: bool,
+    known: u8,
 ) -> bool
     requires { ⌜ Child (now table) node above ⌝ }
     requires { ⌜ (kindAt (now table) (above .parent) ≡ kindMap) × MembersBefore (now table) (now text) (above .from) node ⌝ }
     requires { ⌜ Kept (now table) (now text) node (above .parent) (above .from) (now heads) (now links) ⌝ }
-    requires { ⌜ AsciiIf «ascii» (now text) ⌝ }
+    requires { ⌜ Known known (now text) ⌝ }
     ensures { λ r. ⌜ r ≡ memberRight (now (table .entry)) (now (text .entry)) (above .parent) node ⌝ }
     ensures { λ r. ⌜ (r ≡ true → Kept (now (table .entry)) (now (text .entry)) (node + 1) (above .parent) (above .from) (now (heads .exit)) (now (links .exit))) ⌝ }
 {
@@ -156,7 +160,7 @@ fn member_right(
         text,
         records::key_start(table, node),
         records::key_length(table, node),
-        ascii,
+        known,
     ) {
         return false;
     }
@@ -175,12 +179,12 @@ pub fn place_right(
     above: Cursor,
     heads: &mut [u16],
     links: &mut [u16],
-    ascii: bool,
+    known: u8,
 ) -> bool
     requires { ⌜ Child (now table) node above ⌝ }
     requires { ⌜ (kindAt (now table) (above .parent) ≡ kindMap → MembersBefore (now table) (now text) (above .from) node) ⌝ }
     requires { ⌜ Kept (now table) (now text) node (above .parent) (above .from) (now heads) (now links) ⌝ }
-    requires { ⌜ AsciiIf «ascii» (now text) ⌝ }
+    requires { ⌜ Known known (now text) ⌝ }
     ensures { λ r. ⌜ r ≡ placeRight (now (table .entry)) (now (text .entry)) node (some (above .parent)) ⌝ }
     ensures { λ r. ⌜ (r ≡ true → Kept (now (table .entry)) (now (text .entry)) (node + 1) (above .parent) (above .from) (now (heads .exit)) (now (links .exit))) ⌝ }
 {
@@ -193,7 +197,7 @@ pub fn place_right(
         return false;
     }
     if above.kind == KIND_MAP {
-        return member_right(table, text, node, above, heads, links, ascii);
+        return member_right(table, text, node, above, heads, links, known);
     }
     no_key(table, node)
 }
@@ -206,7 +210,7 @@ pub fn root_right(table: &[u8], text: &[u8]) -> bool
     if !head_right(table, 0) {
         return false;
     }
-    if !payload_right(table, text, 0, 1, false) {
+    if !payload_right(table, text, 0, 1, encoding::NOT_KNOWN) {
         return false;
     }
     if records::parent(table, 0) != 0 {

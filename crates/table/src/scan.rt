@@ -5,7 +5,8 @@ ghost use Rattle.definition.specs.Limits.{maxNodes};
 ghost use Rattle.definition.specs.Tables.{nodeCount, firstChild, leastWrong, byLeast};
 ghost use Rattle.definition.specs.TableOutcomes.{reportTable};
 ghost use Rattle.tables.specs.Least.{RightBelow};
-ghost use Rattle.table.specs.Words.{NodeAt, HasParent, CursorAt, ParentAt, Before, NodeFound, AsciiIf};
+ghost use Rattle.text.specs.Known.{Known};
+ghost use Rattle.table.specs.Words.{NodeAt, HasParent, CursorAt, ParentAt, Before, NodeFound};
 ghost use Rattle.table.specs.Outcomes.{reported};
 use crate::TableChecked;
 use crate::buckets;
@@ -70,12 +71,12 @@ fn check_node(
     cursor: Cursor,
     heads: &mut [u16],
     links: &mut [u16],
-    ascii: bool,
+    known: u8,
 ) -> NodeChecked
     requires { ⌜ NodeAt (now table) node first ⌝ }
     requires { ⌜ Before (now table) (now text) node cursor (now heads) (now links) ⌝ }
     requires { ⌜ RightBelow (now table) (now text) node ⌝ }
-    requires { ⌜ AsciiIf «ascii» (now text) ⌝ }
+    requires { ⌜ Known known (now text) ⌝ }
     ensures { λ r. ⌜ NodeFound (now (table .entry)) (now (text .entry)) node (now (heads .exit)) (now (links .exit)) r ⌝ }
 {
     if first <= node {
@@ -84,11 +85,11 @@ fn check_node(
     if !rules::head_right(table, node) {
         return NodeChecked::Wrong;
     }
-    if !rules::payload_right(table, text, node, first, ascii) {
+    if !rules::payload_right(table, text, node, first, known) {
         return NodeChecked::Wrong;
     }
     let found = to_parent(table, node, cursor);
-    if !rules::place_right(table, text, node, found, heads, links, ascii) {
+    if !rules::place_right(table, text, node, found, heads, links, known) {
         return NodeChecked::Wrong;
     }
     NodeChecked::Next(found)
@@ -102,11 +103,11 @@ fn rest(
     root: Cursor,
     heads: &mut [u16],
     links: &mut [u16],
-    ascii: bool,
+    known: u8,
 ) -> TableChecked
     requires { ⌜ (start ≡ firstChild (now table) 1) × Before (now table) (now text) 1 root (now heads) (now links) ⌝ }
     requires { ⌜ (0 < nodeCount (now table)) × (nodeCount (now table) ≤ maxNodes) × RightBelow (now table) (now text) 1 ⌝ }
-    requires { ⌜ AsciiIf «ascii» (now text) ⌝ }
+    requires { ⌜ Known known (now text) ⌝ }
     ensures { λ r. ⌜ reported r ≡ reportTable (byLeast (leastWrong (now (table .entry)) (now (text .entry)) 0 (nodeCount (now (table .entry))))) ⌝ }
 {
     let count = table.len() / RECORD;
@@ -114,7 +115,7 @@ fn rest(
     let mut first = start;
     let mut node = 1;
     while node < count {
-        match check_node(table, text, node, first, cursor, heads, links, ascii) {
+        match check_node(table, text, node, first, cursor, heads, links, known) {
             NodeChecked::Next(found) => {
                 cursor = found;
                 first += records::child_count(table, node) as usize;
@@ -129,28 +130,28 @@ fn rest(
 }
 
 // The same, with room for chains of which none is begun.
-fn with_chains(table: &[u8], text: &[u8], start: usize, root: Cursor, ascii: bool) -> TableChecked
+fn with_chains(table: &[u8], text: &[u8], start: usize, root: Cursor, known: u8) -> TableChecked
     requires { ⌜ (start ≡ firstChild (now table) 1) × CursorAt (now table) 1 root ⌝ }
     requires { ⌜ (0 < nodeCount (now table)) × (nodeCount (now table) ≤ maxNodes) × RightBelow (now table) (now text) 1 ⌝ }
-    requires { ⌜ AsciiIf «ascii» (now text) ⌝ }
+    requires { ⌜ Known known (now text) ⌝ }
     ensures { λ r. ⌜ reported r ≡ reportTable (byLeast (leastWrong (now (table .entry)) (now (text .entry)) 0 (nodeCount (now (table .entry))))) ⌝ }
 {
     let mut heads = [0u16; buckets::BUCKETS];
     let mut links = [0u16; MAX_MEMBERS];
-    rest(table, text, start, root, &mut heads, &mut links, ascii)
+    rest(table, text, start, root, &mut heads, &mut links, known)
 }
 
 // The same for a table of few nodes, whose chains need less room: all of it is cleared first.
-fn with_few(table: &[u8], text: &[u8], start: usize, root: Cursor, ascii: bool) -> TableChecked
+fn with_few(table: &[u8], text: &[u8], start: usize, root: Cursor, known: u8) -> TableChecked
     requires { ⌜ (start ≡ firstChild (now table) 1) × CursorAt (now table) 1 root ⌝ }
     requires { ⌜ (0 < nodeCount (now table)) × (nodeCount (now table) ≤ maxNodes) × RightBelow (now table) (now text) 1 ⌝ }
     requires { ⌜ nodeCount (now table) ≤ 128 ⌝ }
-    requires { ⌜ AsciiIf «ascii» (now text) ⌝ }
+    requires { ⌜ Known known (now text) ⌝ }
     ensures { λ r. ⌜ reported r ≡ reportTable (byLeast (leastWrong (now (table .entry)) (now (text .entry)) 0 (nodeCount (now (table .entry))))) ⌝ }
 {
     let mut heads = [0u16; buckets::FEW_BUCKETS];
     let mut links = [0u16; FEW_NODES];
-    rest(table, text, start, root, &mut heads, &mut links, ascii)
+    rest(table, text, start, root, &mut heads, &mut links, known)
 }
 
 // The whole pass.
@@ -171,9 +172,9 @@ pub fn scan(table: &[u8], text: &[u8]) -> TableChecked
         kind,
         depth,
     };
-    let ascii = encoding::short_ascii(text, table.len());
+    let known = encoding::short_known(text, table.len());
     if table.len() / RECORD <= FEW_NODES {
-        return with_few(table, text, end, root, ascii);
+        return with_few(table, text, end, root, known);
     }
-    with_chains(table, text, end, root, ascii)
+    with_chains(table, text, end, root, known)
 }

@@ -5,3 +5,5 @@ pub mod Counts
 pub mod Same
 pub mod Orders
 pub mod Continuing
+pub mod Along
+pub mod Between

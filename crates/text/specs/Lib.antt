@@ -4,3 +4,5 @@ pub mod Places
 pub mod Orders
 pub mod Ends
 pub mod Continuing
+pub mod Known
+pub mod Placed

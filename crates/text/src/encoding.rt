@@ -1,16 +1,27 @@
-// Whether bytes are UTF-8: a test whether all are ASCII, by words; and where not, one pass, character by character, and eight ASCII bytes at once where they stand.
+// Whether bytes are UTF-8: a test whether all are ASCII, by words; where not, tests of four bytes each, many at once (`placed`); and where those do not pass,
+// one pass, character by character, and eight ASCII bytes at once where they stand. A part of a UTF-8 text is tested at its two ends.
 // How many scalar values a UTF-8 text has: by its bytes that continue a character, eight at once.
 use crate::bytes;
+use crate::placed;
 ghost use mathlib.Core.Path.{_≡_};
 ghost use mathlib.Core.Bool.{true};
 ghost use mathlib.Core.List.{[], _∷_};
-ghost use Prim.Native.Nat.{_+_, _*_, _<_, _≤_};
+ghost use Prim.Native.Nat.{_+_, _-_, _*_, _<_, _≤_};
 ghost use lib.ListN.{length, drop};
 ghost use Rattle.definition.specs.Bytes.{every, part};
 ghost use Rattle.definition.specs.Utf8.{afterFirst, isUtf8, scalarsOf};
 ghost use Rattle.utf8.specs.Scalars.{continuing};
 ghost use Rattle.text.specs.Chars.{waitOf, isAscii, tailsPass, tailsLength, charLength, stepLength};
 ghost use Rattle.text.specs.Continuing.{Continuing};
+ghost use Rattle.text.specs.Known.{Known};
+ghost use Rattle.utf8.specs.Boundaries.{isBetween};
+
+// What is known of a text: nothing, that it is UTF-8, or that it is ASCII throughout.
+pub const NOT_KNOWN: u8 = 0;
+
+pub const KNOWN_UTF8: u8 = 1;
+
+pub const KNOWN_ASCII: u8 = 2;
 
 // The highest bit of each of eight bytes.
 const HIGH_BITS: u64 = 0x8080808080808080;
@@ -192,7 +203,7 @@ fn all_ascii(s: &[u8]) -> bool
 }
 
 // Whether the 32 bytes of s from `at` on are ASCII.
-fn ascii32(s: &[u8], at: usize) -> bool
+pub fn ascii32(s: &[u8], at: usize) -> bool
     requires { ⌜ at + 32 ≤ length (now s) ⌝ }
     ensures { λ r. ⌜ (r ≡ true → every isAscii (part (now (s .entry)) at 32) ≡ true) ⌝ }
 {
@@ -228,11 +239,52 @@ pub fn short_ascii(s: &[u8], n: usize) -> bool
     all_ascii(s)
 }
 
+// How much of s is known: that it is ASCII throughout, that it is UTF-8, or nothing. An s of more than n bytes is not looked at.
+pub fn short_known(s: &[u8], n: usize) -> u8
+    ensures { λ r. ⌜ Known r (now (s .entry)) ⌝ }
+{
+    if short_ascii(s, n) {
+        return KNOWN_ASCII;
+    }
+    if n < s.len() {
+        return NOT_KNOWN;
+    }
+    if is_utf8(s) { KNOWN_UTF8 } else { NOT_KNOWN }
+}
+
+// Whether a place in s is between characters: the byte there continues none, or s ends there.
+fn is_between(s: &[u8], at: usize) -> bool
+    ensures { λ r. ⌜ r ≡ isBetween (now (s .entry)) at ⌝ }
+{
+    if s.len() <= at {
+        return true;
+    }
+    let b = s[at];
+    (b < 0x80) | (0xBF < b)
+}
+
+// Whether the part of a UTF-8 text s from start to end is UTF-8, by its two ends.
+pub fn part_between(s: &[u8], start: usize, end: usize) -> bool
+    requires { ⌜ (isUtf8 (now s) ≡ true) × (start ≤ end) ⌝ }
+    ensures { λ r. ⌜ r ≡ isUtf8 (part (now (s .entry)) start (end - start)) ⌝ }
+{
+    if start == end {
+        return true;
+    }
+    if !is_between(s, start) {
+        return false;
+    }
+    is_between(s, end)
+}
+
 // Whether s is UTF-8.
 pub fn is_utf8(s: &[u8]) -> bool
     ensures { λ r. ⌜ r ≡ isUtf8 (now (s .entry)) ⌝ }
 {
     if all_ascii(s) {
+        return true;
+    }
+    if placed::all_utf8(s) {
         return true;
     }
     chars_pass(s)

@@ -3,8 +3,10 @@
 //   bytes      little-endian numbers in a slice, read and written
 //   parts      equality, order and copies of parts of texts
 //   encoding   whether bytes are UTF-8, and how many scalar values a text has
+//   placed     whether a long text is UTF-8, many bytes at once
 //   brackets   the bracket count of a query
 pub mod brackets;
 pub mod bytes;
 pub mod encoding;
 pub mod parts;
+mod placed;

@@ -5,3 +5,4 @@ pub mod Scan
 pub mod Unique
 pub mod Scalars
 pub mod Names
+pub mod Boundaries

@@ -2,7 +2,6 @@
 use native.Mathlib.Omega.{arith}
 use borrow.Author.Tests.{not-true, not-false}
 use mathlib.Core.Path.{sym, _∙_}
-use mathlib.Core.Bool.{false≢true}
 use Rattle.tables.specs.Counts.{counts-root}
 use Rattle.tables.specs.Rights.{wrong-head, wrong-payload, wrong-place, right-by-place, root-number, root-depth, root-key}
 use borrow.Author.Needs.{needs}
@@ -18,7 +17,7 @@ returns c =
     sym (wrong-head (a .table .now) (a .text .now) 0 (sym (c .before .head-right .ensures) ∙ not-true _ (c .if1 .taken)))
 
 payload-right-requires : tie.Need-payload-right-requires
-payload-right-requires c κs = (omega (arith, counts-root (c .before .before .before .before .args .table .now)), λ z. absurd (false≢true z))
+payload-right-requires c κs = (omega (arith, counts-root (c .before .before .before .before .args .table .now)), record { ascii = λ e. absurd (omega arith); utf8 = λ e. absurd (omega arith) })
 
 returns-2 : tie.Need-returns-2
 returns-2 c =

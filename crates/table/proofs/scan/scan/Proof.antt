@@ -39,8 +39,8 @@ kind-requires c κs = search needs
 depth-requires : tie.Need-depth-requires
 depth-requires c κs = search needs
 
-short-ascii-requires : tie.Need-short-ascii-requires
-short-ascii-requires c κs = search needs
+short-known-requires : tie.Need-short-known-requires
+short-known-requires c κs = search needs
 
 with-few-requires : tie.Need-with-few-requires
 with-few-requires c κs =
@@ -50,7 +50,7 @@ with-few-requires c κs =
     let k = c .before .before .before .kind in
     let d = c .before .before .depth in
     let r = sym (c .before .before .before .before .before .before .root-right .ensures) ∙ not-false _ (c .before .before .before .before .before .if1 .left) in
-    ((root-first (a .table .now) (n .result) (n .ensures), root-cursor (a .table .now) (n .result) (k .result) (d .result) (n .ensures) (k .ensures) (d .ensures)), ((s .pre .0, s .pre .1, root-below (a .table .now) (a .text .now) r), (c .if2 .taken, c .before .short-ascii .ensures)))
+    ((root-first (a .table .now) (n .result) (n .ensures), root-cursor (a .table .now) (n .result) (k .result) (d .result) (n .ensures) (k .ensures) (d .ensures)), ((s .pre .0, s .pre .1, root-below (a .table .now) (a .text .now) r), (c .if2 .taken, c .before .short-known .ensures)))
 
 returns-2 : tie.Need-returns-2
 returns-2 c = search needs
@@ -63,7 +63,7 @@ with-chains-requires c κs =
     let k = c .before .before .before .kind in
     let d = c .before .before .depth in
     let r = sym (c .before .before .before .before .before .before .root-right .ensures) ∙ not-false _ (c .before .before .before .before .before .if1 .left) in
-    ((root-first (a .table .now) (n .result) (n .ensures), root-cursor (a .table .now) (n .result) (k .result) (d .result) (n .ensures) (k .ensures) (d .ensures)), ((s .pre .0, s .pre .1, root-below (a .table .now) (a .text .now) r), c .before .short-ascii .ensures))
+    ((root-first (a .table .now) (n .result) (n .ensures), root-cursor (a .table .now) (n .result) (k .result) (d .result) (n .ensures) (k .ensures) (d .ensures)), ((s .pre .0, s .pre .1, root-below (a .table .now) (a .text .now) r), c .before .short-known .ensures))
 
 returns-3 : tie.Need-returns-3
 returns-3 c = search needs
@@ -79,7 +79,7 @@ scan-spec =
     add-end
     kind-requires
     depth-requires
-    short-ascii-requires
+    short-known-requires
     with-few-requires
     returns-2
     with-chains-requires

@@ -1,0 +1,196 @@
+// Whether a text of some length is UTF-8, by tests of four bytes that follow each other: which may stand behind which three. No test needs another's answer,
+// so many are made at once, and bytes may be looked at twice. What is not found to be UTF-8 here is tested character by character.
+use crate::encoding;
+ghost use mathlib.Core.Path.{_≡_};
+ghost use mathlib.Core.Bool.{true};
+ghost use Prim.Native.Nat.{_+_, _-_, _≤_};
+ghost use lib.ListN.{length};
+ghost use Rattle.definition.specs.Utf8.{isUtf8};
+ghost use Rattle.text.specs.Placed.{isTail, isAsked, isAskedPlain, Bounded, Placed, Unbound, Plain, PlacedIn, Ends};
+
+// So many tests are made at once, where a text is short and where it is long.
+const FEW: usize = 16;
+
+const MANY: usize = 64;
+
+// Three bytes before those that are tested.
+const BEFORE: usize = 3;
+
+// Whether a byte continues a character.
+fn is_tail(x: u8) -> bool
+    ensures { λ r. ⌜ r ≡ isTail x ⌝ }
+{
+    (0x80 <= x) & (x <= 0xBF)
+}
+
+// Whether one of the three bytes before asks for a byte that continues a character.
+fn is_asked(a: u8, b: u8, c: u8) -> bool
+    ensures { λ r. ⌜ r ≡ isAsked a b c ⌝ }
+{
+    (0xC0 <= c) | (0xE0 <= b) | (0xF0 <= a)
+}
+
+// The same where the first of the three begins no character of four bytes.
+fn is_asked_plain(b: u8, c: u8) -> bool
+    ensures { λ r. ⌜ r ≡ isAskedPlain b c ⌝ }
+{
+    (0xC0 <= c) | (0xE0 <= b)
+}
+
+// Whether two tests have one answer.
+fn agrees(p: bool, q: bool) -> bool
+    ensures { λ r. ⌜ (r ≡ true → «q» ≡ «p») ⌝ }
+{
+    (p & q) | !(p | q)
+}
+
+// Whether c may stand in a text, and x behind it.
+fn is_bounded(c: u8, x: u8) -> bool
+    ensures { λ r. ⌜ (r ≡ true → Bounded c x) ⌝ }
+{
+    let three = ((c != 0xE0) | (0xA0 <= x)) & ((c != 0xED) | (x <= 0x9F));
+    let four = ((c != 0xF0) | (0x90 <= x)) & ((c != 0xF4) | (x <= 0x8F));
+    three & four & ((c < 0xC0) | (0xC2 <= c)) & (c <= 0xF4)
+}
+
+// Whether x may stand behind a, b and c.
+fn is_placed(a: u8, b: u8, c: u8, x: u8) -> bool
+    ensures { λ r. ⌜ (r ≡ true → Placed a b c x) ⌝ }
+{
+    agrees(is_asked(a, b, c), is_tail(x)) & is_bounded(c, x)
+}
+
+// Whether c is no byte with a bound of its own for the next one, and begins no character of four bytes.
+fn is_unbound(c: u8) -> bool
+    ensures { λ r. ⌜ (r ≡ true → Unbound c) ⌝ }
+{
+    (c != 0xE0) & (c != 0xED) & (c < 0xF0) & ((c < 0xC0) | (0xC2 <= c))
+}
+
+// Whether x may stand behind b and c, where no bounds are to be looked at.
+fn is_plain(b: u8, c: u8, x: u8) -> bool
+    ensures { λ r. ⌜ (r ≡ true → Plain b c x) ⌝ }
+{
+    agrees(is_asked_plain(b, c), is_tail(x)) & is_unbound(c)
+}
+
+// Whether each of sixteen bytes behind the three at `at` may stand where it does.
+fn placed_few(s: &[u8], at: usize) -> bool
+    requires { ⌜ at + 19 ≤ length (now s) ⌝ }
+    ensures { λ r. ⌜ (r ≡ true → PlacedIn (now (s .entry)) at (at + 16)) ⌝ }
+{
+    let mut right = true;
+    let mut i = 0;
+    while i < FEW {
+        let j = at + i;
+        right = right & is_placed(s[j], s[j + 1], s[j + 2], s[j + 3]);
+        i += 1;
+    }
+    right
+}
+
+// The same of 64 bytes, four times sixteen.
+fn placed_many(s: &[u8], at: usize) -> bool
+    requires { ⌜ at + 67 ≤ length (now s) ⌝ }
+    ensures { λ r. ⌜ (r ≡ true → PlacedIn (now (s .entry)) at (at + 64)) ⌝ }
+{
+    placed_few(s, at) & placed_few(s, at + 16) & placed_few(s, at + 32) & placed_few(s, at + 48)
+}
+
+// The same, found where no bounds are to be looked at.
+fn plain_many(s: &[u8], at: usize) -> bool
+    requires { ⌜ at + 67 ≤ length (now s) ⌝ }
+    ensures { λ r. ⌜ (r ≡ true → PlacedIn (now (s .entry)) at (at + 64)) ⌝ }
+{
+    let mut right = (s[at] < 0xF0) & (s[at + 1] < 0xF0);
+    let mut i = 0;
+    while i < MANY {
+        let j = at + i;
+        right = right & is_plain(s[j + 1], s[j + 2], s[j + 3]);
+        i += 1;
+    }
+    right
+}
+
+// The same, found where all 64 bytes are ASCII and none of the three before asks for another byte.
+fn ascii_many(s: &[u8], at: usize) -> bool
+    requires { ⌜ at + 67 ≤ length (now s) ⌝ }
+    ensures { λ r. ⌜ (r ≡ true → PlacedIn (now (s .entry)) at (at + 64)) ⌝ }
+{
+    let open = (s[at] < 0xF0) & (s[at + 1] < 0xE0) & (s[at + 2] < 0xC0);
+    open & encoding::ascii32(s, at + 3) & encoding::ascii32(s, at + 35)
+}
+
+// The same, by the quickest test that finds it.
+fn passes_many(s: &[u8], at: usize) -> bool
+    requires { ⌜ at + 67 ≤ length (now s) ⌝ }
+    ensures { λ r. ⌜ (r ≡ true → PlacedIn (now (s .entry)) at (at + 64)) ⌝ }
+{
+    if ascii_many(s, at) {
+        return true;
+    }
+    if plain_many(s, at) {
+        return true;
+    }
+    placed_many(s, at)
+}
+
+// Whether each byte behind the first three may stand where it does, sixteen at a time. The last sixteen may begin among bytes that were tested before.
+fn each_few(s: &[u8]) -> bool
+    requires { ⌜ 19 ≤ length (now s) ⌝ }
+    ensures { λ r. ⌜ (r ≡ true → PlacedIn (now (s .entry)) 0 (length (now (s .entry)) - 3)) ⌝ }
+{
+    let last = s.len() - (FEW + BEFORE);
+    let mut i = 0;
+    while i < last {
+        if !placed_few(s, i) {
+            return false;
+        }
+        i += FEW;
+    }
+    placed_few(s, last)
+}
+
+// The same, 64 at a time.
+fn each_many(s: &[u8]) -> bool
+    requires { ⌜ 67 ≤ length (now s) ⌝ }
+    ensures { λ r. ⌜ (r ≡ true → PlacedIn (now (s .entry)) 0 (length (now (s .entry)) - 3)) ⌝ }
+{
+    let last = s.len() - (MANY + BEFORE);
+    let mut i = 0;
+    while i < last {
+        if !passes_many(s, i) {
+            return false;
+        }
+        i += MANY;
+    }
+    passes_many(s, last)
+}
+
+// Whether the first three bytes may stand where they do, and the text may end behind the last three.
+fn ends_right(s: &[u8]) -> bool
+    requires { ⌜ 3 ≤ length (now s) ⌝ }
+    ensures { λ r. ⌜ (r ≡ true → Ends (now (s .entry))) ⌝ }
+{
+    let last = s.len() - BEFORE;
+    is_placed(0, 0, 0, s[0])
+        & is_placed(0, 0, s[0], s[1])
+        & is_placed(0, s[0], s[1], s[2])
+        & is_placed(s[last], s[last + 1], s[last + 2], 0)
+}
+
+// Whether s is found to be UTF-8 in this way. A text of less than 19 bytes is not looked at.
+pub fn all_utf8(s: &[u8]) -> bool
+    ensures { λ r. ⌜ (r ≡ true → isUtf8 (now (s .entry)) ≡ true) ⌝ }
+{
+    if s.len() < FEW + BEFORE {
+        return false;
+    }
+    if !ends_right(s) {
+        return false;
+    }
+    if s.len() < MANY + BEFORE {
+        return each_few(s);
+    }
+    each_many(s)
+}
