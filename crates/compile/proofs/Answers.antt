@@ -3,7 +3,7 @@ use mathlib.Core.Path.{_≡_, refl, sym, ap, subst, _∙_}
 use mathlib.Core.Bool.{Bool, true, false, cond, not, _&&_}
 use mathlib.Core.List.{List, [], _∷_, _++_}
 use mathlib.Core.Logic.{_≢_}
-use Prim.Native.Nat.{ℕ, zero, suc, _+_, _/_, _%_, _≤_, _<_}
+use Prim.Native.Nat.{ℕ, zero, suc, _+_, _%_, _≤_, _<_}
 use native.Mathlib.Nat.{zero-add}
 use native.Mathlib.Omega.{arith}
 use borrow.Author.Tests.{ne-eqb, eqb-true, eqb-false, ltb-false, lt-ltb, le-ltb, lt-leb, le-leb}
@@ -30,7 +30,7 @@ use Rattle.writing.specs.Agrees.{Agreed, Formed, agrees}
 use Rattle.levels.specs.Follow.{After}
 use Rattle.levels.specs.Pieces.{queryFlag}
 use Rattle.scan.specs.Text.{Is}
-use Rattle.items.specs.Reads.{callsAt, beyondAt, marksAt, marksOf, Start, Read}
+use Rattle.items.specs.Reads.{marksAt, marksOf, Start, Read}
 use Rattle.items.specs.Laws.{after-end, join-none}
 use Rattle.items.specs.declared.State.{State}
 use Rattle.items.specs.declared.Step.{Step}
@@ -169,9 +169,6 @@ module _ {s P' L' : List ℕ} {b : State} (p : Parsed s P' L' b) where
   verdict-is : marksOf b .verdict ≡ writeQuery (p .tree) 0 .marks .verdict
   verdict-is = ap (λ (m : Marks). m .verdict) (p .marks)
 
-  calls-is : marksOf b .calls ≡ writeQuery (p .tree) 0 .marks .calls
-  calls-is = ap (λ (m : Marks). m .calls) (p .marks)
-
   beyond-is : marksOf b .beyond ≡ writeQuery (p .tree) 0 .marks .beyond
   beyond-is = ap (λ (m : Marks). m .beyond) (p .marks)
 
@@ -179,35 +176,28 @@ module _ {s P' L' : List ℕ} {b : State} (p : Parsed s P' L' b) where
   pub judged : (verdictOf b ≡ 0 → ⊥) → judge (walk (p .tree)) ≡ refused (verdictOf b)
   judged n =
       by-test (eqb (marksOf b .verdict) 0)
-      (λ z. calls (eqb-true (marksOf b .verdict) 0 z) z)
+      (λ z. beyond (eqb-true (marksOf b .verdict) 0 z) z)
       (λ f. let g = eqb-false (marksOf b .verdict) 0 f in agreed .refuses (positive (marksOf b .verdict) g verdict-is) ∙ ap refused (sym verdict-is ∙ sym (rw f)))
     where
       positive : (x : ℕ) {y : ℕ} → (x ≡ 0 → ⊥) → x ≡ y → 0 < y
       positive zero k e = absurd (k refl)
       positive (suc x) k e = omega (arith, e)
 
-      calls : marksOf b .verdict ≡ 0 → eqb (marksOf b .verdict) 0 ≡ true → judge (walk (p .tree)) ≡ refused (verdictOf b)
-      calls v z =
-          by-test (marksOf b .calls)
-          (λ t. agreed .calls (sym verdict-is ∙ v) (sym calls-is ∙ t) ∙ ap refused (sym (rw (z, t))))
-          (λ f. by-test (marksOf b .beyond)
-          (λ t. agreed .beyond (sym verdict-is ∙ v) (sym calls-is ∙ f) (sym beyond-is ∙ t) ∙ ap refused (sym (rw (z, f, t))))
-          (λ u. absurd (n (rw (z, f, u)))))
+      beyond : marksOf b .verdict ≡ 0 → eqb (marksOf b .verdict) 0 ≡ true → judge (walk (p .tree)) ≡ refused (verdictOf b)
+      beyond v z =
+          by-test (marksOf b .beyond)
+          (λ t. agreed .beyond (sym verdict-is ∙ v) (sym beyond-is ∙ t) ∙ ap refused (sym (rw (z, t))))
+          (λ u. absurd (n (rw (z, u))))
 
   -- no refusal: a form
   pub formed : verdictOf b ≡ 0 → Formed (walk (p .tree)) (writeQuery (p .tree) 0)
   formed e =
       by-test (eqb (marksOf b .verdict) 0)
-      (λ z. by-test (marksOf b .calls)
-      (λ t. absurd (seven (sym (rw (z, t)) ∙ e)))
-      (λ f. by-test (marksOf b .beyond)
-      (λ t. absurd (eight (sym (rw (z, f, t)) ∙ e)))
-      (λ u. agreed .forms (sym verdict-is ∙ eqb-true (marksOf b .verdict) 0 z) (sym calls-is ∙ f) (sym beyond-is ∙ u))))
+      (λ z. by-test (marksOf b .beyond)
+      (λ t. absurd (eight (sym (rw (z, t)) ∙ e)))
+      (λ u. agreed .forms (sym verdict-is ∙ eqb-true (marksOf b .verdict) 0 z) (sym beyond-is ∙ u)))
       (λ f. absurd (eqb-false (marksOf b .verdict) 0 f (sym (rw f) ∙ e)))
     where
-      seven : _≡_ {A = ℕ} 7 0 → ⊥
-      seven x = omega arith
-
       eight : _≡_ {A = ℕ} 8 0 → ⊥
       eight x = omega arith
 
@@ -289,8 +279,8 @@ module _ (n : ℕ) where
   unfolding marksAt
   refused-first h = sym (rw (ne-eqb (n % 256) 0 h))
 
-  -- what comes after the walk, by the number for it
-  pub refused-late : {x : ℕ} → n % 256 ≡ 0 → x ≡ cond (callsAt (n / 256)) 7 (cond (beyondAt (n / 256)) 8 0) → x ≡ refusalOf (marksAt n)
+  -- what comes after the walk
+  pub refused-late : {x : ℕ} → n % 256 ≡ 0 → x ≡ cond (leb 256 n) 8 0 → x ≡ refusalOf (marksAt n)
   unfolding marksAt
   refused-late e f = rw e f
 

@@ -46,7 +46,7 @@ pub data ParsePost (s P P' L L' : List ℕ) : Step → Type 0 where
 
 -- the refusal that marks come to, 0 for none
 abbrev pub refusalOf : Marks → ℕ
-refusalOf m = cond (eqb (m .verdict) 0) (cond (m .calls) 7 (cond (m .beyond) 8 0)) (m .verdict)
+refusalOf m = cond (eqb (m .verdict) 0) (cond (m .beyond) 8 0) (m .verdict)
 
 abbrev pub verdictOf : State → ℕ
 verdictOf b = refusalOf (marksOf b)

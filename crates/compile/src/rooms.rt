@@ -1,6 +1,6 @@
 // A query read in a room of its own, and its plan and pool copied where they are wanted.
 use crate::Compiled;
-use items::CALLS;
+use items::BEYOND;
 use items::State;
 use items::Step;
 use parser::query as parse_query;
@@ -101,20 +101,16 @@ pub fn parse(s: &[u8], plan: &mut [u8], pool: &mut [u8]) -> Step
     r
 }
 
-// "then the first of 4, 5, 6 in the Rust's walk, then 7, 8"; 0 for none.
+// "then the first of 4, 5, 6 in the Rust's walk", then 8; 0 for none.
 pub fn verdict(st: State) -> u8
     ensures { λ r. ⌜ r ≡ verdictOf st ⌝ }
 {
     let marks = st.marks;
-    let first = (marks % CALLS) as u8;
+    let first = (marks % BEYOND) as u8;
     if first != 0 {
         return first;
     }
-    let late = marks / CALLS;
-    if late == 0 {
-        return 0;
-    }
-    if late == 2 { 8 } else { 7 }
+    if marks < BEYOND { 0 } else { 8 }
 }
 
 // The first n bytes of one room and the first m of the other, copied where both fit; otherwise 12 and both lengths.

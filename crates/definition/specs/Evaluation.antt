@@ -1,4 +1,4 @@
--- What a query form selects from a tree of values: RFC 9535's evaluation with document 01's "Evaluation", "Kept from the Rust" and "Standard taken", and document 02's W3.
+-- What a query form selects from a tree of values: RFC 9535's evaluation with document 01's "Evaluation", "Kept from the Rust" and "Standard taken", and document 02's W3 and W4.
 use Prim.Native.Nat.{ℕ, min}
 use mathlib.Core.List.{List, [], _∷_, _++_, map}
 use mathlib.Core.Bool.{Bool, true, false, cond, not, _&&_, _||_}
@@ -9,6 +9,7 @@ use lib.Ieee.{binary64, ofBits}
 use lib.ListN.{length, take, drop}
 use Rattle.definition.specs.Limits.{maxInt}
 use Rattle.definition.specs.Utf8.{scalarsOf}
+use Rattle.definition.specs.Regexps.{regexValues}
 use Rattle.definition.specs.Slices.{indexPlaces, slicePlaces}
 use Rattle.definition.specs.Values.{Json, idOf, many, lookup, children, elements, members, descend}
 use Rattle.definition.specs.Compare.{Value, nodeValue, floatFraction, compareValues}
@@ -19,7 +20,7 @@ use Rattle.definition.specs.Forms.Query.{query}
 use Rattle.definition.specs.Forms.Segments.{end, child, descendant}
 use Rattle.definition.specs.Forms.Selectors.{one, and}
 use Rattle.definition.specs.Forms.Selector.{name, index, slice, wildcard, filter}
-use Rattle.definition.specs.Forms.Test.{exists, compare, notValue, both, either}
+use Rattle.definition.specs.Forms.Test.{exists, compare, regex, notValue, both, either}
 use Rattle.definition.specs.Forms.Argument.{literal, singular, value}
 use Rattle.definition.specs.Forms.Function.{countOf, lengthOf, valueOf}
 
@@ -126,6 +127,7 @@ unfoldable mutual
   pub evalTest : Test → Json → Json → Bool
   evalTest (exists q) r n = isFound (evalQuery q r n)
   evalTest (compare o a b) r n = compareValues o (evalArgument a r n) (evalArgument b r n)
+  evalTest (regex s a b) r n = regexValues s (evalArgument a r n) (evalArgument b r n)
   evalTest (Test.not t) r n = not (evalTest t r n)
   evalTest (notValue f) r n = not (truth (evalFunction f r n))
   evalTest (both a b) r n = evalTest a r n && evalTest b r n

@@ -4,6 +4,7 @@ use mathlib.Core.List.{List}
 use mathlib.Core.Bool.{Bool, true, false, _&&_}
 use mathlib.Core.Option.{Option}
 use lib.IntN.{ℤ}
+use Rattle.regexps.specs.Scope.{Scope}
 
 -- a literal; a float is given by its bits
 pub data Literal : Type 0 where
@@ -48,11 +49,12 @@ mutual
     wildcard : Selector
     filter : Test → Selector
 
-  -- A test: some node is found; two values compare; `!` before a test; `!` before a value function; `&&`; `||`.
-  -- No query has the fourth: the walk refuses it. A stored plan may hold it and "still runs with its old meaning" (document 02, W12).
+  -- A test: some node is found; two values compare; match or search of a text and an expression; `!` before a test; `!` before a value function; `&&`; `||`.
+  -- No query has the fifth: the walk refuses it. A stored plan may hold it and "still runs with its old meaning" (document 02, W12).
   pub data Test : Type 0 where
     exists : Query → Test
     compare : Operator → Argument → Argument → Test
+    regex : Scope → Argument → Argument → Test
     not : Test → Test
     notValue : Function → Test
     both : Test → Test → Test

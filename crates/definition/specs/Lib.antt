@@ -14,6 +14,7 @@ pub mod Forms
 pub mod QueryForms
 pub mod Walk
 pub mod Compare
+pub mod Regexps
 pub mod Evaluation
 pub mod Selecting
 pub mod Plans

@@ -5,6 +5,7 @@ use mathlib.Core.Bool.{true, false, cond}
 use mathlib.Core.Option.{Option, none, some}
 use lib.IntN.{ℤ}
 use lib.ListN.{length}
+use Rattle.regexps.specs.Scope.{Scope, whole, part}
 use Rattle.definition.specs.Bytes.{littleEndian, unsigned64}
 use Rattle.definition.specs.Forms.{Literal, Operator, Start, Query, Segments, Selectors, Selector, Test, Argument, Function, manySelectors}
 use Rattle.definition.specs.Forms.Operator.{eq, ne, lt, le, gt, ge}
@@ -14,7 +15,7 @@ use Rattle.definition.specs.Forms.Query.{query}
 use Rattle.definition.specs.Forms.Segments.{end, child, descendant}
 use Rattle.definition.specs.Forms.Selectors.{one, and}
 use Rattle.definition.specs.Forms.Selector.{name, index, slice, wildcard, filter}
-use Rattle.definition.specs.Forms.Test.{exists, compare, not, notValue, both, either}
+use Rattle.definition.specs.Forms.Test.{exists, compare, regex, not, notValue, both, either}
 use Rattle.definition.specs.Forms.Argument.{literal, singular, value}
 use Rattle.definition.specs.Forms.Function.{countOf, lengthOf, valueOf}
 
@@ -50,6 +51,7 @@ unfoldable mutual
   pub poolTest : Test → List ℕ
   poolTest (exists q) = poolQuery q
   poolTest (compare o a b) = poolArgument a ++ poolArgument b
+  poolTest (regex s a b) = poolArgument a ++ poolArgument b
   poolTest (not t) = poolTest t
   poolTest (notValue f) = poolFunction f
   poolTest (both a b) = poolTest a ++ poolTest b
@@ -90,6 +92,11 @@ operatorByte lt = 2
 operatorByte le = 3
 operatorByte gt = 4
 operatorByte ge = 5
+
+-- document 02, W4: "Plan kinds 1C match, 1D search, no body"
+unfoldable pub scopeKind : Scope → ℕ
+scopeKind whole = 0x1C
+scopeKind part = 0x1D
 
 -- "1 (bits 0, 1, 2: start, stop, step given), three of 8, absent ones 0"
 unfoldable pub given : Option ℤ → ℕ → ℕ
@@ -141,6 +148,7 @@ unfoldable mutual
   pub codeTest : Test → ℕ → List ℕ
   codeTest (exists q) p = codeQuery q p ++ 0x18 ∷ []
   codeTest (compare o a b) p = codeArgument a p ++ (codeArgument b (p + length (poolArgument a)) ++ 0x14 ∷ operatorByte o ∷ [])
+  codeTest (regex s a b) p = codeArgument a p ++ (codeArgument b (p + length (poolArgument a)) ++ scopeKind s ∷ [])
   codeTest (not t) p = codeTest t p ++ 0x15 ∷ []
   codeTest (notValue f) p = codeFunction f p ++ 0x18 ∷ 0x15 ∷ []
   codeTest (both a b) p = codeTest a p ++ framed 0x16 (codeTest b (p + length (poolTest a)))

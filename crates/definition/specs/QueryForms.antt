@@ -16,7 +16,7 @@ use Rattle.definition.specs.Forms.Query.{query}
 use Rattle.definition.specs.Forms.Segments.{end, child, descendant}
 use Rattle.definition.specs.Forms.Selectors.{one, and}
 use Rattle.definition.specs.Forms.Selector.{name, index, slice, wildcard, filter}
-use Rattle.definition.specs.Forms.Test.{exists, compare, not, notValue, both, either}
+use Rattle.definition.specs.Forms.Test.{exists, compare, regex, not, notValue, both, either}
 use Rattle.definition.specs.Forms.Argument.{literal, singular, value}
 use Rattle.definition.specs.Forms.Function.{countOf, lengthOf, valueOf}
 
@@ -61,6 +61,7 @@ unfoldable mutual
   pub testRight : Test → Bool
   testRight (exists q) = queryRight q
   testRight (compare o a b) = argumentRight a && argumentRight b
+  testRight (regex s a b) = argumentRight a && argumentRight b
   testRight (not t) = testRight t
   testRight (notValue f) = functionRight f
   testRight (both a b) = testRight a && testRight b
@@ -100,6 +101,7 @@ unfoldable mutual
   pub nestingTest : Test → ℕ
   nestingTest (exists q) = nesting q
   nestingTest (compare o a b) = max (nestingArgument a) (nestingArgument b)
+  nestingTest (regex s a b) = suc (max (nestingArgument a) (nestingArgument b))
   nestingTest (not t) = suc (nestingTest t)
   nestingTest (notValue f) = suc (nestingFunction f)
   nestingTest (both a b) = max (nestingTest a) (suc (nestingTest b))

@@ -31,12 +31,11 @@ pub data Reading : Type 0 where
 unfoldable pub early : List ℕ → ℕ
 early s = cond (ltb maxQuery (length s)) 1 (cond (not (isUtf8 s)) 2 (cond (tooDeep s) 3 0))
 
--- "then the first of 4, 5, 6 in the Rust's walk, then 7, 8"
+-- "then the first of 4, 5, 6 in the Rust's walk", then 8: "7 is no longer met by any input" (document 02, W4)
 unfoldable pub judge : Walked Query → Reading
 judge (Walked.refused n) = refused n
-judge (walked true b q) = refused 7
-judge (walked false true q) = refused 8
-judge (walked false false q) = form q
+judge (walked true q) = refused 8
+judge (walked false q) = form q
 
 pub data Reads (s : List ℕ) : Reading → Type 0 where
   tooEarly : (early s ≡ 0 → ⊥) → Reads s (refused (early s))

@@ -1,10 +1,11 @@
 -- The walk over a query's tree in the Rust's order (parser.rs): the first of refusals 4, 5 and 6, or the form of the query.
--- The form has no parentheses, blanks or spellings. Besides it the walk tells whether match or search is called and whether a float literal is beyond the range of literals, for refusals 7 and 8.
+-- The form has no parentheses, blanks or spellings. Besides it the walk tells whether a float literal is beyond the range of literals, for refusal 8.
 use Prim.Native.Nat.{ℕ}
 use mathlib.Core.List.{List, [], _∷_}
 use mathlib.Core.Bool.{Bool, true, false, cond, _||_}
 use mathlib.Core.Option.{Option, none, some}
 use lib.IntN.{ℤ}
+use Rattle.regexps.specs.Scope.{Scope, whole, part}
 use Rattle.definition.specs.Bytes.{sameBytes}
 use Rattle.definition.specs.Lexical.{Int, Bound, Step, Slice, nameBytes, functionBytes}
 use Rattle.definition.specs.Lexical.Bound.{noBound, bound}
@@ -43,29 +44,29 @@ use Rattle.definition.specs.Forms.Query.{query}
 use Rattle.definition.specs.Forms.Segments.{end, child, descendant}
 use Rattle.definition.specs.Forms.Selectors.{one, and}
 use Rattle.definition.specs.Forms.Selector.{name, index, slice, wildcard, filter}
-use Rattle.definition.specs.Forms.Test.{exists, compare, not, notValue, both, either}
+use Rattle.definition.specs.Forms.Test.{exists, compare, regex, not, notValue, both, either}
 use Rattle.definition.specs.Forms.Argument.{literal, singular, value}
 use Rattle.definition.specs.Forms.Function.{countOf, lengthOf, valueOf}
 
 -- ---- what the walk of a part comes to
 
--- A refusal; or what the part stands for, with whether it calls match or search and whether it has a literal beyond the range of literals.
+-- A refusal; or what the part stands for, with whether it has a literal beyond the range of literals.
 pub data Walked (A : Type 0) : Type 0 where
   refused : ℕ → Walked A
-  walked : (calls beyond : Bool) → A → Walked A
+  walked : (beyond : Bool) → A → Walked A
 
 -- nothing to refuse, nothing to report
 abbrev pub fine : {A : Type 0} → A → Walked A
-fine x = walked false false x
+fine x = walked false x
 
-unfoldable pub also : {A : Type 0} → Bool → Bool → Walked A → Walked A
-also c b (refused n) = refused n
-also c b (walked d e x) = walked (c || d) (b || e) x
+unfoldable pub also : {A : Type 0} → Bool → Walked A → Walked A
+also b (refused n) = refused n
+also b (walked e x) = walked (b || e) x
 
 -- first one part, then the next: the first refusal stands
 unfoldable pub next : {A B : Type 0} → Walked A → (A → Walked B) → Walked B
 next (refused n) f = refused n
-next (walked c b x) f = also c b (f x)
+next (walked b x) f = also b (f x)
 
 -- ---- whole numbers, slices, literals
 
@@ -91,7 +92,7 @@ walkSlice s =
 unfoldable pub walkNumeral : Numeral → Walked F.Literal
 walkNumeral (Numeral.integer z) = fine (integer z)
 walkNumeral (Numeral.float b) = fine (float b)
-walkNumeral Numeral.beyond = walked false true null
+walkNumeral Numeral.beyond = walked true null
 
 unfoldable pub walkLiteral : G.Literal → Walked F.Literal
 walkLiteral (numberLiteral n) = walkNumeral (numeral n)
@@ -189,28 +190,24 @@ named s =
     (cond (sameBytes s (0x6D ∷ 0x61 ∷ 0x74 ∷ 0x63 ∷ 0x68 ∷ [])) match
     (cond (sameBytes s (0x73 ∷ 0x65 ∷ 0x61 ∷ 0x72 ∷ 0x63 ∷ 0x68 ∷ [])) search unknown))))
 
--- A call of match or search has no form. A comparison of its arguments stands in its place, in a query that refusal 7 keeps from having a form: the crate `laws` (StandIns) proves it.
-unfoldable pub unformed : F.Argument → F.Argument → F.Test
-unformed a b = compare eq a b
-
 -- the one argument of a function that has one, and the two of one that has two
 unfoldable pub only : {A : Type 0} → List Operand → (Operand → Walked A) → Walked A
 only [] f = refused 5
 only (x ∷ []) f = f x
 only (x ∷ y ∷ xs) f = refused 5
 
-unfoldable pub asRegex : List Operand → Walked Expression
-asRegex [] = refused 5
-asRegex (x ∷ []) = refused 5
-asRegex (x ∷ y ∷ []) = next (asValue x) (λ a. next (asValue y) (λ b. walked true false (logical (unformed a b))))
-asRegex (x ∷ y ∷ z ∷ xs) = refused 5
+unfoldable pub asRegex : Scope → List Operand → Walked Expression
+asRegex s [] = refused 5
+asRegex s (x ∷ []) = refused 5
+asRegex s (x ∷ y ∷ []) = next (asValue x) (λ a. next (asValue y) (λ b. fine (logical (regex s a b))))
+asRegex s (x ∷ y ∷ z ∷ xs) = refused 5
 
 unfoldable pub call : Named → List Operand → Walked Expression
 call count xs = next (only xs asNodes) (λ q. fine (valued (countOf q)))
 call length xs = next (only xs asValue) (λ a. fine (valued (lengthOf a)))
 call valueName xs = next (only xs asNodes) (λ q. fine (valued (valueOf q)))
-call match xs = asRegex xs
-call search xs = asRegex xs
+call match xs = asRegex whole xs
+call search xs = asRegex part xs
 call unknown xs = refused 6
 
 -- ---- the walk

@@ -95,6 +95,20 @@ sampleAnswers =
     onSample "$[?null==@.x]" [] ∷
     onSample "$[?@.x==@.x]" [] ∷
     onSample "$[?!@[0]]" (2 ∷ []) ∷
+    -- match takes the whole text, search any part of it; no text and no expression of the part give false (document 02, W4)
+    onSample "$[?match(@,'.')]" (2 ∷ []) ∷
+    onSample "$[?match(@,'')]" [] ∷
+    onSample "$[?search(@,'')]" (2 ∷ []) ∷
+    onSample "$[?!match(@,'é')]" (1 ∷ []) ∷
+    onSample "$[?match('é',@)]" (2 ∷ []) ∷
+    onSample "$[?match('xéy',@)]" [] ∷
+    onSample "$[?search('xéy',@)]" (2 ∷ []) ∷
+    onSample "$[?search('b','\\\\p{L}|b')]" [] ∷
+    onSample "$[?match('a','(')]" [] ∷
+    onSample "$[?match(@.x,'')]" [] ∷
+    onSample "$[?search(1,'1')]" [] ∷
+    onSample "$[?match('1',1)]" [] ∷
+    onSample "$[?match(value(@.*),'')]" [] ∷
     []
 
 pub sampleAnswersHold : allAnswered sampleAnswers ≡ true

@@ -41,8 +41,8 @@ literals =
     plans "$[?@==1797693134862315807e290]" "01 03 01 00 09 0D 00 02 0A 11 FF FF FF FF FF FF EF 7F 14 00 0A" "" ∷
     refuses "$[?@==1797693134862315808e290]" 8 ∷
     refuses "$[?@==10e308]" 8 ∷
-    -- 8 comes behind 4 to 7
-    refuses "$[?1e999==1 && match('a','b')]" 7 ∷
+    -- 8 comes behind 4 to 6, and match and search are before nothing
+    refuses "$[?1e999==1 && match('a','b')]" 8 ∷
     refuses "$[?1e999==1 && count(1)==1]" 5 ∷
     []
 

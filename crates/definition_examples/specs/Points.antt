@@ -60,20 +60,19 @@ abbrev pub allHold : List Point → Bool
 allHold [] = true
 allHold (x ∷ xs) = holds x && allHold xs
 
--- ---- refusals 4 to 7
+-- ---- refusals 4 to 6
 
 abbrev pub refusals : List Point
 refusals =
     -- the first of 4 and 6 in written order
     refuses "$[?foo()][9007199254740992]" 6 ∷
     refuses "$[9007199254740992][?foo()]" 4 ∷
-    -- 7, wherever match or search is called in a query that is else well formed
-    refuses "$[?!match('a','b')]" 7 ∷
-    refuses "$[?match('a','b')]" 7 ∷
-    refuses "$[?search(@,'b')]" 7 ∷
-    -- match and search are neither nodes nor values
+    -- match and search are neither nodes nor values, and take two values
     refuses "$[?count(match(@,@))==1]" 5 ∷
+    refuses "$[?length(search('a','b'))==1]" 5 ∷
+    refuses "$[?match(match('a','b'),'c')]" 5 ∷
     refuses "$[?1==match('a','b')]" 5 ∷
+    refuses "$[?search('a','b')==true]" 5 ∷
     refuses "$[?match('a')]" 5 ∷
     refuses "$[?match('a','b','c')]" 5 ∷
     refuses "$[?match(@.*,'b')]" 5 ∷
@@ -172,6 +171,11 @@ forms =
     plans "$[?length(@[ 'a' ])==0]" "01 03 01 00 09 16 00 02 03 01 00 05 00 00 01 00 0A 1A 10 00 00 00 00 00 00 00 00 14 00 0A" "a" ∷
     plans "$[?value($)==null]" "01 03 01 00 09 07 00 01 0A 1B 13 02 14 00 0A" "" ∷
     plans "$[?length(count(@))=='ab']" "01 03 01 00 09 0B 00 02 0A 19 1A 12 00 00 02 00 14 00 0A" "ab" ∷
+    -- match and search: two values in written order, then 1C or 1D, and no 18 (document 02, W4); no expression is looked at
+    plans "$[?match('a','b')]" "01 03 01 00 09 0B 00 12 00 00 01 00 12 01 00 01 00 1C 0A" "ab" ∷
+    plans "$[?!match('a','b')]" "01 03 01 00 09 0C 00 12 00 00 01 00 12 01 00 01 00 1C 15 0A" "ab" ∷
+    plans "$[?search(@,'(')]" "01 03 01 00 09 08 00 02 0A 12 00 00 01 00 1D 0A" "(" ∷
+    plans "$[?search(@.a,$.b) && !match(length(@),value(@))]" "01 03 01 00 09 20 00 02 03 01 00 05 00 00 01 00 0A 01 03 01 00 05 01 00 01 00 0A 1D 16 08 00 02 0A 1A 02 0A 1B 1C 15 0A" "ab" ∷
     -- constants
     plans "$[?@==true||@==false]" "01 03 01 00 09 0F 00 02 0A 13 01 14 00 17 06 00 02 0A 13 00 14 00 0A" "" ∷
     -- texts: the pool's places run on through names, literals and operands

@@ -5,6 +5,7 @@ use mathlib.Core.List.{[], _∷_}
 use mathlib.Core.Bool.{Bool, true, not, _&&_}
 use mathlib.Core.Option.{none, some}
 use lib.IntN.{pos, negsuc}
+use Rattle.regexps.specs.Scope.{whole, part}
 use Rattle.definition.specs.Forms as F
 use Rattle.definition.specs.Forms.Literal.{integer, float, text}
 use Rattle.definition.specs.Forms.Operator.{eq}
@@ -13,7 +14,7 @@ use Rattle.definition.specs.Forms.Query.{query}
 use Rattle.definition.specs.Forms.Segments.{end, child, descendant}
 use Rattle.definition.specs.Forms.Selectors.{one, and}
 use Rattle.definition.specs.Forms.Selector.{name, index, slice, wildcard, filter}
-use Rattle.definition.specs.Forms.Test.{exists, compare, notValue, both, either}
+use Rattle.definition.specs.Forms.Test.{exists, compare, regex, notValue, both, either}
 use Rattle.definition.specs.Forms.Argument.{literal, singular, value}
 use Rattle.definition.specs.Forms.Function.{countOf, lengthOf, valueOf}
 use Rattle.definition.specs.QueryForms.{isForm}
@@ -91,6 +92,8 @@ pub places :
     tests (λ t. either (exists at) t) ∷
     looks (λ s. filtered (compare eq (singular (atPicked s)) (singular at))) ∷
     looks (λ s. filtered (compare eq (singular at) (singular (atPicked s)))) ∷
+    looks (λ s. filtered (regex whole (singular (atPicked s)) (singular at))) ∷
+    looks (λ s. filtered (regex part (singular at) (singular (atPicked s)))) ∷
     looks (λ s. filtered (notValue (countOf (atPicked s)))) ∷
     looks (λ s. filtered (equals (value (countOf (atPicked s))))) ∷
     looks (λ s. filtered (equals (value (lengthOf (singular (atPicked s)))))) ∷
@@ -149,6 +152,8 @@ pub nestings :
     nests 63 (λ t. equals (value (countOf (inFilter t)))) (F.Test.not (exists at)) ∷
     nests 63 (λ t. compare eq (value (valueOf (inFilter t))) (singular at)) (F.Test.not (exists at)) ∷
     nests 42 (λ t. notValue (countOf (inFilter t))) (F.Test.not (exists at)) ∷
+    nests 42 (λ t. regex whole (value (countOf (inFilter t))) (singular at)) (F.Test.not (exists at)) ∷
+    nests 42 (λ t. regex part (singular at) (value (valueOf (inFilter t)))) (F.Test.not (exists at)) ∷
     between (filtered (equals (times 127 (λ a. value (lengthOf a)) (literal F.Literal.null)))) (filtered (equals (times 128 (λ a. value (lengthOf a)) (literal F.Literal.null)))) ∷
     isForm (filtered (times 300 (λ t. both t (exists at)) (exists at))) ∷
     isForm (filtered (times 300 (λ t. either t (exists at)) (exists at))) ∷

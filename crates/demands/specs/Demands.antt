@@ -13,13 +13,18 @@
 -- That is proved of its run in the logic, and not of the compiled binary (the guide says so too).
 use Prim.Native.Nat.{ℕ, _*_, _≤_, _<_}
 use mathlib.Core.Logic.{_↔_}
-use mathlib.Core.Path.{_≡_, sym, ap, _∙_}
+use mathlib.Core.Path.{_≡_, refl, sym, ap, _∙_}
 use mathlib.Core.List.{List, [], _∷_}
+use mathlib.Core.Bool.{true}
 use mathlib.Core.Option.{Option, none}
 use lib.IntN.{ℤ}
 use lib.ListN.{length, take, replicate}
+use Rattle.regexps.specs.Regexp.{Regexp, Describes}
+use Rattle.regexps.specs.Scope.{Scope, part, widen, Part}
 use Rattle.definition.specs.Limits.{maxQuery, maxPlan}
-use Rattle.definition.specs.Forms.{Query}
+use Rattle.definition.specs.Values.{Json}
+use Rattle.definition.specs.Forms.{Query, Argument}
+use Rattle.definition.specs.Forms.Test.{regex}
 use Rattle.definition.specs.Plans.{planOf, poolOf}
 use Rattle.definition.specs.Slices.{slicePlaces}
 use Rattle.definition.specs.StandardSlices.{rfcPlaces}
@@ -27,7 +32,7 @@ use Rattle.definition.specs.Tables.{nodeCount, checkTable, tree}
 use Rattle.definition.specs.Tables.Checked.{accepted, wrongAt}
 use Rattle.definition.specs.TableOutcomes.{TableOutcome, PartOutcome}
 use Rattle.definition.specs.Paths.{PathOutcome, pathOf}
-use Rattle.definition.specs.Evaluation.{selected}
+use Rattle.definition.specs.Evaluation.{selected, evalTest, evalArgument}
 use Rattle.definition.specs.Outcomes.{Reading, Reads, Spells, CompileOutcome, Compiles, RunOutcome, Runs, Selects, ChecksPlan, runBy}
 use Rattle.definition.specs.Outcomes.Reading.{form}
 use Rattle.definition_examples.specs.Rows.{starredRows}
@@ -55,6 +60,7 @@ use Rattle.demands.specs.Stored.{stored}
 use Rattle.demands.specs.Served.{servingPlan, servingPool, versions, served}
 use Rattle.demands.specs.Selected.{starred-answers}
 use Rattle.demands.specs.Series.{leaves, series}
+use Rattle.demands.specs.Matching.{Matches, In, asking, Asked, test-matches, asking-selects, any-part, never-first}
 use Rattle.demands.specs.Paths.{path-case, path-first, case-written, path-compiles, path-runs, path-selected}
 
 -- ---- 1. Each operation has one outcome for each input. Its contract says so: two outcomes that are allowed beside the one answered coincide.
@@ -136,6 +142,17 @@ tally-exactly {plan} {pool} {C} {m} k = exactly (tallyRules plan pool C m) (tall
 -- the node that comes with 10 is the least at which a rule fails
 pub ten-names-least : (T X : List ℕ) (i : ℕ) → checkTable T X ≡ wrongAt i → LeastWrong T X i
 ten-names-least T X i h = wrong-why T X i h .1
+
+-- 7 is given by no operation (document 02, W4): "7 is no longer met by any input". The two that gave it:
+pub compile-never-seven : {s P R : List ℕ} {c : CompileOutcome} → CompilesOnly s P R c → c .refusal ≡ 7 → ⊥
+compile-never-seven {s} {P} {R} k e = never-first (compileRules s P R) 7 refl (compile-exactly k 7 .0 e)
+
+pub select-never-seven : {s T X L : List ℕ} {at : ℕ} {o : RunOutcome} → SelectsOnly s T X L at o → o .refusal ≡ 7 → ⊥
+select-never-seven {s} {T} {X} {L} {at} k e = never-first (selectRules s T X L at) 7 refl (select-exactly k 7 .0 e)
+
+-- and a run
+pub run-never-seven : {plan pool T X L : List ℕ} {at : ℕ} {o : RunOutcome} → RunsOnly plan pool T X L at o → o .refusal ≡ 7 → ⊥
+run-never-seven {plan} {pool} {T} {X} {L} {at} k e = never-first (runRules plan pool T X L at) 7 refl (run-exactly k 7 .0 e)
 
 -- ---- 2. What compile writes runs as the definition says, on every accepted table, from every position of every list; and select answers the same.
 
@@ -260,3 +277,18 @@ paths-differ = unlike.paths-differ
 -- a path is a text of section 2.7's grammar that names the steps to its node, and the only one: `Normalized` (addresses/specs/Normalized.antt) has the grammar
 pub path-normalized : (T X : List ℕ) → checkTable T X ≡ accepted → (i : ℕ) → i < nodeCount T → Normalized T X i
 path-normalized = addresses.path-normalized
+
+-- ---- 9. match and search (W4), in one statement: c is `whole` for match and `part` for search.
+
+-- a test of match or search holds exactly where both arguments are texts and the second is an expression that describes the first, or, for search, some part of it: Matches has it
+-- by the textbook relation `Describes` of words and expressions (regexps/specs/Regexp.antt), with no matcher
+pub match-search : (c : Scope) (a b : Argument) (r n : Json) → (evalTest (regex c a b) r n ≡ true) ↔ Matches c (evalArgument a r n) (evalArgument b r n)
+match-search = test-matches
+
+-- so `$[?match(a,b)]` and `$[?search(a,b)]` select exactly the children of the root for which it does, and by 2 a run and a selection list what is selected
+pub match-search-selects : (c : Scope) (a b : Argument) (t : Json) (i : ℕ) → In i (selected (asking c a b) t) ↔ Asked c a b t i
+match-search-selects = asking-selects
+
+-- the meaning that search widens is that of any part
+pub search-any-part : (x : Regexp) (w : List ℕ) → Describes (widen part x) w ↔ Part (Describes x) w
+search-any-part = any-part

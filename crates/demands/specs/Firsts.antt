@@ -1,4 +1,4 @@
--- What is first in an order of refusals; and of a query: which of 1 to 8 is first, whatever rules stand behind them. Assumes nothing.
+-- What is first in an order of refusals; and of a query: which of 1 to 6 and 8 is first, whatever rules stand behind them. Assumes nothing.
 use Prim.Native.Nat.{ℕ, _+_, _-_, _≤_, _<_}
 use native.Mathlib.Omega.{arith}
 use mathlib.Core.Path.{_≡_, refl, sym, ap, _∙_, subst}
@@ -20,7 +20,7 @@ use Rattle.definition.specs.Outcomes.{Reading, Reads, early, judge, refusalOf}
 use Rattle.definition.specs.Outcomes.Reading.{refused, form}
 use Rattle.definition.specs.Outcomes.Reads.{tooEarly, noTree, hasTree}
 use Rattle.demands.specs.Walks.{WalkNumber, four, five, six, Keeps, walk-keeps}
-use Rattle.demands.specs.Refusals.{TooLong, NotUtf8, TooDeep, WalkFinds, CallsMatch, BeyondExact, NotInGrammar, Rule, rule, First, walkRules, queryRules}
+use Rattle.demands.specs.Refusals.{TooLong, NotUtf8, TooDeep, WalkFinds, BeyondExact, NotInGrammar, Rule, rule, First, walkRules, queryRules}
 
 -- ---- what is first
 
@@ -58,7 +58,7 @@ module _ (s : List ℕ) where
 
 -- ---- the refusals of a query
 
--- a query is refused by a number from 1 to 8
+-- a query is refused by a number from 1 to 8, of which 7 is given to none
 same-number : {m n : ℕ} → refused m ≡ refused n → m ≡ n
 same-number e = cc
 
@@ -76,9 +76,8 @@ walk-range six = (omega arith, omega arith)
 judge-range : (w : Walked Query) (n : ℕ) → Keeps w → judge w ≡ refused n → (0 < n) × (n < 9)
 unfolding judge
 judge-range (Walked.refused m) n k e = let f = walk-range k in (omega (arith, same-number e, f .0), omega (arith, same-number e, f .1))
-judge-range (walked true b q) n k e = (omega (arith, same-number e), omega (arith, same-number e))
-judge-range (walked false true q) n k e = (omega (arith, same-number e), omega (arith, same-number e))
-judge-range (walked false false q) n k e = let z : _≡_ {A = ℕ} 0 1 = cc in absurd (omega (arith, z))
+judge-range (walked true q) n k e = (omega (arith, same-number e), omega (arith, same-number e))
+judge-range (walked false q) n k e = let z : _≡_ {A = ℕ} 0 1 = cc in absurd (omega (arith, z))
 
 range-by : {s : List ℕ} (x : Reading) (n : ℕ) → Reads s x → x ≡ refused n → (0 < n) × (n < 9)
 range-by {s} x n (tooEarly h) e = subst (λ (m : ℕ). (0 < m) × (m < 9)) (same-number e) (early-range (early-is s) h)
@@ -102,15 +101,9 @@ pub finds-reads : {s : List ℕ} {n : ℕ} → early s ≡ 0 → WalkFinds s n �
 unfolding judge
 finds-reads {s} h (t, g, w) = subst (Reads s) (ap judge w) (hasTree h t g)
 
-calls-reads : {s : List ℕ} → early s ≡ 0 → CallsMatch s → Reads s (refused 7)
+beyond-reads : {s : List ℕ} → early s ≡ 0 → BeyondExact s → Reads s (refused 8)
 unfolding judge
-calls-reads {s} h (t, g, b, q, w) = subst (Reads s) (ap judge w) (hasTree h t g)
-
--- with a literal beyond the range of literals, 7 still comes before 8
-beyond-reads : {s : List ℕ} → early s ≡ 0 → BeyondExact s → Reads s (refused 7) ⊎ Reads s (refused 8)
-unfolding judge
-beyond-reads {s} h (t, g, true, q, w) = inl (subst (Reads s) (ap judge w) (hasTree h t g))
-beyond-reads {s} h (t, g, false, q, w) = inr (subst (Reads s) (ap judge w) (hasTree h t g))
+beyond-reads {s} h (t, g, q, w) = subst (Reads s) (ap judge w) (hasTree h t g)
 
 -- the number of a reading, or k where it is a form
 abbrev pub numberOr : ℕ → Reading → ℕ
@@ -127,34 +120,20 @@ module _ (s : List ℕ) (m : ℕ) (alike : (y : Reading) → Reads s y → refus
   no-find : (n : ℕ) → early s ≡ 0 → (n ≡ m → ⊥) → WalkFinds s n → ⊥
   no-find n h e x = other n e (finds-reads h x)
 
-  no-call : early s ≡ 0 → (7 ≡ m → ⊥) → CallsMatch s → ⊥
-  no-call h e x = other 7 e (calls-reads h x)
+  no-beyond : early s ≡ 0 → (8 ≡ m → ⊥) → BeyondExact s → ⊥
+  no-beyond h e x = other 8 e (beyond-reads h x)
 
-  no-beyond : early s ≡ 0 → (7 ≡ m → ⊥) → (8 ≡ m → ⊥) → BeyondExact s → ⊥
-  no-beyond h e f x = ⊎-elim (other 7 e) (other 8 f) (beyond-reads h x)
-
-  -- with a tree: the first of 4, 5, 6 in the walk, then 7, 8, then what is behind them
+  -- with a tree: the first of 4, 5, 6 in the walk, then 8, then what is behind them
   by-tree : early s ≡ 0 → (t : G.Query) → spell t ≡ s → (w : Walked Query) → walk t ≡ w → Keeps w → refusalOf (judge w) ≡ m → ((q : Query) → judge w ≡ form q → First rs k)
       → First (walkRules s ++ rs) (numberOr k (judge w))
   unfolding judge refusalOf
   by-tree h t g (Walked.refused n) w four e f = inl (refl, (t, g, w))
   by-tree h t g (Walked.refused n) w five e f = inr (no-find 4 h (λ d. omega arith), inl (refl, (t, g, w)))
   by-tree h t g (Walked.refused n) w six e f = inr (no-find 4 h (λ d. omega arith), inr (no-find 5 h (λ d. omega arith), inl (refl, (t, g, w))))
-  by-tree h t g (walked true b q) w l e f =
-      inr (no-find 4 h (λ d. omega arith), inr (no-find 5 h (λ d. omega arith), inr (no-find 6 h (λ d. omega arith), inl (refl, (t, g, b, q, w)))))
-  by-tree h t g (walked false true q) w l e f =
-      inr (no-find 4 h (λ d. omega arith), inr (no-find 5 h (λ d. omega arith), inr (no-find 6 h (λ d. omega arith), inr (no-call h (λ d. omega arith), inl (refl, (t, g, false, q, w))))))
-  by-tree h t g (walked false false q) w l e f =
-      inr (
-        no-find 4 h (λ d. omega arith),
-        inr (
-          no-find 5 h (λ d. omega arith),
-          inr (
-            no-find 6 h (λ d. omega arith),
-            inr (no-call h (λ d. omega arith), inr (no-beyond h (λ d. omega arith) (λ d. omega arith), f q refl)),
-          ),
-        ),
-      )
+  by-tree h t g (walked true q) w l e f =
+      inr (no-find 4 h (λ d. omega arith), inr (no-find 5 h (λ d. omega arith), inr (no-find 6 h (λ d. omega arith), inl (refl, (t, g, q, w)))))
+  by-tree h t g (walked false q) w l e f =
+      inr (no-find 4 h (λ d. omega arith), inr (no-find 5 h (λ d. omega arith), inr (no-find 6 h (λ d. omega arith), inr (no-beyond h (λ d. omega arith), f q refl))))
 
   by-early : (n : ℕ) → Early s n → (n ≡ 0 → ⊥) → First (queryRules s ++ rs) n
   by-early n (long a) z = inl (refl, a)

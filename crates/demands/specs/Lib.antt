@@ -14,5 +14,6 @@ pub mod Served
 pub mod Selected
 pub mod Series
 pub mod Paths
+pub mod Matching
 pub mod Demands
 pub mod Refused

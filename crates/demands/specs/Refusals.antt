@@ -4,7 +4,7 @@ use Prim.Native.Nat.{ℕ, _+_, _%_, _≤_, _<_}
 use mathlib.Core.Path.{_≡_}
 use mathlib.Core.Logic.{_⊎_}
 use mathlib.Core.List.{List, [], _∷_, _++_}
-use mathlib.Core.Bool.{Bool, true, false}
+use mathlib.Core.Bool.{true, false}
 use lib.ListN.{length, getD}
 use Rattle.definition.specs.Limits.{maxQuery, maxInt, maxNodes, maxText, recordSize}
 use Rattle.definition.specs.Utf8.{isUtf8}
@@ -58,13 +58,11 @@ Mistyped s = WalkFinds s 5
 abbrev pub UnknownFunction : List ℕ → Type 0
 UnknownFunction s = WalkFinds s 6
 
--- 7: "calls match or search": a tree spells the query, and the walk over it meets such a call
-abbrev pub CallsMatch : List ℕ → Type 0
-CallsMatch s = (t : G.Query) × (spell t ≡ s) × (b : Bool) × (q : Query) × (walk t ≡ walked true b q)
+-- 7 is met by no input (document 02, W4), and is given to nothing else.
 
 -- 8: a float literal beyond the range that document 02, W7, names: a tree spells the query, and the walk over it meets such a literal
 abbrev pub BeyondExact : List ℕ → Type 0
-BeyondExact s = (t : G.Query) × (spell t ≡ s) × (c : Bool) × (q : Query) × (walk t ≡ walked c true q)
+BeyondExact s = (t : G.Query) × (spell t ≡ s) × (q : Query) × (walk t ≡ walked true q)
 
 -- 9: "table empty, not a multiple of 24 bytes, over 65,535 nodes, or text over 16,777,216 bytes"
 abbrev pub WrongSize : List ℕ → List ℕ → Type 0
@@ -130,9 +128,9 @@ abbrev pub First : List Rule → ℕ → Type 0
 First [] n = n ≡ 0
 First (r ∷ rs) n = ((n ≡ r .number) × r .when) ⊎ ((r .when → ⊥) × First rs n)
 
--- "the first of 4, 5, 6 in the Rust's walk, then 7, 8"
+-- "the first of 4, 5, 6 in the Rust's walk", then 8
 abbrev pub walkRules : List ℕ → List Rule
-walkRules s = rule 4 (OutOfRange s) ∷ rule 5 (Mistyped s) ∷ rule 6 (UnknownFunction s) ∷ rule 7 (CallsMatch s) ∷ rule 8 (BeyondExact s) ∷ []
+walkRules s = rule 4 (OutOfRange s) ∷ rule 5 (Mistyped s) ∷ rule 6 (UnknownFunction s) ∷ rule 8 (BeyondExact s) ∷ []
 
 -- "1, 2, 3, 4 by grammar, then" these
 abbrev pub queryRules : List ℕ → List Rule
@@ -146,7 +144,7 @@ tableRules T X = rule 9 (WrongSize T X) ∷ rule 10 (WrongNode T X) ∷ []
 abbrev pub listRules : (Query → Type 0) → List ℕ → List ℕ → List ℕ → ℕ → List Rule
 listRules F T X L at = tableRules T X ++ rule 14 (StartBeyond L at) ∷ rule 13 (TooFewPlaces F T X L at) ∷ []
 
--- "Compile: .. then 7, 8, 12."
+-- "Compile: .. then .. 8, 12."
 abbrev pub compileRules : List ℕ → List ℕ → List ℕ → List Rule
 compileRules s P R = queryRules s ++ rule 12 (RoomTooSmall s P R) ∷ []
 

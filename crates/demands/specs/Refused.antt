@@ -5,6 +5,7 @@ use mathlib.Core.Path.{_≡_, refl, sym, ap}
 use mathlib.Core.Logic.{inl, inr}
 use mathlib.Core.List.{List, [], _∷_}
 use lib.ListN.{replicate, length-replicate}
+use Rattle.regexps.specs.Scope.{whole}
 use Rattle.definition.specs.Limits.{maxInt}
 use Rattle.definition.specs.Lexical.Int.{zeroInt, plainInt}
 use Rattle.definition.specs.Lexical.Whole.{intWhole}
@@ -39,7 +40,12 @@ use Rattle.definition.specs.Grammar.Argument.{literalArgument, queryArgument}
 use Rattle.definition.specs.Forms.{Query}
 use Rattle.definition.specs.Forms.Start.{root}
 use Rattle.definition.specs.Forms.Query.{query}
-use Rattle.definition.specs.Forms.Segments.{end}
+use Rattle.definition.specs.Forms.Segments.{end, child}
+use Rattle.definition.specs.Forms.Selectors.{one}
+use Rattle.definition.specs.Forms.Selector.{filter}
+use Rattle.definition.specs.Forms.Test.{regex}
+use Rattle.definition.specs.Forms.Argument.{literal}
+use Rattle.definition.specs.Forms.Literal.{text}
 use Rattle.definition.specs.Plans.{planOf, codeQuery}
 use Rattle.definition.specs.Walk.{walk}
 use Rattle.definition.specs.Outcomes.{Reads, Translates, CompileOutcome, RunOutcome, early, judge, compileBy, runBy}
@@ -127,13 +133,20 @@ pub unknown : Refuses (spell noFunction) 6
 unfolding computes
 unknown = by-tree noFunction 6 refl refl
 
--- $[?match('a','b')]
+-- $[?match('a','b')], which no refusal meets: 7 is given to no input (document 02, W4)
 abbrev pub matching : G.Query
 matching = filtered (testBasic (functionTest (function (record { first = 0x6D; more = 0x61 ∷ 0x74 ∷ 0x63 ∷ 0x68 ∷ []; isFirst = refl; areMore = refl }) o (arguments (literalArgument (textLiteral (record { quote = single; chars = plain 0x61 refl ∷ [] }))) (moreArguments o o (literalArgument (textLiteral (record { quote = single; chars = plain 0x62 refl ∷ [] }))) noMore)) o)))
 
-pub matches : Refuses (spell matching) 7
+abbrev pub matchingForm : Query
+matchingForm = query root (child (one (filter (regex whole (literal (text (0x61 ∷ []))) (literal (text (0x62 ∷ [])))))) end)
+
+matching-reads : Reads (spell matching) (form matchingForm)
 unfolding computes
-matches = by-tree matching 7 refl refl
+matching-reads = hasTree refl matching refl
+
+pub matches : (c : CompileOutcome) → CompilesOnly (spell matching) (replicate 19 0) (replicate 2 0) c → c .refusal ≡ 0
+unfolding computes
+matches c k = sym (ap (λ (o : CompileOutcome). o .refusal) (k .only (compileBy (form matchingForm) (replicate 19 0) (replicate 2 0)) (record { reading = form matchingForm; reads = matching-reads; is = refl })))
 
 -- $[?@==0e999]
 abbrev pub farPower : G.Query

@@ -30,6 +30,7 @@ use Rattle.definition.specs.Grammar.Function.{function}
 use Rattle.definition.specs.Grammar.Arguments.{noArgument, arguments}
 use Rattle.definition.specs.Grammar.MoreArguments.{noMore, moreArguments}
 use Rattle.definition.specs.Grammar.Argument.{literalArgument, queryArgument, logicalArgument, functionArgument}
+use Rattle.regexps.specs.Scope.{Scope, whole, part}
 use Rattle.definition.specs.Forms as F
 use Rattle.definition.specs.Forms.{isSingular}
 use Rattle.definition.specs.Forms.Literal.{integer, float}
@@ -56,17 +57,17 @@ pub data WalkNumber : ℕ → Type 0 where
 -- what the walk of a part comes to keeps to them
 abbrev pub Keeps : {A : Type 0} → Walked A → Type 0
 Keeps (refused n) = WalkNumber n
-Keeps (walked c b x) = Unit {0}
+Keeps (walked b x) = Unit {0}
 
-also-keeps : {A : Type 0} (c b : Bool) (m : Walked A) → Keeps m → Keeps (also c b m)
+also-keeps : {A : Type 0} (b : Bool) (m : Walked A) → Keeps m → Keeps (also b m)
 unfolding also
-also-keeps c b (refused n) h = h
-also-keeps c b (walked d e x) h = tt
+also-keeps b (refused n) h = h
+also-keeps b (walked e x) h = tt
 
 next-keeps : {A B : Type 0} (m : Walked A) (f : A → Walked B) → Keeps m → ((x : A) → Keeps (f x)) → Keeps (next m f)
 unfolding next
 next-keeps (refused n) f h g = h
-next-keeps (walked c b x) f h g = also-keeps c b (f x) (g x)
+next-keeps (walked b x) f h g = also-keeps b (f x) (g x)
 
 -- with nothing to refuse behind it
 then-fine : {A B : Type 0} (m : Walked A) (f : A → B) → Keeps m → Keeps (next m (λ x. fine (f x)))
@@ -100,7 +101,7 @@ slice-keeps s =
     next-keeps (walkBound (s .stop)) _ (bound-keeps (s .stop)) (λ b.
     then-fine (walkStep (s .by)) (λ c. slice a b c) (step-keeps (s .by))))
 
--- no literal is refused by the walk: one beyond the exact range is only reported
+-- no literal is refused by the walk: one beyond the range of literals is only reported
 numeral-keeps : (n : Numeral) → Keeps (walkNumeral n)
 unfolding walkNumeral
 numeral-keeps (Numeral.integer z) = tt
@@ -171,20 +172,20 @@ only-keeps [] f h = five
 only-keeps (x ∷ []) f h = h x
 only-keeps (x ∷ y ∷ xs) f h = five
 
-regex-keeps : (xs : List Operand) → Keeps (asRegex xs)
+regex-keeps : (c : Scope) (xs : List Operand) → Keeps (asRegex c xs)
 unfolding asRegex
-regex-keeps [] = five
-regex-keeps (x ∷ []) = five
-regex-keeps (x ∷ y ∷ []) = next-keeps (asValue x) _ (value-keeps x) (λ a. next-keeps (asValue y) _ (value-keeps y) (λ b. tt))
-regex-keeps (x ∷ y ∷ z ∷ xs) = five
+regex-keeps c [] = five
+regex-keeps c (x ∷ []) = five
+regex-keeps c (x ∷ y ∷ []) = next-keeps (asValue x) _ (value-keeps x) (λ a. next-keeps (asValue y) _ (value-keeps y) (λ b. tt))
+regex-keeps c (x ∷ y ∷ z ∷ xs) = five
 
 call-keeps : (n : Named) (xs : List Operand) → Keeps (call n xs)
 unfolding call
 call-keeps count xs = then-fine (only xs asNodes) (λ q. valued (countOf q)) (only-keeps xs asNodes (λ x. nodes-keeps x))
 call-keeps length xs = then-fine (only xs asValue) (λ a. valued (lengthOf a)) (only-keeps xs asValue (λ x. value-keeps x))
 call-keeps valueName xs = then-fine (only xs asNodes) (λ q. valued (valueOf q)) (only-keeps xs asNodes (λ x. nodes-keeps x))
-call-keeps match xs = regex-keeps xs
-call-keeps search xs = regex-keeps xs
+call-keeps match xs = regex-keeps whole xs
+call-keeps search xs = regex-keeps part xs
 call-keeps unknown xs = six
 
 -- the walk itself, part by part

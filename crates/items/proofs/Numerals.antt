@@ -59,7 +59,7 @@ module _ {P P' P'' : List ℕ} {a b c : State} (v : Literal) where
   put-float L e g h = rw e (put-done (put-put g h))
 
   -- a float beyond the range of literals
-  pub put-beyond : {d : State} (L : List ℕ) → v ≡ literal.Beyond → Marked a b (record { verdict = 0; calls = false; beyond = true }) → Put P P' b c (0x13 ∷ []) → Put P' P'' c d (2 ∷ []) → Done P P'' L L a d (writeNumeral (meaning v) (a .pool))
+  pub put-beyond : {d : State} (L : List ℕ) → v ≡ literal.Beyond → Marked a b (record { verdict = 0; beyond = true }) → Put P P' b c (0x13 ∷ []) → Put P' P'' c d (2 ∷ []) → Done P P'' L L a d (writeNumeral (meaning v) (a .pool))
   unfolding writeNumeral
   put-beyond L e k g h = rw e (done-marked (marked-put k (put-put g h)))
 

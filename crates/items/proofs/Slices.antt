@@ -193,7 +193,7 @@ slice-written t n =
 
 -- what is written for the field of an int
 abbrev indexWriter : Field → Writer
-indexWriter f = seq (bytes (0x06 ∷ f .bytes)) (mark (record { verdict = f .verdict; calls = false; beyond = false }))
+indexWriter f = seq (bytes (0x06 ∷ f .bytes)) (mark (record { verdict = f .verdict; beyond = false }))
 
 index-written : (i : Int) (n : ℕ) → writeIndex i n ≡ indexWriter (intField i) n
 unfolding writeIndex
@@ -277,7 +277,7 @@ module _ {s : List ℕ} (a : State) (no : NoText s (a .at)) where
           (ap (λ (w : Effect). (w, 1)) (index-written i (a .pool) ∙ ap (λ (f : Field). indexWriter f (a .pool)) (field-same i (h .int) (o .0) ∙ sym (h .field))), o .1)
 
       -- an index is read and written
-      pub index-post : {P P' : List ℕ} (L : List ℕ) {c d : State} → isUtf8 (drop (a .at) s) ≡ true → PutMarked P P' a c (0x06 ∷ littleEndian 8 (p .bits)) (record { verdict = p .verdict; calls = false; beyond = false }) → Moved c d (p .end) →
+      pub index-post : {P P' : List ℕ} (L : List ℕ) {c d : State} → isUtf8 (drop (a .at) s) ≡ true → PutMarked P P' a c (0x06 ∷ littleEndian 8 (p .bits)) (record { verdict = p .verdict; beyond = false }) → Moved c d (p .end) →
           LoosePost spellPlain writePlain isPlain 1 4 s P P' L L a (answer.Next d 1)
       index-post {P} {P'} L {c} {d} v w m =
           let f : indexWriter (fieldOf p) (a .pool) ≡ writeIndex (h .int) (a .pool) = sym (index-written (h .int) (a .pool) ∙ ap (λ (g : Field). indexWriter g (a .pool)) (sym (h .field))) in

@@ -42,7 +42,7 @@ pub eight-put : (P : List ℕ) (a : State) (n : ℕ) {Q : List ℕ} → Wrote P 
 eight-put P a n w = record { at = refl; len = ap (λ (k : ℕ). a .len + k) (sym (length-littleEndian 8 n)); pool = refl; marks = refl; plan = w .is }
 
 -- three verdicts in a row
-pub marked-three : {a b c d : State} {u v w : ℕ} → Marked a b (record { verdict = u; calls = false; beyond = false }) → Marked b c (record { verdict = v; calls = false; beyond = false }) →
-    Marked c d (record { verdict = w; calls = false; beyond = false }) → Marked a d (record { verdict = first u (first v w); calls = false; beyond = false })
+pub marked-three : {a b c d : State} {u v w : ℕ} → Marked a b (record { verdict = u; beyond = false }) → Marked b c (record { verdict = v; beyond = false }) →
+    Marked c d (record { verdict = w; beyond = false }) → Marked a d (record { verdict = first u (first v w); beyond = false })
 unfolding joinMarks
 marked-three g h k = marked-then g (marked-then h k)

@@ -12,7 +12,7 @@ use Rattle.utf8.specs.Bytes.{by-test}
 use Rattle.definition.specs.Walk.{Named}
 use Rattle.definition.specs.Walk.Named.{count, valueName, match, search, unknown}
 use Rattle.writing.specs.Effects.{Marks, joinMarks, first}
-use Rattle.writing.specs.Sorts.{Sort, valueVerdict, nodesVerdict, comparedVerdict, oneVerdict, twoVerdict, callVerdict, isRegex, namedSort}
+use Rattle.writing.specs.Sorts.{Sort, valueVerdict, nodesVerdict, comparedVerdict, oneVerdict, twoVerdict, callVerdict, namedSort}
 use Rattle.writing.specs.Sorts.Sort.{literalSort, singularSort, nodesSort, valueSort, logicalSort}
 use Rattle.writing.specs.Writes.{testTail, notTail, callBytes}
 use Rattle.items.specs.Reads.{sortOf, sortNumber, nameOf, sortsFrom, oneMore, isComparable, flagOfPath, bracketsNumber, callMarks, marksOf, Put, PutMarked}
@@ -126,48 +126,34 @@ module _ (name sorts : ℕ) where
 put-as : {P P' : List ℕ} {a b : State} {x y : List ℕ} {m n : Marks} → x ≡ y → m ≡ n → PutMarked P P' a b x m → PutMarked P P' a b y n
 put-as e f h = rw e at (rw f at h)
 
-marks-as : {v w : ℕ} {c d : Bool} → v ≡ w → c ≡ d → _≡_ {A = Marks} (record { verdict = v; calls = c; beyond = false }) (record { verdict = w; calls = d; beyond = false })
-marks-as e f = rw (e, f)
+marks-as : {v w : ℕ} → v ≡ w → _≡_ {A = Marks} (record { verdict = v; beyond = false }) (record { verdict = w; beyond = false })
+marks-as e = rw e
 
-module _ {P : List ℕ} {a b : State} (name sorts : ℕ) {v : ℕ} (e : v ≡ callVerdict (nameOf name) (sortsFrom sorts)) (k : Marked a b (record { verdict = v; calls = false; beyond = false })) where
+module _ {P : List ℕ} {a b : State} (name sorts : ℕ) {v : ℕ} (e : v ≡ callVerdict (nameOf name) (sortsFrom sorts)) (k : Marked a b (record { verdict = v; beyond = false })) where
   -- a call of a function that there is not writes nothing
   pub call-unknown : name ≡ 0 → PutMarked P P a b (callBytes (nameOf name)) (callMarks name sorts)
-  unfolding callBytes isRegex
-  call-unknown z = put-as (rw z) (marks-as e (rw z)) (marked-put k put-none)
+  unfolding callBytes
+  call-unknown z = put-as (rw z) (marks-as e) (marked-put k put-none)
 
-  -- a call of a function with one argument is written as one byte
-  pub call-value : {P' : List ℕ} {d : State} → 1 ≤ name → name < 4 → Put P P' b d ((24 + name) ∷ []) → PutMarked P P' a d (callBytes (nameOf name)) (callMarks name sorts)
-  unfolding callBytes isRegex
-  call-value l h p =
-      put-as
-      (name-by callBytes ((24 + name) ∷ []) name (omega arith) (λ q. absurd (omega arith)) (λ q. rw q) (λ q. rw q) (λ q. rw q) (λ q. absurd (omega arith)) (λ q. absurd (omega arith)))
-      (marks-as e (name-one isRegex false name l (omega arith) (λ q. refl) (λ q. refl) refl))
-      (marked-put k p)
-
-  -- a call of match or search is marked, and written as a comparison
-  pub call-regex : {P' : List ℕ} {d f : State} → 4 ≤ name → name ≤ 5 → Marked b d (record { verdict = 0; calls = true; beyond = false }) → Put P P' d f (20 ∷ 0 ∷ []) →
-      PutMarked P P' a f (callBytes (nameOf name)) (callMarks name sorts)
-  unfolding callBytes isRegex joinMarks
-  call-regex l h m p =
-      put-as
-      (name-two callBytes (20 ∷ 0 ∷ []) name l h refl refl)
-      (marks-as (first-none v ∙ e) (name-two isRegex true name l h refl refl))
-      (marked-put (marked-then k m) p)
+  -- every other call is written as one byte: the items of the functions follow each other as their numbers do
+  pub call-known : {P' : List ℕ} {d : State} → name ≢ 0 → name ≤ 5 → Put P P' b d ((24 + name) ∷ []) → PutMarked P P' a d (callBytes (nameOf name)) (callMarks name sorts)
+  unfolding callBytes
+  call-known n h p = put-as (name-by callBytes ((24 + name) ∷ []) name h (λ q. absurd (n q)) (λ q. rw q) (λ q. rw q) (λ q. rw q) (λ q. rw q) (λ q. rw q)) (marks-as e) (marked-put k p)
 
 -- ---- comparisons
 
 -- two verdicts in a row and a comparison
-pub compare-done : {P P' : List ℕ} {a b c d : State} {v w x y : ℕ} {z : List ℕ} → v ≡ x → w ≡ y → Marked a b (record { verdict = v; calls = false; beyond = false }) → Marked b c (record { verdict = w; calls = false; beyond = false }) →
-    Put P P' c d z → PutMarked P P' a d z (record { verdict = first x y; calls = false; beyond = false })
+pub compare-done : {P P' : List ℕ} {a b c d : State} {v w x y : ℕ} {z : List ℕ} → v ≡ x → w ≡ y → Marked a b (record { verdict = v; beyond = false }) → Marked b c (record { verdict = w; beyond = false }) →
+    Put P P' c d z → PutMarked P P' a d z (record { verdict = first x y; beyond = false })
 unfolding joinMarks
-compare-done e f g h p = put-as refl (marks-as (rw (e, f)) refl) (marked-put (marked-then g h) p)
+compare-done e f g h p = put-as refl (marks-as (rw (e, f))) (marked-put (marked-then g h) p)
 
 -- ---- negations
 
 -- a verdict and a tail
-pub judged-put : {P P' : List ℕ} {a b c : State} {v w : ℕ} {x y : List ℕ} → v ≡ w → x ≡ y → Marked a b (record { verdict = v; calls = false; beyond = false }) → Put P P' b c x
-    → PutMarked P P' a c y (record { verdict = w; calls = false; beyond = false })
-judged-put e f k p = put-as f (marks-as e refl) (marked-put k p)
+pub judged-put : {P P' : List ℕ} {a b c : State} {v w : ℕ} {x y : List ℕ} → v ≡ w → x ≡ y → Marked a b (record { verdict = v; beyond = false }) → Put P P' b c x
+    → PutMarked P P' a c y (record { verdict = w; beyond = false })
+judged-put e f k p = put-as f (marks-as e) (marked-put k p)
 
 -- ---- flags
 

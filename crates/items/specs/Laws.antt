@@ -82,7 +82,7 @@ first-none a = by-test (eqb a 0) (λ t. rw t (sym (eqb-true a 0 t))) (λ f. rw f
 -- no marks behind change nothing
 pub join-noMarks : (m : Marks) → joinMarks m noMarks ≡ m
 unfolding joinMarks
-join-noMarks m = rw (first-none (m .verdict), or-false (m .calls), or-false (m .beyond))
+join-noMarks m = rw (first-none (m .verdict), or-false (m .beyond))
 
 -- the first of three is the first of the first two and the third
 pub first-assoc : (a b c : ℕ) → first (first a b) c ≡ first a (first b c)
@@ -95,7 +95,7 @@ or-assoc false b c = refl
 -- marks in a row may be joined in any grouping
 pub joinMarks-assoc : (l m n : Marks) → joinMarks (joinMarks l m) n ≡ joinMarks l (joinMarks m n)
 unfolding joinMarks
-joinMarks-assoc l m n = rw (first-assoc (l .verdict) (m .verdict) (n .verdict), or-assoc (l .calls) (m .calls) (n .calls), or-assoc (l .beyond) (m .beyond) (n .beyond))
+joinMarks-assoc l m n = rw (first-assoc (l .verdict) (m .verdict) (n .verdict), or-assoc (l .beyond) (m .beyond) (n .beyond))
 
 -- ---- effects and writers
 

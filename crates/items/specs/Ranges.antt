@@ -81,7 +81,7 @@ abbrev pub sliceBytes : Field → Field → Field → List ℕ
 sliceBytes a b c = 0x07 ∷ (bitOf (a .given) 1 + bitOf (b .given) 2 + bitOf (c .given) 4) ∷ (a .bytes ++ (b .bytes ++ c .bytes))
 
 abbrev pub sliceMarks : Field → Field → Field → Marks
-sliceMarks a b c = record { verdict = first (a .verdict) (first (b .verdict) (c .verdict)); calls = false; beyond = false }
+sliceMarks a b c = record { verdict = first (a .verdict) (first (b .verdict) (c .verdict)); beyond = false }
 
 -- neither a quoted text nor a wildcard begins at a place
 pub record NoText (s : List ℕ) (a : ℕ) : Type 0 where

@@ -21,16 +21,9 @@ pub use Rattle.levels.specs.Leaves.{Dotted, spellDotted, writeDotted, dottedFla
 
 -- ---- the state
 
--- whether match or search is called, and whether a literal is beyond the range of literals, by the number for both: 0 neither, 1 the first, 2 the second, 3 both
-abbrev pub callsAt : ℕ → Bool
-callsAt k = eqb k 1 || leb 3 k
-
-abbrev pub beyondAt : ℕ → Bool
-beyondAt k = leb 2 k
-
--- the marks that a number stands for: the first verdict, and 256 times the number for what comes after the walk
+-- the marks that a number stands for: the first verdict, and 256 more where a literal is beyond the range of literals
 unfoldable pub marksAt : ℕ → Marks
-marksAt n = record { verdict = n % 256; calls = callsAt (n / 256); beyond = beyondAt (n / 256) }
+marksAt n = record { verdict = n % 256; beyond = leb 256 n }
 
 abbrev pub marksOf : State → Marks
 marksOf a = marksAt (a .marks)

@@ -1,6 +1,5 @@
 // Number literals, as they are written.
 use crate::BEYOND;
-use crate::CALLS;
 use crate::State;
 use crate::item;
 use crate::marked;
@@ -20,14 +19,10 @@ ghost use Rattle.items.specs.Reads.{Done, Room, marksOf};
 // The state with a literal beyond the range of literals.
 fn beyond(st: State) -> State
     ensures place { λ r. ⌜ (r .at ≡ st .at) × (r .len ≡ st .len) × (r .pool ≡ st .pool) ⌝ }
-    ensures marks { λ r. ⌜ marksOf r ≡ joinMarks (marksOf st) (record { verdict = 0; calls = false; beyond = true }) ⌝ }
+    ensures marks { λ r. ⌜ marksOf r ≡ joinMarks (marksOf st) (record { verdict = 0; beyond = true }) ⌝ }
 {
     let marks = st.marks;
-    let late = marks / CALLS;
-    if late == 0 {
-        return marked(st, marks + BEYOND);
-    }
-    if late == 1 {
+    if marks < BEYOND {
         return marked(st, marks + BEYOND);
     }
     st

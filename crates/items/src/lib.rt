@@ -29,8 +29,7 @@ use text::parts::copy_part;
 use texts::write_text;
 
 // Where the reader stands: its place in the query, the lengths of plan and pool so far, and the marks of what was read. The marks are one number, so that
-// a state is four words and is copied as such: below 256 the first verdict of 4, 5 and 6, and 256 times 0 for nothing more, 1 for a call of match or search,
-// 2 for a literal beyond the range of literals, 3 for both.
+// a state is four words and is copied as such: below 256 the first verdict of 4, 5 and 6, and 256 more where a literal is beyond the range of literals.
 pub struct State {
     pub at: usize,
     pub len: usize,
@@ -38,10 +37,8 @@ pub struct State {
     pub marks: usize,
 }
 
-// What stands for a call of match or search among the marks, and for a literal beyond the range of literals.
-pub const CALLS: usize = 256;
-
-pub const BEYOND: usize = 512;
+// What stands for a literal beyond the range of literals among the marks.
+pub const BEYOND: usize = 256;
 
 // The state behind a tree and the number that is told of it; or the place where reading stopped.
 pub enum Step {
@@ -81,10 +78,10 @@ pub fn marked(st: State, marks: usize) -> State
 // The state with a verdict of the walk, which stands if it is the first.
 pub fn judged(st: State, verdict: u8) -> State
     ensures place { λ r. ⌜ (r .at ≡ st .at) × (r .len ≡ st .len) × (r .pool ≡ st .pool) ⌝ }
-    ensures marks { λ r. ⌜ marksOf r ≡ joinMarks (marksOf st) (record { verdict = verdict; calls = false; beyond = false }) ⌝ }
+    ensures marks { λ r. ⌜ marksOf r ≡ joinMarks (marksOf st) (record { verdict = verdict; beyond = false }) ⌝ }
 {
     let marks = st.marks;
-    if marks % CALLS == 0 {
+    if marks % BEYOND == 0 {
         return marked(st, marks + verdict as usize);
     }
     st
@@ -139,7 +136,7 @@ pub fn test_tail(plan: &mut [u8], st: State, sort: usize) -> State
 // What an expression with the given flag needs to be negated, and the verdict on it: a value function may not be negated.
 pub fn not_tail(plan: &mut [u8], st: State, flag: usize) -> State
     requires { ⌜ Room 2 (now plan) st × Known flag ⌝ }
-    ensures { λ r. ⌜ PutMarked (now (plan .entry)) (now (plan .exit)) st r (notTail (sortOf flag)) (record { verdict = comparedVerdict true (sortOf flag); calls = false; beyond = false }) ⌝ }
+    ensures { λ r. ⌜ PutMarked (now (plan .entry)) (now (plan .exit)) st r (notTail (sortOf flag)) (record { verdict = comparedVerdict true (sortOf flag); beyond = false }) ⌝ }
 {
     let a = judged(st, compared(flag, true));
     if flag == 0 {
@@ -155,7 +152,7 @@ pub fn not_tail(plan: &mut [u8], st: State, flag: usize) -> State
 // The comparison of two sides of the given sorts, judged left then right.
 pub fn write_compare(plan: &mut [u8], st: State, left: usize, right: usize, op: u8) -> State
     requires { ⌜ Room 2 (now plan) st × (Known left × Known right) ⌝ }
-    ensures { λ r. ⌜ PutMarked (now (plan .entry)) (now (plan .exit)) st r (0x14 ∷ op ∷ []) (record { verdict = first (valueVerdict (sortOf left)) (valueVerdict (sortOf right)); calls = false; beyond = false }) ⌝ }
+    ensures { λ r. ⌜ PutMarked (now (plan .entry)) (now (plan .exit)) st r (0x14 ∷ op ∷ []) (record { verdict = first (valueVerdict (sortOf left)) (valueVerdict (sortOf right)); beyond = false }) ⌝ }
 {
     let a = judged(st, value_verdict(left));
     let b = judged(a, value_verdict(right));
@@ -165,34 +162,14 @@ pub fn write_compare(plan: &mut [u8], st: State, left: usize, right: usize, op: 
 
 // The end of a call of a function, with its typing.
 pub fn write_call(plan: &mut [u8], st: State, name: u8, sorts: usize) -> State
-    requires { ⌜ Room 2 (now plan) st × ((name ≤ 5) × (sorts ≤ 31)) ⌝ }
+    requires { ⌜ Room 1 (now plan) st × ((name ≤ 5) × (sorts ≤ 31)) ⌝ }
     ensures { λ r. ⌜ PutMarked (now (plan .entry)) (now (plan .exit)) st r (callBytes (nameOf name)) (callMarks name sorts) ⌝ }
 {
     let a = judged(st, call_verdict(name, sorts));
     if name == 0 {
         return a;
     }
-    if name < 4 {
-        return item(plan, a, 24 + name);
-    }
-    let b = item(plan, called(a), 20);
-    item(plan, b, 0)
-}
-
-// The state with a call of match or search.
-pub fn called(st: State) -> State
-    ensures place { λ r. ⌜ (r .at ≡ st .at) × (r .len ≡ st .len) × (r .pool ≡ st .pool) ⌝ }
-    ensures marks { λ r. ⌜ marksOf r ≡ joinMarks (marksOf st) (record { verdict = 0; calls = true; beyond = false }) ⌝ }
-{
-    let marks = st.marks;
-    let late = marks / CALLS;
-    if late == 0 {
-        return marked(st, marks + CALLS);
-    }
-    if late == 2 {
-        return marked(st, marks + CALLS);
-    }
-    st
+    item(plan, a, 24 + name)
 }
 
 // ---- verdicts and numbers

@@ -118,7 +118,7 @@ fn bit(given: bool, n: u8) -> u8
 // An index.
 fn put_index(plan: &mut [u8], st: State, p: Piece) -> State
     requires { ⌜ Room 9 (now plan) st ⌝ }
-    ensures { λ r. ⌜ PutMarked (now (plan .entry)) (now (plan .exit)) st r (0x06 ∷ littleEndian 8 (p .bits)) (record { verdict = p .verdict; calls = false; beyond = false }) ⌝ }
+    ensures { λ r. ⌜ PutMarked (now (plan .entry)) (now (plan .exit)) st r (0x06 ∷ littleEndian 8 (p .bits)) (record { verdict = p .verdict; beyond = false }) ⌝ }
 {
     let a = judged(st, p.verdict);
     let b = item(plan, a, 6);

@@ -89,16 +89,12 @@ formed-written q h f =
 agreed-written : {w : Walked Query} {e : Effect} (q : Query) → judge w ≡ form q → Agreed w e → Written q e
 agreed-written {w} {e} q h a = by-verdict (e .marks .verdict) refl
   where
-    by-beyond : (b : Bool) → e .marks .beyond ≡ b → e .marks .verdict ≡ 0 → e .marks .calls ≡ false → Written q e
-    by-beyond true k v c = absurd (not-refused (sym (a .beyond v c k) ∙ h))
-    by-beyond false k v c = formed-written q h (a .forms v c k)
-
-    by-calls : (b : Bool) → e .marks .calls ≡ b → e .marks .verdict ≡ 0 → Written q e
-    by-calls true k v = absurd (not-refused (sym (a .calls v k) ∙ h))
-    by-calls false k v = by-beyond (e .marks .beyond) refl v k
+    by-beyond : (b : Bool) → e .marks .beyond ≡ b → e .marks .verdict ≡ 0 → Written q e
+    by-beyond true k v = absurd (not-refused (sym (a .beyond v k) ∙ h))
+    by-beyond false k v = formed-written q h (a .forms v k)
 
     by-verdict : (n : ℕ) → e .marks .verdict ≡ n → Written q e
-    by-verdict zero v = by-calls (e .marks .calls) refl v
+    by-verdict zero v = by-beyond (e .marks .beyond) refl v
     by-verdict (suc n) v = absurd (not-refused (sym (a .refuses (omega (arith, v))) ∙ h))
 
 -- so the plan and the pool of what compiles are what is written for its tree

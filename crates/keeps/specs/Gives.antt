@@ -8,14 +8,14 @@ use Rattle.definition.specs.Walk.Walked.{refused, walked}
 -- the walk refuses, or what it comes to is as P says
 pub data Gives {A : Type 0} (P : A → Type 0) : Walked A → Type 0 where
   nothing : {n : ℕ} → Gives P (refused n)
-  gives : {c b : Bool} {x : A} → P x → Gives P (walked c b x)
+  gives : {b : Bool} {x : A} → P x → Gives P (walked b x)
 
 module _ {A : Type 0} {P : A → Type 0} where
-  -- reports besides change nothing
-  also-gives : (c b : Bool) {m : Walked A} → Gives P m → Gives P (also c b m)
+  -- a report besides changes nothing
+  also-gives : (b : Bool) {m : Walked A} → Gives P m → Gives P (also b m)
   unfolding also
-  also-gives c b nothing = nothing
-  also-gives c b (gives h) = gives h
+  also-gives b nothing = nothing
+  also-gives b (gives h) = gives h
 
   -- less may be known
   pub weaken : {Q : A → Type 0} {m : Walked A} → Gives P m → ((x : A) → P x → Q x) → Gives Q m
@@ -32,4 +32,4 @@ module _ {A B : Type 0} {P : A → Type 0} {Q : B → Type 0} where
   pub then : {m : Walked A} {k : A → Walked B} → Gives P m → ((x : A) → P x → Gives Q (k x)) → Gives Q (next m k)
   unfolding next
   then nothing go = nothing
-  then (gives {c = c} {b = b} {x = x} h) go = also-gives c b (go x h)
+  then (gives {b = b} {x = x} h) go = also-gives b (go x h)

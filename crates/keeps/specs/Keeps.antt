@@ -32,9 +32,8 @@ rooted t = then (any (walkSegments (t .segments))) (λ q hq. gives refl)
 judged : {P : Query → Type 0} {m : Walked Query} (q : Query) → Gives P m → judge m ≡ form q → P q
 unfolding judge
 judged q nothing e = absurd (not-refused e)
-judged q (gives {c = true} h) e = absurd (not-refused e)
-judged q (gives {c = false} {b = true} h) e = absurd (not-refused e)
-judged {P} q (gives {c = false} {b = false} {x = x} h) e = let g : x ≡ q = cc in subst P g h
+judged q (gives {b = true} h) e = absurd (not-refused e)
+judged {P} q (gives {b = false} {x = x} h) e = let g : x ≡ q = cc in subst P g h
 
 -- its tree's spelling passes refusal 3
 compiled-shallow : {s : List ℕ} {q : Query} (c : Compiled s q) → tooDeep (spell (c .tree)) ≡ false

@@ -11,11 +11,12 @@ use Rattle.definition.specs.Grammar.SingularSegment.{nameSegment, dotSegment, i
 use Rattle.definition.specs.Grammar.SingularSegments.{noSingular, moreSingular}
 use Rattle.definition.specs.Grammar.Singular.{relSingular, absSingular}
 use Rattle.definition.specs.Grammar.Literal.{numberLiteral, textLiteral, trueLiteral, falseLiteral, nullLiteral}
+use Rattle.regexps.specs.Scope.{Scope, whole, part}
 use Rattle.definition.specs.Forms as F
 use Rattle.definition.specs.Forms.{isSingular}
-use Rattle.definition.specs.Forms.Test.{compare, both, either}
+use Rattle.definition.specs.Forms.Test.{compare, regex, both, either}
 use Rattle.definition.specs.QueryForms.{literalRight, boundRight, queryRight, segmentsRight, selectorsRight, selectorRight, testRight, argumentRight, functionRight}
-use Rattle.definition.specs.Walk.{Walked, Expression, Operand, Named, asTest, negated, compared, asNodes, asValue, only, asRegex, unformed, call, walkInt, walkBound, walkStep, walkSlice, walkNumeral, walkLiteral, walkSingularSegment, walkSingularSegments, walkSingular}
+use Rattle.definition.specs.Walk.{Walked, Expression, Operand, Named, asTest, negated, compared, asNodes, asValue, only, asRegex, call, walkInt, walkBound, walkStep, walkSlice, walkNumeral, walkLiteral, walkSingularSegment, walkSingularSegments, walkSingular}
 use Rattle.definition.specs.Walk.Expression.{nodes, valued, logical}
 use Rattle.definition.specs.Walk.Operand.{constant, expression}
 use Rattle.definition.specs.Walk.Named.{count, valueName, match, search, unknown}
@@ -102,12 +103,12 @@ right-only f k [] h = nothing
 right-only f k (x ∷ []) h = k x (h .0)
 right-only f k (x ∷ y ∷ xs) h = nothing
 
-right-regex : (os : List Operand) → RightAll os → Gives RightExpression (asRegex os)
-unfolding asRegex unformed
-right-regex [] h = nothing
-right-regex (x ∷ []) h = nothing
-right-regex (x ∷ y ∷ []) h = then (right-value x (h .0)) (λ a ha. then (right-value y (h .1 .0)) (λ b hb. gives (right-compare F.Operator.eq a b ha hb)))
-right-regex (x ∷ y ∷ z ∷ xs) h = nothing
+right-regex : (s : Scope) (os : List Operand) → RightAll os → Gives RightExpression (asRegex s os)
+unfolding asRegex testRight
+right-regex s [] h = nothing
+right-regex s (x ∷ []) h = nothing
+right-regex s (x ∷ y ∷ []) h = then (right-value x (h .0)) (λ a ha. then (right-value y (h .1 .0)) (λ b hb. gives {x = logical (regex s a b)} (and-true (argumentRight a) (argumentRight b) ha hb)))
+right-regex s (x ∷ y ∷ z ∷ xs) h = nothing
 
 -- a call
 pub right-call : (f : Named) (os : List Operand) → RightAll os → Gives RightExpression (call f os)
@@ -115,8 +116,8 @@ unfolding call functionRight
 right-call count os h = then (right-only asNodes right-nodes os h) (λ q hq. gives hq)
 right-call Named.length os h = then (right-only asValue right-value os h) (λ a ha. gives ha)
 right-call valueName os h = then (right-only asNodes right-nodes os h) (λ q hq. gives hq)
-right-call match os h = right-regex os h
-right-call search os h = right-regex os h
+right-call match os h = right-regex whole os h
+right-call search os h = right-regex part os h
 right-call unknown os h = nothing
 
 -- ---- whole numbers, slices, literals

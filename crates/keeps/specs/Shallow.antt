@@ -11,13 +11,14 @@ use Rattle.definition.specs.Grammar as G
 use Rattle.definition.specs.Grammar.SingularSegment.{nameSegment, dotSegment, indexSegment}
 use Rattle.definition.specs.Grammar.SingularSegments.{noSingular, moreSingular}
 use Rattle.definition.specs.Grammar.Singular.{relSingular, absSingular}
+use Rattle.regexps.specs.Scope.{Scope, whole, part}
 use Rattle.definition.specs.Forms as F
 use Rattle.definition.specs.Forms.{isSingular}
 use Rattle.definition.specs.Forms.Selector.{filter}
-use Rattle.definition.specs.Forms.Test.{exists, compare, not, both, either}
+use Rattle.definition.specs.Forms.Test.{exists, compare, regex, not, both, either}
 use Rattle.definition.specs.Forms.Function.{countOf, lengthOf, valueOf}
 use Rattle.definition.specs.QueryForms.{nesting, nestingSegments, nestingSelectors, nestingSelector, nestingTest, nestingArgument, nestingFunction}
-use Rattle.definition.specs.Walk.{Walked, Expression, Operand, Named, asTest, negated, compared, asNodes, asValue, only, asRegex, unformed, call, walkInt, walkBound, walkStep, walkSlice, walkSingularSegment, walkSingularSegments, walkSingular}
+use Rattle.definition.specs.Walk.{Walked, Expression, Operand, Named, asTest, negated, compared, asNodes, asValue, only, asRegex, call, walkInt, walkBound, walkStep, walkSlice, walkSingularSegment, walkSingularSegments, walkSingular}
 use Rattle.definition.specs.Walk.Walked.{refused, walked}
 use Rattle.definition.specs.Walk.Expression.{nodes, valued, logical}
 use Rattle.definition.specs.Walk.Operand.{constant, expression}
@@ -143,12 +144,12 @@ shallow-only n f k [] h = nothing
 shallow-only n f k (x ∷ []) h = k x (h .0)
 shallow-only n f k (x ∷ y ∷ xs) h = nothing
 
-shallow-regex : (n : ℕ) (os : List Operand) → ShallowAll (suc n) os → Gives (Shallow 0 n) (asRegex os)
-unfolding asRegex unformed
-shallow-regex n [] h = nothing
-shallow-regex n (x ∷ []) h = nothing
-shallow-regex n (x ∷ y ∷ []) h = then (shallow-value (suc n) x (h .0)) (λ a ha. then (shallow-value (suc n) y (h .1 .0)) (λ b hb. gives {x = logical (compare F.Operator.eq a b)} (omega (arith, shallow-compare (suc n) F.Operator.eq a b ha hb))))
-shallow-regex n (x ∷ y ∷ z ∷ xs) h = nothing
+shallow-regex : (n : ℕ) (s : Scope) (os : List Operand) → ShallowAll (suc n) os → Gives (Shallow 0 n) (asRegex s os)
+unfolding asRegex nestingTest
+shallow-regex n s [] h = nothing
+shallow-regex n s (x ∷ []) h = nothing
+shallow-regex n s (x ∷ y ∷ []) h = then (shallow-value (suc n) x (h .0)) (λ a ha. then (shallow-value (suc n) y (h .1 .0)) (λ b hb. gives {x = logical (regex s a b)} (omega (arith, ha, hb))))
+shallow-regex n s (x ∷ y ∷ z ∷ xs) h = nothing
 
 -- a function and the bracket behind its name
 pub shallow-call : (n : ℕ) (f : Named) (os : List Operand) → ShallowAll (suc n) os → Gives (Shallow 0 n) (call f os)
@@ -156,8 +157,8 @@ unfolding call nestingFunction
 shallow-call n count os h = then (shallow-only (suc n) asNodes (shallow-nodes (suc n)) os h) (λ q hq. gives {x = valued (countOf q)} (omega arith))
 shallow-call n Named.length os h = then (shallow-only (suc n) asValue (shallow-value (suc n)) os h) (λ a ha. gives {x = valued (lengthOf a)} (omega arith))
 shallow-call n valueName os h = then (shallow-only (suc n) asNodes (shallow-nodes (suc n)) os h) (λ q hq. gives {x = valued (valueOf q)} (omega arith))
-shallow-call n match os h = shallow-regex n os h
-shallow-call n search os h = shallow-regex n os h
+shallow-call n match os h = shallow-regex n whole os h
+shallow-call n search os h = shallow-regex n part os h
 shallow-call n unknown os h = nothing
 
 -- ---- what nests nothing
@@ -165,7 +166,7 @@ shallow-call n unknown os h = nothing
 -- of a walk of which nothing is asked
 pub any : {A : Type 0} (m : Walked A) → Gives (λ x. Unit {0}) m
 any (refused n) = nothing
-any (walked c b x) = gives tt
+any (walked b x) = gives tt
 
 -- slices and singular queries have no filter
 pub shallow-slice : (s : Slice) → Gives (λ x. nestingSelector x ≡ 0) (walkSlice s)

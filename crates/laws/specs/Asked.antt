@@ -30,13 +30,14 @@ use Rattle.definition.specs.Grammar.Function.{function}
 use Rattle.definition.specs.Grammar.Arguments.{noArgument, arguments}
 use Rattle.definition.specs.Grammar.MoreArguments.{noMore, moreArguments}
 use Rattle.definition.specs.Grammar.Argument.{literalArgument, queryArgument, logicalArgument, functionArgument}
+use Rattle.regexps.specs.Scope.{Scope, whole, part}
 use Rattle.definition.specs.Forms as F
 use Rattle.definition.specs.Forms.{isSingular}
-use Rattle.definition.specs.Forms.Test.{compare, both, either}
+use Rattle.definition.specs.Forms.Test.{compare, regex, both, either}
 use Rattle.definition.specs.QueryForms.{isForm}
 use Rattle.definition.specs.Selecting.{Reading, judge}
 use Rattle.definition.specs.Selecting.Reading.{form}
-use Rattle.definition.specs.Walk.{Walked, Expression, Operand, Named, fine, named, operatorForm, asTest, negated, compared, asNodes, asValue, only, asRegex, unformed, call, walkInt, walkBound, walkStep, walkSlice, walkNumeral, walkLiteral, walkSingularSegment, walkSingularSegments, walkSingular, walkSegments, walkSegment, walkBracketed, walkSelectors, walkSelector, walkOr, walkMoreOr, walkAnd, walkMoreAnd, walkBasic, walkParen, walkTest, walkFilterQuery, walkComparable, walkFunction, walkArguments, walkMoreArguments, walkArgument, walk}
+use Rattle.definition.specs.Walk.{Walked, Expression, Operand, Named, fine, named, operatorForm, asTest, negated, compared, asNodes, asValue, only, asRegex, call, walkInt, walkBound, walkStep, walkSlice, walkNumeral, walkLiteral, walkSingularSegment, walkSingularSegments, walkSingular, walkSegments, walkSegment, walkBracketed, walkSelectors, walkSelector, walkOr, walkMoreOr, walkAnd, walkMoreAnd, walkBasic, walkParen, walkTest, walkFilterQuery, walkComparable, walkFunction, walkArguments, walkMoreArguments, walkArgument, walk}
 use Rattle.definition.specs.Walk.Walked.{refused, walked}
 use Rattle.definition.specs.Walk.Expression.{nodes, valued, logical}
 use Rattle.definition.specs.Walk.Operand.{constant, expression}
@@ -150,20 +151,21 @@ module _ (can : ℕ → Bool) (floats : (n : Number) (b : ℕ) → numeral n ≡
   asked-only f k (x ∷ []) h = k x (h .0)
   asked-only f k (x ∷ y ∷ xs) h = nothing
 
-  asked-regex : (os : List Operand) → AskedAll os → Gives Asked (asRegex os)
-  unfolding asRegex unformed
-  asked-regex [] h = nothing
-  asked-regex (x ∷ []) h = nothing
-  asked-regex (x ∷ y ∷ []) h = then (asked-value x (h .0)) (λ a ha. then (asked-value y (h .1 .0)) (λ b hb. gives (asked-compare F.Operator.eq a b ha hb)))
-  asked-regex (x ∷ y ∷ z ∷ xs) h = nothing
+  asked-regex : (s : Scope) (os : List Operand) → AskedAll os → Gives Asked (asRegex s os)
+  unfolding asRegex
+  asked-regex s [] h = nothing
+  asked-regex s (x ∷ []) h = nothing
+  asked-regex s (x ∷ y ∷ []) h =
+      then (asked-value x (h .0)) (λ a ha. then (asked-value y (h .1 .0)) (λ b hb. gives {x = logical (regex s a b)} (and-true (canArgument can a) (canArgument can b) ha hb)))
+  asked-regex s (x ∷ y ∷ z ∷ xs) h = nothing
 
   asked-call : (f : Named) (os : List Operand) → AskedAll os → Gives Asked (call f os)
   unfolding call
   asked-call count os h = then (asked-only asNodes asked-nodes os h) (λ q hq. gives hq)
   asked-call Named.length os h = then (asked-only asValue asked-value os h) (λ a ha. gives ha)
   asked-call valueName os h = then (asked-only asNodes asked-nodes os h) (λ q hq. gives hq)
-  asked-call match os h = asked-regex os h
-  asked-call search os h = asked-regex os h
+  asked-call match os h = asked-regex whole os h
+  asked-call search os h = asked-regex part os h
   asked-call unknown os h = nothing
 
   -- ---- slices, literals, singular queries
@@ -300,9 +302,8 @@ module _ (can : ℕ → Bool) (floats : (n : Number) (b : ℕ) → numeral n ≡
   judged-asked : {m : Walked F.Query} {q : F.Query} → Gives (λ x. canQuery can x ≡ true) m → judge m ≡ form q → canQuery can q ≡ true
   unfolding judge
   judged-asked nothing e = absurd (false≢true (ap hasForm e))
-  judged-asked (gives {c = true} {b = b} h) e = absurd (false≢true (ap hasForm e))
-  judged-asked (gives {c = false} {b = true} h) e = absurd (false≢true (ap hasForm e))
-  judged-asked (gives {c = false} {b = false} {x = x} h) e = subst (λ (z : F.Query). canQuery can z ≡ true) (ap (formOr x) e) h
+  judged-asked (gives {b = true} h) e = absurd (false≢true (ap hasForm e))
+  judged-asked (gives {b = false} {x = x} h) e = subst (λ (z : F.Query). canQuery can z ≡ true) (ap (formOr x) e) h
 
   -- The form of a query is one that a query can write.
   pub form-asked : (t : G.Query) (q : F.Query) → judge (walk t) ≡ form q → canQuery can q ≡ true

@@ -10,7 +10,7 @@ use lib.Dec.{leb}
 use lib.IntN.{ℤ}
 use Rattle.definition.specs.Limits.{maxNesting}
 use Rattle.definition.specs.Bytes.{sameBytes}
-use Rattle.definition.specs.Lexical.{Blanks, FunctionName, Int, Number, Bound, Step, Slice}
+use Rattle.definition.specs.Lexical.{Blanks, FunctionName, Int, Number, Bound, Step, Slice, functionBytes}
 use Rattle.definition.specs.Lexical.Bound.{noBound, bound}
 use Rattle.definition.specs.Lexical.Step.{noStep, step}
 use Rattle.definition.specs.Literals.{inRange, Numeral, numeral}
@@ -36,13 +36,14 @@ use Rattle.definition.specs.Grammar.LogicalAnd.{logicalAnd}
 use Rattle.definition.specs.Grammar.MoreAnd.{noAnd, moreAnd}
 use Rattle.definition.specs.Grammar.Basic.{parenBasic, notParen, comparison, testBasic}
 use Rattle.definition.specs.Grammar.Paren.{paren}
-use Rattle.definition.specs.Grammar.Test.{queryTest}
+use Rattle.definition.specs.Grammar.Test.{queryTest, functionTest}
 use Rattle.definition.specs.Grammar.FilterQuery.{relQuery, absQuery}
 use Rattle.definition.specs.Grammar.Comparable.{literalComparable, singularComparable, functionComparable}
 use Rattle.definition.specs.Grammar.Function.{function}
 use Rattle.definition.specs.Grammar.Arguments.{arguments}
-use Rattle.definition.specs.Grammar.MoreArguments.{noMore}
+use Rattle.definition.specs.Grammar.MoreArguments.{noMore, moreArguments}
 use Rattle.definition.specs.Grammar.Argument.{literalArgument, queryArgument, functionArgument}
+use Rattle.regexps.specs.Scope.{Scope, whole, part}
 use Rattle.definition.specs.Forms as F
 use Rattle.definition.specs.Forms.{isSingular}
 use Rattle.definition.specs.Forms.Literal.{null, boolean, integer, float, text}
@@ -51,10 +52,10 @@ use Rattle.definition.specs.Forms.Query.{query}
 use Rattle.definition.specs.Forms.Segments.{end, child, descendant}
 use Rattle.definition.specs.Forms.Selectors.{one, and}
 use Rattle.definition.specs.Forms.Selector.{name, index, slice, wildcard, filter}
-use Rattle.definition.specs.Forms.Test.{exists, compare, not, notValue, both, either}
+use Rattle.definition.specs.Forms.Test.{exists, compare, regex, not, notValue, both, either}
 use Rattle.definition.specs.Forms.Argument.{literal, singular, value}
 use Rattle.definition.specs.Forms.Function.{countOf, lengthOf, valueOf}
-use Rattle.definition.specs.Walk.{Walked, Expression, Operand, fine, also, next, walkInt, walkBound, walkStep, walkSlice, walkNumeral, walkLiteral, operatorForm, walkSingularSegment, walkSingularSegments, walkSingular, asTest, negated, compared, asNodes, asValue, named, only, call, walkSegments, walkSegment, walkBracketed, walkSelectors, walkSelector, walkOr, walkMoreOr, walkAnd, walkMoreAnd, walkBasic, walkParen, walkTest, walkFilterQuery, walkComparable, walkFunction, walkArguments, walkMoreArguments, walkArgument, walk}
+use Rattle.definition.specs.Walk.{Walked, Expression, Operand, fine, also, next, walkInt, walkBound, walkStep, walkSlice, walkNumeral, walkLiteral, operatorForm, walkSingularSegment, walkSingularSegments, walkSingular, asTest, negated, compared, asNodes, asValue, named, only, asRegex, call, walkSegments, walkSegment, walkBracketed, walkSelectors, walkSelector, walkOr, walkMoreOr, walkAnd, walkMoreAnd, walkBasic, walkParen, walkTest, walkFilterQuery, walkComparable, walkFunction, walkArguments, walkMoreArguments, walkArgument, walk}
 use Rattle.definition.specs.Walk.Walked.{refused, walked}
 use Rattle.definition.specs.Walk.Expression.{nodes, valued, logical}
 use Rattle.definition.specs.Walk.Operand.{constant, expression}
@@ -63,10 +64,10 @@ use Rattle.laws.specs.Written.{text-written, int-written, integer-writte
 
 -- ---- walks that report nothing
 
-quiet : {A : Type 0} (m : Walked A) → also false false m ≡ m
+quiet : {A : Type 0} (m : Walked A) → also false m ≡ m
 unfolding also
 quiet (refused n) = refl
-quiet (walked c b x) = refl
+quiet (walked b x) = refl
 
 -- a walk that comes to x goes on with x
 then : {A B : Type 0} {m : Walked A} {x : A} (f : A → Walked B) → m ≡ fine x → next m f ≡ f x
@@ -86,6 +87,10 @@ lengthName = record { first = 0x6C; more = 0x65 ∷ 0x6E ∷ 0x67 ∷ 0x74 ∷ 0
 
 abbrev valueWord : FunctionName
 valueWord = record { first = 0x76; more = 0x61 ∷ 0x6C ∷ 0x75 ∷ 0x65 ∷ []; isFirst = refl; areMore = refl }
+
+abbrev scopeName : Scope → FunctionName
+scopeName whole = record { first = 0x6D; more = 0x61 ∷ 0x74 ∷ 0x63 ∷ 0x68 ∷ []; isFirst = refl; areMore = refl }
+scopeName part = record { first = 0x73; more = 0x65 ∷ 0x61 ∷ 0x72 ∷ 0x63 ∷ 0x68 ∷ []; isFirst = refl; areMore = refl }
 
 abbrev operatorTree : F.Operator → G.Operator
 operatorTree eq = eqOperator
@@ -131,6 +136,7 @@ slice-tree a b c h k l =
 abbrev told : F.Test → Expression
 told (exists q) = nodes q
 told (compare o a b) = logical (compare o a b)
+told (regex c a b) = logical (regex c a b)
 told (not t) = logical (not t)
 told (notValue f) = logical (notValue f)
 told (both a b) = logical (both a b)
@@ -140,6 +146,7 @@ told-test : (t : F.Test) → asTest (told t) ≡ t
 unfolding asTest
 told-test (exists q) = refl
 told-test (compare o a b) = refl
+told-test (regex c a b) = refl
 told-test (not t) = refl
 told-test (notValue f) = refl
 told-test (both a b) = refl
@@ -149,6 +156,7 @@ told-not : (t : F.Test) → negated (told t) ≡ fine (logical (not t))
 unfolding negated
 told-not (exists q) = refl
 told-not (compare o a b) = refl
+told-not (regex c a b) = refl
 told-not (not t) = refl
 told-not (notValue f) = refl
 told-not (both a b) = refl
@@ -158,10 +166,17 @@ told-compared : (t : F.Test) → compared true (told t) ≡ fine (told t)
 unfolding compared
 told-compared (exists q) = refl
 told-compared (compare o a b) = refl
+told-compared (regex c a b) = refl
 told-compared (not t) = refl
 told-compared (notValue f) = refl
 told-compared (both a b) = refl
 told-compared (either a b) = refl
+
+-- the name of match and of search is looked up with its scope
+scope-call : (c : Scope) (x y : Operand) → call (named (functionBytes (scopeName c))) (x ∷ y ∷ []) ≡ next (asValue x) (λ a. next (asValue y) (λ b. fine (logical (regex c a b))))
+unfolding named sameBytes call asRegex
+scope-call whole x y = refl
+scope-call part x y = refl
 
 abbrev operandOf : F.Argument → Operand
 operandOf (literal l) = constant l
@@ -231,6 +246,7 @@ module _ (can : ℕ → Bool) where
     pub canTest : F.Test → Bool
     canTest (exists q) = canQuery q
     canTest (compare o a b) = canArgument a && canArgument b
+    canTest (regex c a b) = canArgument a && canArgument b
     canTest (not t) = canTest t
     canTest (notValue f) = false
     canTest (both a b) = canTest a && canTest b
@@ -304,6 +320,10 @@ module _ (can : ℕ → Bool) where
           let x = comparable-tree a (left (argumentRight a) (argumentRight b) h) (left (canArgument a) (canArgument b) w) in
           let y = comparable-tree b (right (argumentRight a) (argumentRight b) h) (right (canArgument a) (canArgument b) w) in
           (comparison (x .0) noBlank (operatorTree p) noBlank (y .0), then _ (x .1) ∙ then _ (y .1) ∙ then _ (x .2) ∙ then _ (y .2) ∙ ap (λ (k : F.Operator). fine (logical (compare k a b))) (operator-back p))
+      basic-tree (regex c a b) h w =
+          let x = argument-tree a (left (argumentRight a) (argumentRight b) h) (left (canArgument a) (canArgument b) w) in
+          let y = argument-tree b (right (argumentRight a) (argumentRight b) h) (right (canArgument a) (canArgument b) w) in
+          (testBasic (functionTest (function (scopeName c) noBlank (arguments (x .0) (moreArguments noBlank noBlank (y .0) noMore)) noBlank)), then _ (then _ (x .1) ∙ then _ (then _ (y .1) ∙ then _ refl)) ∙ scope-call c (operandOf a) (operandOf b) ∙ then _ (x .2) ∙ then _ (y .2))
       basic-tree (not t) h w =
           let x = alone t (basic-tree t h w) in
           (notParen noBlank (paren noBlank (x .0) noBlank), then _ (x .1) ∙ told-not t)

@@ -100,12 +100,10 @@ name-is-text n q p = plain-means q p
 abbrev pub alone : G.Test → G.Argument
 alone t = logicalArgument (logicalOr (logicalAnd (testBasic t) noAnd) noOr)
 
--- reports of nothing may be left out
-spare : (c b : Bool) (x : Operand) → walked (c || false) (b || false) x ≡ walked (((c || false) || false) || false) (((b || false) || false) || false) x
-spare true true x = refl
-spare true false x = refl
-spare false true x = refl
-spare false false x = refl
+-- a report of nothing may be left out
+spare : (b : Bool) (x : Operand) → walked (b || false) x ≡ walked (((b || false) || false) || false) x
+spare true x = refl
+spare false x = refl
 
 -- what the walk of the logical expression does with a test, and what it does with the test taken as an argument
 abbrev chained : Walked Expression → Walked Operand
@@ -115,17 +113,15 @@ chained m = next (next (next m (λ e. next (compared false e) (λ f. fine f))) (
 chained-same : (m : Walked Expression) → next m (λ e. fine (expression e)) ≡ chained m
 unfolding next also compared
 chained-same (refused n) = refl
-chained-same (walked c b (nodes q)) = spare c b (expression (nodes q))
-chained-same (walked c b (valued f)) = spare c b (expression (valued f))
-chained-same (walked c b (logical t)) = spare c b (expression (logical t))
+chained-same (walked b (nodes q)) = spare b (expression (nodes q))
+chained-same (walked b (valued f)) = spare b (expression (valued f))
+chained-same (walked b (logical t)) = spare b (expression (logical t))
 
 nodes-first : (m : Walked F.Query) → next m (λ q. fine (expression (nodes q))) ≡ next (next m (λ q. fine (nodes q))) (λ e. fine (expression e))
 unfolding next also
 nodes-first (refused n) = refl
-nodes-first (walked true true q) = refl
-nodes-first (walked true false q) = refl
-nodes-first (walked false true q) = refl
-nodes-first (walked false false q) = refl
+nodes-first (walked true q) = refl
+nodes-first (walked false q) = refl
 
 pub query-argument-means : (q : G.FilterQuery) → walkArgument (queryArgument q) ≡ walkArgument (alone (queryTest q))
 unfolding walkArgument

@@ -1,5 +1,5 @@
--- What stands in for a part that has no form is in no form: the walk of a query that has one meets no literal beyond the range of literals, no call of
--- match or search, and no chain straight in an argument, in which a value function could be an operand. Assumes nothing.
+-- What stands in for a part that has no form is in no form: the walk of a query that has one meets no literal beyond the range of literals,
+-- and no chain straight in an argument, in which a value function could be an operand. Assumes nothing.
 use mathlib.Core.Path.{_≡_, refl, sym, ap, subst, _∙_}
 use mathlib.Core.List.{List, [], _∷_}
 use mathlib.Core.Bool.{Bool, true, false, not, _&&_, true≢false, false≢true}
@@ -25,6 +25,7 @@ use Rattle.definition.specs.Grammar.Function.{function}
 use Rattle.definition.specs.Grammar.Arguments.{noArgument, arguments}
 use Rattle.definition.specs.Grammar.MoreArguments.{noMore, moreArguments}
 use Rattle.definition.specs.Grammar.Argument.{literalArgument, queryArgument, logicalArgument, functionArgument}
+use Rattle.regexps.specs.Scope.{Scope, whole, part}
 use Rattle.definition.specs.Forms as F
 use Rattle.definition.specs.Walk.{Walked, Expression, Operand, Named, fine, also, next, walkNumeral, walkLiteral, compared, asNodes, asValue, named, only, asRegex, call, walkSegments, walkSegment, walkBracketed, walkSelectors, walkSelector, walkOr, walkMoreOr, walkAnd, walkMoreAnd, walkBasic, walkParen, walkTest, walkFilterQuery, walkComparable, walkFunction, walkArguments, walkMoreArguments, walkArgument, walk}
 use Rattle.definition.specs.Walk.Walked.{refused, walked}
@@ -40,14 +41,6 @@ abbrev pub isBeyond : Numeral → Bool
 isBeyond (Numeral.integer z) = false
 isBeyond (Numeral.float b) = false
 isBeyond Numeral.beyond = true
-
-abbrev pub isRegex : Named → Bool
-isRegex count = false
-isRegex length = false
-isRegex valueName = false
-isRegex match = true
-isRegex search = true
-isRegex unknown = false
 
 abbrev pub plainLiteral : G.Literal → Bool
 plainLiteral (numberLiteral n) = not (isBeyond (numeral n))
@@ -131,7 +124,7 @@ abbrev mutual
   plainComparable (functionComparable f) = plainFunction f
 
   pub plainFunction : G.Function → Bool
-  plainFunction (function n b xs c) = not (isRegex (named (functionBytes n))) && plainArguments xs
+  plainFunction (function n b xs c) = plainArguments xs
 
   pub plainArguments : G.Arguments → Bool
   plainArguments noArgument = true
@@ -149,34 +142,29 @@ abbrev mutual
 
 -- ---- walks that refuse and report nothing
 
--- what a walk reports, and what it comes to, or x where it is refused
-abbrev callsOf : {A : Type 0} → Walked A → Bool
-callsOf (refused n) = true
-callsOf (walked c b x) = c
-
+-- whether a walk refuses or reports, and what it comes to, or x where it is refused
 abbrev beyondOf : {A : Type 0} → Walked A → Bool
 beyondOf (refused n) = true
-beyondOf (walked c b x) = b
+beyondOf (walked b x) = b
 
 abbrev found : {A : Type 0} → A → Walked A → A
 found x (refused n) = x
-found x (walked c b y) = y
+found x (walked b y) = y
 
 same : {A : Type 0} {x y : A} → fine x ≡ fine y → x ≡ y
 same {x = x} e = ap (found x) e
 
-also-fine : {A : Type 0} (c b : Bool) (m : Walked A) {y : A} → also c b m ≡ fine y → (c ≡ false) × (b ≡ false) × (m ≡ fine y)
+also-fine : {A : Type 0} (b : Bool) (m : Walked A) {y : A} → also b m ≡ fine y → (b ≡ false) × (m ≡ fine y)
 unfolding also
-also-fine c b (refused n) e = absurd (true≢false (ap callsOf e))
-also-fine true b (walked d f x) e = absurd (true≢false (ap callsOf e))
-also-fine false true (walked d f x) e = absurd (true≢false (ap beyondOf e))
-also-fine false false (walked d f x) e = (refl, refl, e)
+also-fine b (refused n) e = absurd (true≢false (ap beyondOf e))
+also-fine true (walked f x) e = absurd (true≢false (ap beyondOf e))
+also-fine false (walked f x) e = (refl, e)
 
 -- both walks of a pair are so
 next-fine : {A B : Type 0} (m : Walked A) (f : A → Walked B) {y : B} → next m f ≡ fine y → (x : A) × (m ≡ fine x) × (f x ≡ fine y)
 unfolding next
-next-fine (refused n) f e = absurd (true≢false (ap callsOf e))
-next-fine (walked c b x) f e = let a = also-fine c b (f x) e in (x, rw (a .0, a .1) refl, a .2)
+next-fine (refused n) f e = absurd (true≢false (ap beyondOf e))
+next-fine (walked b x) f e = let a = also-fine b (f x) e in (x, rw (a .0) refl, a .1)
 
 both : {a b : Bool} → a ≡ true → b ≡ true → (a && b) ≡ true
 both p q = rw (p, q) refl
@@ -213,40 +201,39 @@ unfolding asNodes
 nodes-taken (constant l) e = refl
 nodes-taken (expression (nodes q)) e = refl
 nodes-taken (expression (valued f)) e = refl
-nodes-taken (expression (logical t)) e = absurd (true≢false (ap callsOf e))
+nodes-taken (expression (logical t)) e = absurd (true≢false (ap beyondOf e))
 
 value-taken : (x : Operand) {a : F.Argument} → asValue x ≡ fine a → isTaken x ≡ true
 unfolding asValue
 value-taken (constant l) e = refl
 value-taken (expression (nodes q)) e = refl
 value-taken (expression (valued f)) e = refl
-value-taken (expression (logical t)) e = absurd (true≢false (ap callsOf e))
+value-taken (expression (logical t)) e = absurd (true≢false (ap beyondOf e))
 
 only-taken : {A : Type 0} {y : A} (xs : List Operand) (f : Operand → Walked A) → ((x : Operand) → f x ≡ fine y → isTaken x ≡ true) → only xs f ≡ fine y → allTaken xs ≡ true
 unfolding only
 only-taken [] f h e = refl
 only-taken (x ∷ []) f h e = both (h x e) refl
-only-taken (x ∷ z ∷ xs) f h e = absurd (true≢false (ap callsOf e))
+only-taken (x ∷ z ∷ xs) f h e = absurd (true≢false (ap beyondOf e))
 
--- a call of match or search is reported, if it is not refused
-regex-reports : (xs : List Operand) {x : Expression} → asRegex xs ≡ fine x → ⊥
+regex-taken : (c : Scope) (xs : List Operand) {x : Expression} → asRegex c xs ≡ fine x → allTaken xs ≡ true
 unfolding asRegex
-regex-reports [] e = true≢false (ap callsOf e)
-regex-reports (x ∷ []) e = true≢false (ap callsOf e)
-regex-reports (x ∷ y ∷ []) e =
+regex-taken c [] e = refl
+regex-taken c (x ∷ []) e = absurd (true≢false (ap beyondOf e))
+regex-taken c (x ∷ y ∷ []) e =
     let a = next-fine (asValue x) _ e in
     let b = next-fine (asValue y) _ (a .2) in
-    true≢false (ap callsOf (b .2))
-regex-reports (x ∷ y ∷ z ∷ xs) e = true≢false (ap callsOf e)
+    both (value-taken x (a .1)) (both (value-taken y (b .1)) refl)
+regex-taken c (x ∷ y ∷ z ∷ xs) e = absurd (true≢false (ap beyondOf e))
 
-call-plain : (k : Named) (xs : List Operand) {x : Expression} → call k xs ≡ fine x → (not (isRegex k) ≡ true) × (allTaken xs ≡ true)
+call-taken : (k : Named) (xs : List Operand) {x : Expression} → call k xs ≡ fine x → allTaken xs ≡ true
 unfolding call
-call-plain count xs e = (refl, only-taken xs asNodes (λ x h. nodes-taken x h) (next-fine (only xs asNodes) _ e .1))
-call-plain length xs e = (refl, only-taken xs asValue (λ x h. value-taken x h) (next-fine (only xs asValue) _ e .1))
-call-plain valueName xs e = (refl, only-taken xs asNodes (λ x h. nodes-taken x h) (next-fine (only xs asNodes) _ e .1))
-call-plain match xs e = absurd (regex-reports xs e)
-call-plain search xs e = absurd (regex-reports xs e)
-call-plain unknown xs e = absurd (true≢false (ap callsOf e))
+call-taken count xs e = only-taken xs asNodes (λ x h. nodes-taken x h) (next-fine (only xs asNodes) _ e .1)
+call-taken length xs e = only-taken xs asValue (λ x h. value-taken x h) (next-fine (only xs asValue) _ e .1)
+call-taken valueName xs e = only-taken xs asNodes (λ x h. nodes-taken x h) (next-fine (only xs asNodes) _ e .1)
+call-taken match xs e = regex-taken whole xs e
+call-taken search xs e = regex-taken part xs e
+call-taken unknown xs e = absurd (true≢false (ap beyondOf e))
 
 -- the first of some operands, and the others
 taken : (x : Operand) (xs : List Operand) → allTaken (x ∷ xs) ≡ true → (isTaken x ≡ true) × (allTaken xs ≡ true)
@@ -320,7 +307,7 @@ logical-tests (logical t) h = refl
 compared-tests : (x : Expression) {y : Expression} → compared true x ≡ fine y → isValued y ≡ false
 unfolding compared
 compared-tests (nodes q) e = ap isValued (sym (same e))
-compared-tests (valued f) e = absurd (true≢false (ap callsOf e))
+compared-tests (valued f) e = absurd (true≢false (ap beyondOf e))
 compared-tests (logical t) e = ap isValued (sym (same e))
 
 ands-tests : (u : G.MoreAnd) (x : Expression) {y : Expression} → isValued x ≡ false → walkMoreAnd u true x ≡ fine y → isValued y ≡ false
@@ -431,8 +418,7 @@ mutual
   function-plain : (x : G.Function) {y : Expression} → walkFunction x ≡ fine y → plainFunction x ≡ true
   function-plain (function n b xs c) e =
       let f = next-fine (walkArguments xs) _ e in
-      let g = call-plain (named (functionBytes n)) (f .0) (f .2) in
-      both (g .0) (arguments-plain xs (f .1) (g .1))
+      arguments-plain xs (f .1) (call-taken (named (functionBytes n)) (f .0) (f .2))
 
   arguments-plain : (x : G.Arguments) {y : List Operand} → walkArguments x ≡ fine y → allTaken y ≡ true → plainArguments x ≡ true
   arguments-plain noArgument e h = refl
@@ -467,9 +453,8 @@ isForm (form q) = true
 judged-form : (m : Walked F.Query) {q : F.Query} → judge m ≡ form q → (x : F.Query) × (m ≡ fine x)
 unfolding judge
 judged-form (refused n) e = absurd (true≢false (sym (ap isForm e)))
-judged-form (walked true b x) e = absurd (true≢false (sym (ap isForm e)))
-judged-form (walked false true x) e = absurd (true≢false (sym (ap isForm e)))
-judged-form (walked false false x) e = (x, refl)
+judged-form (walked true x) e = absurd (true≢false (sym (ap isForm e)))
+judged-form (walked false x) e = (x, refl)
 
 -- Where the walk of a query comes to a form, nothing that stands in for a part was met.
 pub no-stand-in : (t : G.Query) (q : F.Query) → judge (walk t) ≡ form q → plainSegments (t .segments) ≡ true

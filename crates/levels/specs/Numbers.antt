@@ -7,7 +7,7 @@ use Rattle.definition.specs.Grammar as G
 use Rattle.definition.specs.Walk.{Named}
 use Rattle.definition.specs.Walk.Named.{count, valueName, match, search, unknown}
 use Rattle.writing.specs.Effects.{Marks, Writer, counted}
-use Rattle.writing.specs.Sorts.{Sort, singularSegments, tightSegments, singularSegment, tightSegment, singularBrackets, tightBrackets, isPlainSelector, callVerdict, isRegex}
+use Rattle.writing.specs.Sorts.{Sort, singularSegments, tightSegments, singularSegment, tightSegment, singularBrackets, tightBrackets, isPlainSelector, callVerdict}
 use Rattle.writing.specs.Sorts.Sort.{literalSort, singularSort, nodesSort, valueSort, logicalSort}
 use Rattle.writing.specs.Writes.{writeBracketed, countBracketed}
 
@@ -81,7 +81,7 @@ sortsFrom n =
     (cond (leb n 30) (sortOf ((n - 6) / 5) ∷ sortOf ((n - 6) % 5) ∷ []) (literalSort ∷ literalSort ∷ literalSort ∷ [])))
 
 abbrev pub callMarks : ℕ → ℕ → Marks
-callMarks name sorts = record { verdict = callVerdict (nameOf name) (sortsFrom sorts); calls = isRegex (nameOf name); beyond = false }
+callMarks name sorts = record { verdict = callVerdict (nameOf name) (sortsFrom sorts); beyond = false }
 
 -- whether an operand with a flag may be compared: a literal, a function, or a query that a singular-query spells
 abbrev pub isComparable : ℕ → Bool

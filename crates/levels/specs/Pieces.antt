@@ -10,7 +10,7 @@ use Rattle.definition.specs.Grammar.FilterQuery.{relQuery, absQuery}
 use Rattle.definition.specs.Walk.{operatorForm}
 use Rattle.definition.specs.Plans.{operatorByte}
 use Rattle.writing.specs.Effects.{Writer, first, skip, bytes, seq, frame, mark, verdict}
-use Rattle.writing.specs.Sorts.{Sort, singularSegments, tightSegments, querySort, namedSort, sortOr, sortMoreOr, sortMoreAnd, sortParen, sortTest, sortComparable, sortFunction, sortsOf, valueVerdict, callVerdict, isRegex}
+use Rattle.writing.specs.Sorts.{Sort, singularSegments, tightSegments, querySort, namedSort, sortOr, sortMoreOr, sortMoreAnd, sortParen, sortTest, sortComparable, sortFunction, sortsOf, valueVerdict, callVerdict}
 use Rattle.writing.specs.Writes.{writeOr, writeMoreOr, writeMoreAnd, writeParen, writeTest, writeComparable, writeLiteral, writeFilterQuery, writeFunction, writeArguments, testTail, writeNot, callBytes}
 use Rattle.levels.specs.Numbers.{sortOf, sortNumber, nameOf, isComparable}
 
@@ -115,7 +115,7 @@ spellCall x r = spellBlanks (x .before) (spellArguments (x .arguments) (spellBla
 abbrev pub writeCall : ℕ → Call → Writer
 writeCall n x =
     seq (writeArguments (x .arguments))
-    (seq (mark (record { verdict = callVerdict (nameOf n) (sortsOf (x .arguments)); calls = isRegex (nameOf n); beyond = false })) (bytes (callBytes (nameOf n))))
+    (seq (mark (record { verdict = callVerdict (nameOf n) (sortsOf (x .arguments)); beyond = false })) (bytes (callBytes (nameOf n))))
 
 abbrev pub callSort : ℕ → Call → ℕ
 callSort n x = sortNumber (namedSort (nameOf n))

@@ -70,7 +70,7 @@ module _ {s : List ℕ} {a : State} (x : Is s (a .at) 0x28 false) (y : Is s (a .
 
 -- behind what has the flag f and is negated, the verdict on it was set and its tail was put
 abbrev pub NotPut : ℕ → List ℕ → List ℕ → State → State → Type 0
-NotPut f P P' a b = PutMarked P P' a b (notTail (sortOf f)) (record { verdict = comparedVerdict true (sortOf f); calls = false; beyond = false })
+NotPut f P P' a b = PutMarked P P' a b (notTail (sortOf f)) (record { verdict = comparedVerdict true (sortOf f); beyond = false })
 
 -- what is known of a test that is negated, from the operand that it is
 test-negated : (p : ℕ) (b : Blanks) (x : Operand) (y : TestOf x) → meNegation p (testNegation b (y .test)) ≡ negated (meOperand p x)
@@ -203,13 +203,13 @@ module _ {s : List ℕ} {a b : State} {at : ℕ} (k : Skipped s (a .at) at) (m :
 
     -- an operand that may be compared, and the comparison put behind it
     pub right-read : (l o : ℕ) {r : ℕ} {P₂ : List ℕ} {d : State} → isComparable f ≡ true → r ≡ sortNumber (sortOf f)
-        → PutMarked P₁ P₂ c d (0x14 ∷ o ∷ []) (record { verdict = first (valueVerdict (sortOf l)) (valueVerdict (sortOf r)); calls = false; beyond = false }) → Read spellSide (writeSide l o) (λ t. 4) 2 s P P₂ L L₁ a d 4
+        → PutMarked P₁ P₂ c d (0x14 ∷ o ∷ []) (record { verdict = first (valueVerdict (sortOf l)) (valueVerdict (sortOf r)); beyond = false }) → Read spellSide (writeSide l o) (λ t. 4) 2 s P P₂ L L₁ a d 4
     right-read l o {r} {P₂} {d} e g q =
         let x : isComparable (operandFlag (h .tree)) ≡ true = ap isComparable (sym (h .flag)) ∙ e in
         let y = comparable-of (h .tree) x in
         let σ : sortOf r ≡ sortComparable (y .side) = ap sortOf g ∙ sort-of (sortOf f) ∙ ap sortOf (h .flag) ∙ y .sort in
-        let q' : PutMarked P₁ P₂ c d (0x14 ∷ o ∷ []) (record { verdict = first (valueVerdict (sortOf l)) (valueVerdict (sortComparable (y .side))); calls = false; beyond = false }) =
-        subst (λ (τ : Sort). PutMarked P₁ P₂ c d (0x14 ∷ o ∷ []) (record { verdict = first (valueVerdict (sortOf l)) (valueVerdict τ); calls = false; beyond = false })) σ q in
+        let q' : PutMarked P₁ P₂ c d (0x14 ∷ o ∷ []) (record { verdict = first (valueVerdict (sortOf l)) (valueVerdict (sortComparable (y .side))); beyond = false }) =
+        subst (λ (τ : Sort). PutMarked P₁ P₂ c d (0x14 ∷ o ∷ []) (record { verdict = first (valueVerdict (sortOf l)) (valueVerdict τ); beyond = false })) σ q in
         let t : Side = record { blanks = split-blanks (drop (a .at) s) .0; side = y .side } in
         record {
           tree = t;

@@ -23,7 +23,7 @@ use Rattle.reading.specs.Reads.{Reads, ReadsNone, Wrote}
 use Rattle.utf8.specs.Bytes.{by-test}
 use Rattle.utf8.specs.Encode.{utf8-ascii}
 use Rattle.writing.specs.Effects.{Marks, joinMarks, Effect, Writer, join, seq, mark, bytes, skip}
-use Rattle.writing.specs.Sorts.{Sort, sortMoreOr, sortMoreAnd, sortOr, sortAnd, sortBasic, sortParen, sortArgument, sortsOf, sortsMore, comparedVerdict, callVerdict, isRegex, namedSort}
+use Rattle.writing.specs.Sorts.{Sort, sortMoreOr, sortMoreAnd, sortOr, sortAnd, sortBasic, sortParen, sortArgument, sortsOf, sortsMore, comparedVerdict, callVerdict, namedSort}
 use Rattle.writing.specs.Sorts.Sort.{literalSort, singularSort, nodesSort, valueSort, logicalSort}
 use Rattle.writing.specs.Writes.{writeOr, writeMoreOr, writeAnd, writeMoreAnd, writeBasic, writeParen, writeArguments, writeMoreArguments, writeArgument, testTail, callBytes}
 use Rattle.writing.specs.Sizes.{sizedBasic, sizedAnd, sizedArgument, sizedArguments}
@@ -238,7 +238,7 @@ module _ {x code : ℕ} {tail s P P₁ P₂ L : List ℕ} {now left hd : State} 
 
 -- a verdict alone
 abbrev pub judgement : ℕ → Marks
-judgement v = record { verdict = v; calls = false; beyond = false }
+judgement v = record { verdict = v; beyond = false }
 
 -- ---- *( S "&&" S basic-expr )
 
@@ -565,8 +565,8 @@ module _ {x : ℕ} {s : List ℕ} {a o : State} (k : Skipped s (a .at) x) (m : M
     call-closed {P''} {c} {d} i m' p q =
         let t : Call = record { before = split-blanks (drop (a .at) s) .0; arguments = h .tree; after = split-blanks (drop (n .at) s) .0 } in
         let at : d .at ≡ e + 1 = p .at ∙ m' .0 in
-        let z : callMarks name f ≡ record { verdict = callVerdict (nameOf name) (sortsOf (h .tree)); calls = isRegex (nameOf name); beyond = false } =
-        ap (λ (v : ℕ). record { verdict = v; calls = isRegex (nameOf name); beyond = false }) (ap (λ (v : ℕ). callVerdict (nameOf name) (sortsFrom v)) (h .flag) ∙ sym (verdict-told (sortsOf (h .tree)) (nameOf name))) in
+        let z : callMarks name f ≡ record { verdict = callVerdict (nameOf name) (sortsOf (h .tree)); beyond = false } =
+        ap (λ (v : ℕ). record { verdict = v; beyond = false }) (ap (λ (v : ℕ). callVerdict (nameOf name) (sortsFrom v)) (h .flag) ∙ sym (verdict-told (sortsOf (h .tree)) (nameOf name))) in
         let w : Marks → Writer = λ v. seq (mark v) (bytes (callBytes (nameOf name))) in
         let g : Done P' P'' L' L' n d (w (callMarks name f) (n .pool)) = done-behind (w (callMarks name f)) m' (marked-done p) in
         record {
@@ -574,7 +574,7 @@ module _ {x : ℕ} {s : List ℕ} {a o : State} (k : Skipped s (a .at) x) (m : M
           reads = subst (λ (v : ℕ). Reads spellCall (meCall name (a .pool)) (After 0) (drop (a .at) s) t (drop v s)) (sym at) (call-reads name (a .pool) (reads-behind a k m h) (sym (j .rest) ∙ i .1));
           from = omega (arith, k .from, m .0, h .from, j .from);
           to = omega (arith, i .0);
-          done = done-seq (writeArguments (h .tree)) (w (record { verdict = callVerdict (nameOf name) (sortsOf (h .tree)); calls = isRegex (nameOf name); beyond = false })) (done-behind (writeArguments (h .tree)) m (h .done)) (subst (λ (v : Marks). Done P' P'' L' L' n d (w v (n .pool))) z g);
+          done = done-seq (writeArguments (h .tree)) (w (record { verdict = callVerdict (nameOf name) (sortsOf (h .tree)); beyond = false })) (done-behind (writeArguments (h .tree)) m (h .done)) (subst (λ (v : Marks). Done P' P'' L' L' n d (w v (n .pool))) z g);
           flag = q;
           utf8 = subst (λ (v : ℕ). isUtf8 (drop v s) ≡ true) (sym at) (utf8-is 0x29 e s (lit< tt) i (j .utf8 (h .utf8)));
         }

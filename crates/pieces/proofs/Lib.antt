@@ -2,3 +2,4 @@ pub mod Words
 pub mod Laws
 pub mod Sliced
 pub mod Called
+pub mod Related

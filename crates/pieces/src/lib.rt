@@ -1,4 +1,4 @@
-// The readers of those parts of a plan that hold no other part: texts, numbers, slices, literals, and the functions called on an operand.
+// The readers of those parts of a plan that hold no other part: texts, numbers, slices, literals, the functions called on an operand, and what is asked of two.
 ghost use mathlib.Core.Path.{_≡_};
 ghost use Prim.Native.Nat.{max, _+_, _≤_};
 ghost use lib.ListN.{length};
@@ -9,6 +9,7 @@ ghost use Rattle.definition.specs.QueryForms.{insideI64};
 ghost use Rattle.definition.specs.Tables.{isFinite};
 ghost use Rattle.spelled.specs.Leaves.{texts, integers, floats, smalls, slices, literals};
 ghost use Rattle.spelled.specs.Operands.{allowed};
+ghost use Rattle.spelled.specs.Relations.{relations};
 ghost use Rattle.pieces.specs.Readings.{Kind, callOf, Within, AnyRoom, AnyPool, IsBound, PostCalls};
 use text::bytes;
 use text::encoding;
@@ -234,6 +235,33 @@ pub fn literal(plan: &[u8], pool: &[u8], at: usize, p: usize) -> Step
     }
     if k == 0x13 {
         return small(plan, at + 1, p, 3, 2);
+    }
+    Step::Stop
+}
+
+// What is asked of two operands: a comparison with its operator, or match or search, for which the sort is 1.
+pub fn relation(plan: &[u8], at: usize, p: usize) -> Step
+    ensures { λ r. ⌜ AnyPool relations (now (plan .entry)) at p r ⌝ }
+{
+    let k = kind(plan, at);
+    if k == 0x14 {
+        return small(plan, at + 1, p, 6, 0);
+    }
+    if k == 0x1C {
+        return Step::Next(Got {
+            at: at + 1,
+            p,
+            h: 0,
+            sort: 1,
+        });
+    }
+    if k == 0x1D {
+        return Step::Next(Got {
+            at: at + 1,
+            p,
+            h: 0,
+            sort: 1,
+        });
     }
     Step::Stop
 }

@@ -1,8 +1,8 @@
--- The laws of the readers of operands and of the right sides of comparisons. Assumes nothing.
-use Prim.Native.Nat.{ℕ, max, _+_, _≤_}
-use native.Mathlib.Nat.{le-max-left, le-max-right, max-le}
+-- The laws of the readers of operands and of what stands behind the first of two values. Assumes nothing.
+use Prim.Native.Nat.{ℕ, max, _+_, _≤_, _<_}
+use native.Mathlib.Nat.{le-max-right}
 use native.Mathlib.Omega.{arith}
-use mathlib.Core.Path.{_≡_, refl, sym, ap, _∙_}
+use mathlib.Core.Path.{_≡_, refl, sym, ap, ap₂, _∙_}
 use mathlib.Core.List.{List, [], _∷_, _++_, append-assoc}
 use mathlib.Core.Bool.{true}
 use borrow.Author.Tests.{ltb-true, lt-ltb}
@@ -13,20 +13,21 @@ use Rattle.definition.specs.Forms as F
 use Rattle.definition.specs.Forms.Start.{root, current}
 use Rattle.definition.specs.Forms.Query.{query}
 use Rattle.definition.specs.QueryForms.{argumentRight, nesting, nestingArgument}
-use Rattle.definition.specs.Plans.{startKind, operatorByte, poolQuery, poolArgument, codeArgument}
+use Rattle.definition.specs.Plans.{startKind, poolQuery, poolArgument, codeArgument}
 use Rattle.spelled.specs.Lists.{same-tail, both-left, both-right, both-true}
 use Rattle.spelled.specs.Parts.{Spelt, move}
-use Rattle.spelled.specs.Leaves.{literals, literal-begins, smalls, operatorOf, operator-low, operator-byte}
+use Rattle.spelled.specs.Leaves.{literals, literal-begins}
 use Rattle.spelled.specs.Queries.{segmentsPart, into-query, from-query, start-low}
 use Rattle.spelled.specs.Operands.{Operand, poolOperand, nestingOperand, sortOperand, operandPart, Basis, basisLiteral, basisQuery, asOperand, basisPart, into-literal, from-literal, into-basis, from-basis, Call, callsRight, sortCalls, callsPart, calledAll, all-calls, into-operand, from-operand, argumentOperand, argument-code, argument-pool, argument-nest, argument-right, as-argument}
-use Rattle.pieces.specs.Readings.{Kind, Read, None, Post, next, stop, AnyRoom, AnyPool, PostCalls}
+use Rattle.spelled.specs.Relations.{relationCode, relationDeep, relations, relation-low, relation-no-call}
+use Rattle.pieces.specs.Readings.{Kind, Read, None, Post, next, stop, AnyRoom, PostCalls}
 use Rattle.pieces.specs.declared.Got.{Got}
 use Rattle.pieces.specs.declared.Step.{Step}
 use Rattle.pieces.specs.declared.Step.the-variants.{Next, Stop}
 use Rattle.pieces.proofs.Words.{kind-at, kind-not}
 use Rattle.pieces.proofs.Called.{Behind, behind}
 use Rattle.plan.specs.Loops.{Side, sidePart}
-use Rattle.plan.proofs.Steps.{Short, once-basis, once-operand, read-same, behind-same, respell, Maps, maps, none-of}
+use Rattle.plan.proofs.Steps.{Short, once-basis, once-operand, once-relation, read-same, behind-same, respell, Maps, maps}
 
 -- ---- what an operand begins with
 
@@ -110,43 +111,44 @@ module _ {S L : List ℕ} {at p room : ℕ} (w : Short S L) {g : Got} (rd : Read
 pub oper-none : {S L : List ℕ} {at p room : ℕ} → None basisPart room S L at p → Post operandPart room S L at p Stop
 oper-none x = stop (record { none = λ y r m u. let i = into-operand u in x .none (i .basis) (i .plan) m (i .first) })
 
--- ---- the right side of a comparison
+-- ---- the second of two values
 
 pub record InSide (h σ room : ℕ) (s l : List ℕ) (p : ℕ) (x : Side) (r m : List ℕ) : Type 0 where
-  pub operand : Spelt operandPart room s l p (argumentOperand (x .argument)) (0x14 ∷ operatorByte (x .operator) ∷ r) m
+  pub operand : Spelt operandPart room s l p (argumentOperand (x .argument)) (relationCode (x .relation) ++ r) m
   pub left : 1 ≤ σ
   pub right : argumentRight (x .argument) ≡ true
-  pub deep : h ≤ room
+  pub deep : relationDeep (x .relation) + max h (nestingArgument (x .argument)) ≤ room
 
 pub into-side : (h σ : ℕ) {room p : ℕ} {s l r m : List ℕ} {x : Side} → Spelt (sidePart h σ) room s l p x r m → InSide h σ room s l p x r m
 into-side h σ {room} {p} {r = r} {m = m} {x = x} u =
     let a = x .argument in
-    let tail : List ℕ = 0x14 ∷ operatorByte (x .operator) ∷ [] in
+    let tail = relationCode (x .relation) in
     let y = both-right (ltb 0 σ) (argumentRight a) (u .right) in
-    let b = le-max-left h (nestingArgument a) in
     let c = le-max-right h (nestingArgument a) in
-    let d : max h (nestingArgument a) ≤ room = u .low in
+    let d : relationDeep (x .relation) + max h (nestingArgument a) ≤ room = u .low in
     let n = argument-nest a in
     record {
-      operand = record { plan = u .plan ∙ append-assoc (codeArgument a p) tail r ∙ ap (λ o. o ++ (0x14 ∷ operatorByte (x .operator) ∷ r)) (argument-code a p); pool = u .pool ∙ ap (λ o. o ++ m) (argument-pool a); right = argument-right a y .0; low = omega arith; may = refl };
+      operand = record { plan = u .plan ∙ append-assoc (codeArgument a p) tail r ∙ ap (λ o. o ++ (tail ++ r)) (argument-code a p); pool = u .pool ∙ ap (λ o. o ++ m) (argument-pool a); right = argument-right a y .0; low = omega arith; may = relation-no-call (x .relation) r };
       left = ltb-true 0 σ (both-left (ltb 0 σ) (argumentRight a) (u .right));
       right = y;
-      deep = omega arith;
+      deep = d;
     }
 
 pub from-side : (h σ : ℕ) {room p : ℕ} {s l r m : List ℕ} {x : Side} → InSide h σ room s l p x r m → Spelt (sidePart h σ) room s l p x r m
 from-side h σ {room} {p} {r = r} {m = m} {x = x} i =
     let a = x .argument in
-    let tail : List ℕ = 0x14 ∷ operatorByte (x .operator) ∷ [] in
-    let n = argument-nest a in
-    let l = i .operand .low in
+    let tail = relationCode (x .relation) in
     record {
-      plan = i .operand .plan ∙ sym (append-assoc (codeArgument a p) tail r ∙ ap (λ o. o ++ (0x14 ∷ operatorByte (x .operator) ∷ r)) (argument-code a p));
+      plan = i .operand .plan ∙ sym (append-assoc (codeArgument a p) tail r ∙ ap (λ o. o ++ (tail ++ r)) (argument-code a p));
       pool = i .operand .pool ∙ ap (λ o. o ++ m) (sym (argument-pool a));
       right = both-true (lt-ltb 0 σ (i .left)) (i .right);
-      low = max-le (i .deep) (omega arith);
+      low = i .deep;
       may = refl;
     }
+
+-- what is asked adds one level at most
+pub relation-small : {S L : List ℕ} {room at p : ℕ} {c : Got} → Read relations room S L at p c → c .sort ≤ 1
+relation-small rc = omega (arith, rc .sort, relation-low (rc .form))
 
 module _ {S L : List ℕ} {room at p : ℕ} (h σ : ℕ) where
   pub side-flat : σ ≡ 0 → Post (sidePart h σ) room S L at p Stop
@@ -165,38 +167,43 @@ module _ {S L : List ℕ} {room at p : ℕ} (h σ : ℕ) where
           omega arith;
     })
 
-    module _ {k : ℕ} (e : Kind S (b .at) k) where
-      pub side-kind : (k ≡ 0x14 → ⊥) → Post (sidePart h σ) room S L at p Stop
-      side-kind n = stop (record { none = λ x r m u. kind-not e 0x14 n (sym (read-same once-operand w rd (into-side h σ u .operand) .plan)) })
+    -- what is asked stands behind the second value
+    asked : (x : Side) (r m : List ℕ) → Spelt (sidePart h σ) room (drop at S) (drop p L) p x r m → Spelt relations room (drop (b .at) S) (drop (b .p) L) (b .p) (x .relation) r (drop (b .p) L)
+    asked x r m u = record { plan = sym (read-same once-operand w rd (into-side h σ u .operand) .plan); pool = refl; right = refl; low = omega arith; may = refl }
 
-      module _ (f : k ≡ 0x14) where
-        pub side-operator : AnyPool (smalls 6 0) S (b .at + 1) (b .p) Stop → Post (sidePart h σ) room S L at p Stop
-        side-operator y = stop (record {
-          none = λ x r m u.
-              let j = read-same once-operand w rd (into-side h σ u .operand) in
-              none-of (y .any L room (rd .held)) refl .none (operatorByte (x .operator)) r _
-              (record { plan = same-tail (kind-at e f) (sym (j .plan)); pool = refl; right = lt-ltb (operatorByte (x .operator)) 6 (operator-low (x .operator)); low = omega arith; may = refl });
-        })
+    pub side-unasked : None relations room S L (b .at) (b .p) → Post (sidePart h σ) room S L at p Stop
+    side-unasked y = stop (record { none = λ x r m u. y .none (x .relation) r (drop (b .p) L) (asked x r m u) })
 
-        pub side-found : {c : Got} {h' : ℕ} → (σ ≡ 0 → ⊥) → (b .sort ≡ 0 → ⊥) → h ≤ room → h' ≡ max h (b .h) → Read (smalls 6 0) room S L (b .at + 1) (b .p) c → Post (sidePart h σ) room S L at p (Next (record { at = c .at; p = b .p; h = h'; sort = 0 }))
-        side-found {c} {h'} ns nb low eh rc =
-            let s = rd .sort in
-            let v = as-argument (rd .form) (rd .spelt .right) (omega arith) in
-            let o = operatorOf (rc .form) in
-            let x : Side = record { argument = v .argument; operator = o } in
-            let ob : operatorByte o ≡ rc .form = operator-byte (rc .form) (ltb-true (rc .form) 6 (rc .spelt .right)) in
-            let rest : drop (b .at) S ≡ 0x14 ∷ operatorByte o ∷ drop (c .at) S = kind-at e f ∙ ap (λ q. 0x14 ∷ q) (rc .spelt .plan) ∙ ap (λ q. 0x14 ∷ q ∷ drop (c .at) S) (sym ob) in
-            let f1 = rd .from in
-            let f2 = rc .from in
-            let pl : poolArgument (v .argument) ≡ poolOperand (rd .form) = argument-pool (v .argument) ∙ ap poolOperand (v .is) in
-            let ne : nestingArgument (v .argument) ≡ nestingOperand (rd .form) = argument-nest (v .argument) ∙ ap nestingOperand (v .is) in
-            next {g = record { at = c .at; p = b .p; h = h'; sort = 0 }} (record {
-              form = x;
-              spelt = from-side h σ (record { operand = respell (sym (v .is)) rest (rd .spelt); left = omega arith; right = v .right; deep = low });
-              from = omega arith;
-              to = rc .to;
-              grown = rd .grown ∙ ap (λ q. p + length q) (sym pl);
-              held = rd .held;
-              nest = eh ∙ ap (max h) (rd .nest ∙ sym ne);
-              sort = refl;
-            })
+    module _ {c : Got} (rc : Read relations room S L (b .at) (b .p) c) {h' : ℕ} (eh : h' ≡ c .sort + max h (b .h)) where
+      pub side-deep : room < h' → Post (sidePart h σ) room S L at p Stop
+      side-deep l = stop (record {
+        none = λ x r m u.
+            let i = into-side h σ u in
+            let j = read-same once-operand w rd (i .operand) .nest in
+            let k = read-same once-relation w rc (asked x r m u) .sort in
+            let d = i .deep in
+            let n = argument-nest (x .argument) in
+            let q : h' ≡ relationDeep (x .relation) + max h (nestingArgument (x .argument)) = eh ∙ ap₂ (λ (y z : ℕ). y + max h z) k (j ∙ sym n) in
+            omega arith;
+      })
+
+      pub side-found : (σ ≡ 0 → ⊥) → (b .sort ≡ 0 → ⊥) → h' ≤ room → Post (sidePart h σ) room S L at p (Next (record { at = c .at; p = b .p; h = h'; sort = 0 }))
+      side-found ns nb low =
+          let s = rd .sort in
+          let v = as-argument (rd .form) (rd .spelt .right) (omega arith) in
+          let x : Side = record { argument = v .argument; relation = rc .form } in
+          let f1 = rd .from in
+          let f2 = rc .from in
+          let pl : poolArgument (v .argument) ≡ poolOperand (rd .form) = argument-pool (v .argument) ∙ ap poolOperand (v .is) in
+          let ne : nestingArgument (v .argument) ≡ nestingOperand (rd .form) = argument-nest (v .argument) ∙ ap nestingOperand (v .is) in
+          let q : h' ≡ relationDeep (rc .form) + max h (nestingArgument (v .argument)) = eh ∙ ap₂ (λ (y z : ℕ). y + max h z) (rc .sort) (rd .nest ∙ sym ne) in
+          next {g = record { at = c .at; p = b .p; h = h'; sort = 0 }} (record {
+            form = x;
+            spelt = from-side h σ (record { operand = respell (sym (v .is)) (rc .spelt .plan) (rd .spelt); left = omega arith; right = v .right; deep = omega arith });
+            from = omega arith;
+            to = rc .to;
+            grown = rd .grown ∙ ap (λ q. p + length q) (sym pl);
+            held = rd .held;
+            nest = q;
+            sort = refl;
+          })

@@ -15,7 +15,8 @@ use Rattle.spelled.specs.Lists.{same-tail, not-cons}
 use Rattle.spelled.specs.Parts.{Spelt, move}
 use Rattle.spelled.specs.Queries.{isNil, testPart, framedPart}
 use Rattle.spelled.specs.Operands.{Operand, lit, qry, fun, poolOperand, operandRight, nestingOperand, sortOperand, operandPart, argumentOperand, argument-pool, argument-nest, argument-right, argument-same, as-argument}
-use Rattle.spelled.specs.Tests.{Base, baseExists, baseCompare, baseNot, asTest, basePart, BaseOf, ofExists, ofNot, ofCompare, base-of, base-from, argument-no-test, Ops, opEnd, opNot, opRight, rightKind, applied, nestingOps, opsPart, poolOps, nesting-grows, into-right, from-right, into-not, from-not, into-nothing, right-differ, applied-pool, applied-nest, into-test, from-test}
+use Rattle.spelled.specs.Relations.{related, relationDeep, related-pool, related-nest}
+use Rattle.spelled.specs.Tests.{Base, baseExists, basePair, baseNot, asTest, basePart, BaseOf, ofExists, ofNot, ofPair, base-of, base-from, argument-no-test, Ops, opEnd, opNot, opRight, rightKind, applied, nestingOps, opsPart, poolOps, nesting-grows, into-right, from-right, into-not, from-not, into-nothing, right-differ, applied-pool, applied-nest, into-test, from-test}
 use Rattle.pieces.specs.Readings.{Kind, Start, Read, None, Post, next, stop}
 use Rattle.pieces.specs.declared.Got.{Got}
 use Rattle.pieces.specs.declared.Step.{Step}
@@ -34,9 +35,9 @@ base-none {S} {L} {at} {p} {room} x = stop (record { none = λ y r m u. go (base
     go : {y : Base} {r m : List ℕ} → BaseOf room (drop at S) (drop p L) p r m y → ⊥
     go (ofExists q u) = x .none _ _ _ u
     go (ofNot f h u) = x .none _ _ _ u
-    go (ofCompare o a b ra rb u v) = x .none _ _ _ u
+    go (ofPair o a b ra rb d u v) = x .none _ _ _ u
 
--- an operand as the side of a comparison
+-- an operand as one of two values
 abbrev asSide : Operand → Argument
 asSide (lit l) = literal l
 asSide (qry q) = singular q
@@ -75,36 +76,40 @@ query-low q = go (isSingular q)
 module _ {S L : List ℕ} {room at p : ℕ} (w : Short S L) {a : Got} (rd : Read operandPart room S L at p a) {k : ℕ} (e : Kind S (a .at) k) where
   side-behind : (k ≡ 0x18 → ⊥) → Maps (sidePart (a .h) (a .sort)) basePart room S L at p (a .at) (a .p)
   unfolding poolTest nestingTest
-  side-behind n = record { make = λ x. baseCompare (x .operator) left (x .argument); there = there; back = λ y r m u. back (base-of y u); pool = pool; nest = nest; sort = λ x _. refl; from = rd .from }
+  side-behind n = record { make = λ x. basePair (x .relation) left (x .argument); there = there; back = λ y r m u. back (base-of y u); pool = pool; nest = nest; sort = λ x _. refl; from = rd .from }
     where
       left : Argument
       left = asSide (rd .form)
 
-      there : (x : Side) (r m : List ℕ) → Spelt (sidePart (a .h) (a .sort)) room (drop (a .at) S) (drop (a .p) L) (a .p) x r m → Spelt basePart room (drop at S) (drop p L) p (baseCompare (x .operator) left (x .argument)) r m
+      deep : (x : Side) → relationDeep (x .relation) + max (a .h) (nestingArgument (x .argument)) ≡ relationDeep (x .relation) + max (nestingArgument left) (nestingArgument (x .argument))
+      deep x = ap (λ o. relationDeep (x .relation) + max o (nestingArgument (x .argument))) (rd .nest ∙ sym (argument-nest left ∙ ap nestingOperand (side-operand (rd .form))))
+
+      there : (x : Side) (r m : List ℕ) → Spelt (sidePart (a .h) (a .sort)) room (drop (a .at) S) (drop (a .p) L) (a .p) x r m → Spelt basePart room (drop at S) (drop p L) p (basePair (x .relation) left (x .argument)) r m
       there x r m u =
           let i = into-side (a .h) (a .sort) u in
           let s = rd .sort in
           let l = i .left in
           let c = side-operand (rd .form) in
-          base-from (ofCompare (x .operator) left (x .argument) (side-right (rd .form) (rd .spelt .right) (omega arith)) (i .right) (respell (sym c) refl (rd .spelt)) (move (i .operand) refl refl (rd .grown ∙ ap (λ o. p + length (poolOperand o)) (sym c))))
+          base-from (ofPair (x .relation) left (x .argument) (side-right (rd .form) (rd .spelt .right) (omega arith)) (i .right) (subst (λ (n : ℕ). n ≤ room) (deep x) (i .deep)) (respell (sym c) refl (rd .spelt)) (move (i .operand) refl refl (rd .grown ∙ ap (λ o. p + length (poolOperand o)) (sym c))))
 
       back : {y : Base} {r m : List ℕ} → BaseOf room (drop at S) (drop p L) p r m y → (x : Side) × Spelt (sidePart (a .h) (a .sort)) room (drop (a .at) S) (drop (a .p) L) (a .p) x r m
       back (ofExists q u) = absurd (kind-not e 0x18 n (sym (read-same once-operand w rd u .plan)))
       back (ofNot f h u) = absurd (kind-not e 0x18 n (sym (read-same once-operand w rd u .plan)))
-      back (ofCompare o c d rc rd' u v) =
+      back (ofPair o c d rc rd' n u v) =
           let j = read-same once-operand w rd u in
           let s = argument-right c rc .1 in
           let t = j .sort in
-          (record { argument = d; operator = o }, from-side (a .h) (a .sort) (record { operand = behind-same j v; left = omega arith; right = rd'; deep = low-of rd }))
+          let q : a .h ≡ nestingArgument c = j .nest ∙ sym (argument-nest c) in
+          (record { argument = d; relation = o }, from-side (a .h) (a .sort) (record { operand = behind-same j v; left = omega arith; right = rd'; deep = subst (λ (k : ℕ). relationDeep o + max k (nestingArgument d) ≤ room) (sym q) n }))
 
       pl : poolArgument left ≡ poolOperand (rd .form)
       pl = argument-pool left ∙ ap poolOperand (side-operand (rd .form))
 
-      pool : (x : Side) → ltb 0 (a .sort) && argumentRight (x .argument) ≡ true → a .p + length (poolArgument (x .argument)) ≡ p + length (poolArgument left ++ poolArgument (x .argument))
-      pool x _ = let g = rd .grown in let i = ap length pl in let j = length-append (poolArgument left) (poolArgument (x .argument)) in omega arith
+      pool : (x : Side) → ltb 0 (a .sort) && argumentRight (x .argument) ≡ true → a .p + length (poolArgument (x .argument)) ≡ p + length (poolTest (related (x .relation) left (x .argument)))
+      pool x _ = let g = rd .grown in let i = ap length pl in let j = length-append (poolArgument left) (poolArgument (x .argument)) in let k = ap length (related-pool (x .relation) left (x .argument)) in omega arith
 
-      nest : (x : Side) → ltb 0 (a .sort) && argumentRight (x .argument) ≡ true → max (a .h) (nestingArgument (x .argument)) ≡ max (nestingArgument left) (nestingArgument (x .argument))
-      nest x _ = ap (λ o. max o (nestingArgument (x .argument))) (rd .nest ∙ sym (argument-nest left ∙ ap nestingOperand (side-operand (rd .form))))
+      nest : (x : Side) → ltb 0 (a .sort) && argumentRight (x .argument) ≡ true → relationDeep (x .relation) + max (a .h) (nestingArgument (x .argument)) ≡ nestingTest (related (x .relation) left (x .argument))
+      nest x _ = deep x ∙ sym (related-nest (x .relation) left (x .argument))
 
   pub base-side : {r : Step} → (k ≡ 0x18 → ⊥) → Post (sidePart (a .h) (a .sort)) room S L (a .at) (a .p) r → Post basePart room S L at p r
   base-side n x = maps (side-behind n) x
@@ -154,7 +159,7 @@ module _ {S L : List ℕ} {room at p : ℕ} (w : Short S L) {a : Got} (rd : Read
           let j = read-same once-operand w rd u in
           let n = j .nest in
           d (j .sort) (omega arith) _ (same-tail (kind-at e f) (sym (j .plan)))
-      go (ofCompare o x y rx ry u v) = let j = read-same once-operand w rd u in argument-no-test v (j .plan ∙ kind-at e f)
+      go (ofPair o x y rx ry n u v) = let j = read-same once-operand w rd u in argument-no-test v (j .plan ∙ kind-at e f)
 
 -- ---- nots and right operands
 

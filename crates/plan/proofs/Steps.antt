@@ -9,6 +9,7 @@ use Rattle.definition.specs.Limits.{maxPlan}
 use Rattle.spelled.specs.Parts.{Part, Spelt, Unique, plan-rest, pool-rest, move}
 use Rattle.spelled.specs.Queries.{framedPart, selectorPart, unique-framed, unique-selector}
 use Rattle.spelled.specs.Operands.{basisPart, operandPart, unique-basis, unique-operand}
+use Rattle.spelled.specs.Relations.{relations, unique-relations}
 use Rattle.spelled.specs.Tests.{basePart, unique-base}
 use Rattle.spelled.specs.One.{tests-once}
 use Rattle.pieces.specs.Readings.{Start, Read, None, Post, next, stop, AnyPool}
@@ -29,6 +30,9 @@ once-basis = unique-basis (omega arith) tests-once
 
 pub once-operand : Unique operandPart (suc maxPlan)
 once-operand = unique-operand (omega arith) tests-once
+
+pub once-relation : Unique relations (suc maxPlan)
+once-relation = unique-relations (suc maxPlan)
 
 pub once-base : Unique basePart (suc maxPlan)
 once-base = unique-base (omega arith) tests-once
@@ -126,7 +130,7 @@ low-of rd = let a = rd .nest in let b = rd .spelt .low in omega arith
 pub max-three : (a b c : ℕ) → max (max a b) c ≡ max a (max b c)
 max-three a b c = omega arith
 
--- ---- a byte that was read, whatever the pool
+-- ---- a part without texts that was read, whatever the pool
 
 pub small-read : {X : Type 0} {F : Part X} {S L : List ℕ} {at p room : ℕ} {r : Step} {g : Got} → AnyPool F S at p r → r ≡ Next g → p ≤ length L → Read F room S L at p g
 small-read {L = L} {room = room} a e h = read-of (a .any L room h) e

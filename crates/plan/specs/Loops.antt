@@ -1,4 +1,4 @@
--- The parts that the plan check's loops and its reader of comparisons stand before: what is left of selectors, segments or a comparison, with what was read before it.
+-- The parts that the plan check's loops and its reader of tests of two values stand before: what is left of selectors, segments or such a test, with what was read before it.
 use Prim.Native.Nat.{ℕ, max, _+_, _*_, _≤_, _<_}
 use mathlib.Core.Path.{_≡_}
 use lib.ListN.{drop}
@@ -9,12 +9,13 @@ use Rattle.pieces.specs.declared.Step.the-variants.{Next, Stop}
 use mathlib.Core.List.{List, [], _∷_, _++_}
 use mathlib.Core.Bool.{true, cond, _&&_}
 use lib.Dec.{eqb, ltb}
-use Rattle.definition.specs.Forms.{Operator, Segments, Selectors, Argument, manySelectors}
+use Rattle.definition.specs.Forms.{Segments, Selectors, Argument, manySelectors}
 use Rattle.definition.specs.Forms.Selectors.{one, and}
 use Rattle.definition.specs.QueryForms.{selectorsRight, segmentsRight, argumentRight, nestingSelectors, nestingSegments, nestingArgument}
-use Rattle.definition.specs.Plans.{operatorByte, poolSelectors, poolSegments, poolArgument, codeSelectors, codeSegments, codeArgument}
+use Rattle.definition.specs.Plans.{poolSelectors, poolSegments, poolArgument, codeSelectors, codeSegments, codeArgument}
 use Rattle.spelled.specs.Parts.{Part}
 use Rattle.spelled.specs.Queries.{sortSelector, sortSegments}
+use Rattle.spelled.specs.Relations.{Relation, relationCode, relationDeep}
 
 -- 1 if the last selector is a name or an index, else 0
 abbrev pub lastSort : Selectors → ℕ
@@ -37,14 +38,14 @@ segmentsFrom h σ = record { code = codeSegments; pool = poolSegments; right = s
 abbrev pub singleSort : ℕ → ℕ → ℕ → ℕ
 singleSort k n σ = cond (eqb k 0x03) (cond (eqb n 1) σ 0) 0
 
--- the right side of a comparison and its operator
+-- the second of two values and what is asked of both
 pub record Side : Type 0 where
   pub argument : Argument
-  pub operator : Operator
+  pub relation : Relation
 
--- the same behind a left side of the sort σ that nests h deep
+-- the same behind a first value of the sort σ that nests h deep
 abbrev pub sidePart : ℕ → ℕ → Part Side
-sidePart h σ = record { code = λ x p. codeArgument (x .argument) p ++ 0x14 ∷ operatorByte (x .operator) ∷ []; pool = λ x. poolArgument (x .argument); right = λ x. ltb 0 σ && argumentRight (x .argument); nest = λ x. max h (nestingArgument (x .argument)); sort = λ x. 0; may = λ r. true }
+sidePart h σ = record { code = λ x p. codeArgument (x .argument) p ++ relationCode (x .relation); pool = λ x. poolArgument (x .argument); right = λ x. ltb 0 σ && argumentRight (x .argument); nest = λ x. relationDeep (x .relation) + max h (nestingArgument (x .argument)); sort = λ x. 0; may = λ r. true }
 
 -- The end of a test of the operand a, whose 18 stands at its end: a query's test, or a value function's test with its 15, or neither.
 pub data Tested (S : List ℕ) (a : Got) (room : ℕ) : Step → Type 0 where

@@ -194,7 +194,7 @@ fn oper(plan: &[u8], pool: &[u8], at: usize, p: usize, room: usize) -> Step
     }
 }
 
-// The right side of a comparison whose left side is a, and its operator.
+// The second of two values of which the first is a, and what is asked of both.
 fn side(plan: &[u8], pool: &[u8], a: Got, room: usize) -> Step
     requires { ⌜ Start (now plan) (now pool) (a .at) (a .p) room × (a .h ≤ room) ⌝ }
     ensures { λ r. ⌜ Post (sidePart (a .h) (a .sort)) room (now (plan .entry)) (now (pool .entry)) (a .at) (a .p) r ⌝ }
@@ -210,24 +210,26 @@ fn side(plan: &[u8], pool: &[u8], a: Got, room: usize) -> Step
             if right == 0 {
                 return Step::Stop;
             }
-            let at = b.at;
-            if pieces::kind(plan, at) != 0x14 {
-                return Step::Stop;
-            }
-            match pieces::small(plan, at + 1, b.p, 6, 0) {
+            match pieces::relation(plan, b.at, b.p) {
                 Step::Stop => Step::Stop,
-                Step::Next(c) => Step::Next(Got {
-                    at: c.at,
-                    p: b.p,
-                    h: pieces::most(a.h, b.h),
-                    sort: 0,
-                }),
+                Step::Next(c) => {
+                    let h = c.sort + pieces::most(a.h, b.h);
+                    if room < h {
+                        return Step::Stop;
+                    }
+                    Step::Next(Got {
+                        at: c.at,
+                        p: b.p,
+                        h,
+                        sort: 0,
+                    })
+                }
             }
         }
     }
 }
 
-// What a test begins with: a test of a query, a comparison, or a test of a value function with its not.
+// What a test begins with: a test of a query, a test of two values, or a test of a value function with its not.
 fn base(plan: &[u8], pool: &[u8], p: usize, room: usize) -> Step
     requires { ⌜ Start (now plan) (now pool) 0 p room ⌝ }
     ensures { λ r. ⌜ Post basePart room (now (plan .entry)) (now (pool .entry)) 0 p r ⌝ }

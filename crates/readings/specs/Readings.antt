@@ -47,16 +47,12 @@ same-walk {s} h t t' g g' e = by-verdict (w .marks .verdict) refl
         let r' : Reads s (form (x' .query)) = subst (Reads s) (x' .is) (hasTree h t' g') in
         x' .is ∙ ap form (same-form r' r (x' .plan ∙ sym (x .plan)) (x' .pool ∙ sym (x .pool))) ∙ sym (x .is)
 
-    by-beyond : (b : Bool) → w .marks .beyond ≡ b → w .marks .verdict ≡ 0 → w .marks .calls ≡ false → judge (walk t') ≡ judge (walk t)
-    by-beyond true k v c = a' .beyond v c k ∙ sym (a .beyond v c k)
-    by-beyond false k v c = formed (a .forms v c k) (a' .forms v c k)
-
-    by-calls : (b : Bool) → w .marks .calls ≡ b → w .marks .verdict ≡ 0 → judge (walk t') ≡ judge (walk t)
-    by-calls true k v = a' .calls v k ∙ sym (a .calls v k)
-    by-calls false k v = by-beyond (w .marks .beyond) refl v k
+    by-beyond : (b : Bool) → w .marks .beyond ≡ b → w .marks .verdict ≡ 0 → judge (walk t') ≡ judge (walk t)
+    by-beyond true k v = a' .beyond v k ∙ sym (a .beyond v k)
+    by-beyond false k v = formed (a .forms v k) (a' .forms v k)
 
     by-verdict : (n : ℕ) → w .marks .verdict ≡ n → judge (walk t') ≡ judge (walk t)
-    by-verdict zero v = by-calls (w .marks .calls) refl v
+    by-verdict zero v = by-beyond (w .marks .beyond) refl v
     by-verdict (suc n) v = a' .refuses (omega (arith, v)) ∙ sym (a .refuses (omega (arith, v)))
 
 -- ---- what a text comes to, and nothing else

@@ -39,7 +39,7 @@ and-follow (moreAnd b c x u) r a = after-blanks 2 b 0x26 _ refl (lit< tt)
 
 -- what is written for the whole, from what is written for its parts
 abbrev pub andEffect : Bool → Sort → Effect → Effect → Effect
-andEffect a σ e f = join e (join (record { plan = []; pool = []; marks = record { verdict = comparedVerdict a σ; calls = false; beyond = false } }) f)
+andEffect a σ e f = join e (join (record { plan = []; pool = []; marks = record { verdict = comparedVerdict a σ; beyond = false } }) f)
 
 pub write-and : (a : Bool) (p : ℕ) (b : Basic) (u : MoreAnd)
     → writeAnd (logicalAnd b u) a p ≡ andEffect a (sortBasic b) (writeBasic b p) (writeMoreAnd u (sortBasic b) a (p + length (writeBasic b p .pool)))

@@ -141,7 +141,7 @@ meChain p t = chainBy p (meOperated p (operated t)) (t .rest .ands) (t .rest .or
 abbrev toOr : Chain → G.LogicalOr
 toOr t = logicalOr (logicalAnd (basic-of (operated t) .tree) (t .rest .ands)) (t .rest .ors)
 
-unmarked : (e : Effect) → join (record { plan = []; pool = []; marks = record { verdict = 0; calls = false; beyond = false } }) e ≡ e
+unmarked : (e : Effect) → join (record { plan = []; pool = []; marks = record { verdict = 0; beyond = false } }) e ≡ e
 unfolding join joinMarks
 unmarked e = refl
 

@@ -98,9 +98,8 @@ join-skip e p =
     let x = append-nil (e .plan) in
     let y = append-nil (e .pool) in
     let v = first-none (e .marks .verdict) in
-    let c = or-false (e .marks .calls) in
     let b = or-false (e .marks .beyond) in
-    λ i. record { plan = x i; pool = y i; marks = record { verdict = v i; calls = c i; beyond = b i } }
+    λ i. record { plan = x i; pool = y i; marks = record { verdict = v i; beyond = b i } }
   where
     first-none : (n : ℕ) → first n 0 ≡ n
     first-none n = go (eqb n 0) refl

@@ -12,7 +12,7 @@ use Rattle.definition.specs.Walk.{Named}
 use Rattle.definition.specs.Walk.Named.{count, valueName, match, search, unknown}
 use Rattle.reading.specs.Reads.{Reads, ReadsNone}
 use Rattle.writing.specs.Effects.{join, seq, mark, bytes}
-use Rattle.writing.specs.Sorts.{Sort, sortsOf, callVerdict, isRegex, namedSort, oneVerdict, twoVerdict}
+use Rattle.writing.specs.Sorts.{Sort, sortsOf, callVerdict, namedSort, oneVerdict, twoVerdict}
 use Rattle.writing.specs.Sorts.Sort.{literalSort, singularSort, nodesSort, valueSort, logicalSort}
 use Rattle.writing.specs.Writes.{writeArguments, callBytes}
 use Rattle.levels.specs.Follow.{unblank, After}
@@ -117,7 +117,7 @@ call-means : (name p : ℕ) (x : Call) → meCall name p x ≡ calledBy name (me
 unfolding seq mark bytes
 call-means name p x =
     let e = verdict-told (sortsOf (x .arguments)) (nameOf name) in
-    λ i. (join (writeArguments (x .arguments) p) (join (marked (record { verdict = e i; calls = isRegex (nameOf name); beyond = false })) (plain (callBytes (nameOf name)))), sortNumber (namedSort (nameOf name)))
+    λ i. (join (writeArguments (x .arguments) p) (join (marked (record { verdict = e i; beyond = false })) (plain (callBytes (nameOf name)))), sortNumber (namedSort (nameOf name)))
 
 module _ (name p : ℕ) {s r : List ℕ} {xs : G.Arguments} (o : Reads spellArguments (meArguments p) (After 6) (unblank s) xs r) where
   pub call-reads : {r₂ : List ℕ} → unblank r ≡ 0x29 ∷ r₂ → Reads spellCall (meCall name p) (After 0) s (record { before = split-blanks s .0; arguments = xs; after = split-blanks r .0 }) r₂

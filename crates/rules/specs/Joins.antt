@@ -21,9 +21,8 @@ pub marks-assoc : (a b c : Marks) → joinMarks (joinMarks a b) c ≡ joinMarks 
 unfolding joinMarks
 marks-assoc a b c =
     let x = first-assoc (a .verdict) (b .verdict) (c .verdict) in
-    let y = or-assoc (a .calls) (b .calls) (c .calls) in
-    let z = or-assoc (a .beyond) (b .beyond) (c .beyond) in
-    λ i. record { verdict = x i; calls = y i; beyond = z i }
+    let y = or-assoc (a .beyond) (b .beyond) (c .beyond) in
+    λ i. record { verdict = x i; beyond = y i }
 
 pub join-assoc : (a b c : Effect) → join (join a b) c ≡ join a (join b c)
 unfolding join

@@ -23,7 +23,7 @@ use Rattle.rules.specs.And.{meBasic, meMoreAnd}
 -- what an operand with its operator brings about, from what is told of the operand
 abbrev pub andDoes : Bool → Sort → Effect × ℕ → Effect
 andDoes a σ m =
-    join (plain (testTail σ)) (join (within 0x16 (join (m .0) (plain (testTail (sortOf (m .1)))))) (marked (record { verdict = comparedVerdict a (sortOf (m .1)); calls = false; beyond = false })))
+    join (plain (testTail σ)) (join (within 0x16 (join (m .0) (plain (testTail (sortOf (m .1)))))) (marked (record { verdict = comparedVerdict a (sortOf (m .1)); beyond = false })))
 
 -- bytes behind an effect leave its pool
 last-pool : (e : Effect) (s : List ℕ) → length (join e (plain s) .pool) ≡ length (e .pool)

@@ -30,7 +30,7 @@ use Rattle.rules.specs.Basic.{meNegation, filter-query-sort, query-some,
 
 -- what stands behind what is negated: the verdict on its sort, and its tail
 abbrev pub notEffect : Sort → Effect
-notEffect s = join (marked (record { verdict = comparedVerdict true s; calls = false; beyond = false })) (plain (notTail s))
+notEffect s = join (marked (record { verdict = comparedVerdict true s; beyond = false })) (plain (notTail s))
 
 -- what is known of the negation, from what is known of what is negated
 abbrev pub negated : Effect × ℕ → Effect × ℕ

@@ -129,7 +129,7 @@ meSide l o p x = (writeSide l o x p, 4)
 
 -- what is written for the whole comparison behind its left side, from what is known of the right one
 abbrev pub sideEffect : ℕ → ℕ → Effect → Sort → Effect
-sideEffect l o e σ = join e (join (marked (record { verdict = first (valueVerdict (sortOf l)) (valueVerdict σ); calls = false; beyond = false })) (plain (0x14 ∷ o ∷ [])))
+sideEffect l o e σ = join e (join (marked (record { verdict = first (valueVerdict (sortOf l)) (valueVerdict σ); beyond = false })) (plain (0x14 ∷ o ∷ [])))
 
 seq-end : (f : Writer) (m : Marks) (c : List ℕ) (p : ℕ) → seq f (seq (mark m) (bytes c)) p ≡ join (f p) (join (marked m) (plain c))
 unfolding seq mark bytes

@@ -15,7 +15,7 @@ use Rattle.definition.specs.Walk.{named}
 use Rattle.reading.specs.Reads.{Reads, ReadsNone, StartsNot}
 use Rattle.utf8.specs.Bytes.{inside-low, inside-high}
 use Rattle.writing.specs.Effects.{Effect, seq, mark, bytes}
-use Rattle.writing.specs.Sorts.{namedSort, sortFunction, sortsOf, callVerdict, isRegex}
+use Rattle.writing.specs.Sorts.{namedSort, sortFunction, sortsOf, callVerdict}
 use Rattle.writing.specs.Writes.{writeArguments, writeFunction, callBytes, writeLiteral}
 use Rattle.levels.specs.Follow.{unblank, rank, After}
 use Rattle.levels.specs.Numbers.{sortNumber, nameOf}
@@ -124,7 +124,7 @@ call-writes : (name p : ℕ) (n : FunctionName) (x : Call) → named (functionBy
     → meOperand p (functionOperand (function n (x .before) (x .arguments) (x .after))) ≡ meCall name p x
 unfolding writeFunction sortFunction
 call-writes name p n x e =
-    λ i. (seq (writeArguments (x .arguments)) (seq (mark (record { verdict = callVerdict (e i) (sortsOf (x .arguments)); calls = isRegex (e i); beyond = false })) (bytes (callBytes (e i)))) p, sortNumber (namedSort (e i)))
+    λ i. (seq (writeArguments (x .arguments)) (seq (mark (record { verdict = callVerdict (e i) (sortsOf (x .arguments)); beyond = false })) (bytes (callBytes (e i)))) p, sortNumber (namedSort (e i)))
 
 module _ (p : ℕ) {s s₁ : List ℕ} {w : FunctionName} (o : Reads spellFunctionName functionBytes (StartsNot isFunctionChar) s w s₁) where
   -- a word that a "(" follows: a call

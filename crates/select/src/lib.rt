@@ -31,7 +31,7 @@ use run::run_form;
 
 // What a selection comes to.
 pub enum Selection {
-    // The query is refused, by a number from 1 to 8.
+    // The query is refused, by a number from 1 to 6 or 8.
     Refused(u8),
     // What running its plan comes to.
     Ran(Ran),

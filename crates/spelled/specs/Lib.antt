@@ -3,5 +3,6 @@ pub mod Parts
 pub mod Leaves
 pub mod Queries
 pub mod Operands
+pub mod Relations
 pub mod Tests
 pub mod One

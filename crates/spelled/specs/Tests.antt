@@ -9,26 +9,26 @@ use borrow.Author.Tests.{leb-true}
 use lib.Dec.{leb}
 use lib.ListN.{length, length-append}
 use Rattle.definition.specs.Limits.{maxPlan}
-use Rattle.definition.specs.Forms.{Query, Operator, Test, Argument, Function}
-use Rattle.definition.specs.Forms.Test.{exists, compare, not, notValue, both, either}
+use Rattle.definition.specs.Forms.{Query, Test, Argument, Function}
+use Rattle.definition.specs.Forms.Test.{exists, compare, regex, not, notValue, both, either}
 use Rattle.definition.specs.QueryForms.{argumentRight, testRight, nestingArgument, nestingFunction, nestingTest}
-use Rattle.definition.specs.Plans.{two, framed, operatorByte, poolArgument, poolTest, codeQuery, codeArgument, codeFunction, codeTest}
+use Rattle.definition.specs.Plans.{two, framed, poolArgument, poolTest, codeQuery, codeArgument, codeFunction, codeTest}
 use Rattle.spelled.specs.Lists.{differ, same-tail, not-cons, both-left, both-right, both-true}
 use Rattle.spelled.specs.Parts.{Part, Spelt, Unique, plan-left, pool-left, plan-rest, pool-rest, move, next-same}
-use Rattle.spelled.specs.Leaves.{operatorOf, operator-of}
 use Rattle.spelled.specs.Queries.{isNil, nil-is, testPart, framedPart, unique-framed}
 use Rattle.spelled.specs.Operands.{Operand, qry, fun, codeOperand, poolOperand, operandPart, unique-operand, operand-begins, noCall, argumentOperand, argument-code, argument-pool, argument-nest, argument-right, argument-same}
+use Rattle.spelled.specs.Relations.{Relation, compares, matches, related, relationCode, relationDeep, related-code, related-pool, related-right, related-nest, relation-no-call, relation-same}
 
--- ---- what a test begins with: a test of a query, a comparison, or `!` before a value function
+-- ---- what a test begins with: a test of a query, a test of two values, or `!` before a value function
 
 pub data Base : Type 0 where
   baseExists : Query → Base
-  baseCompare : Operator → Argument → Argument → Base
+  basePair : Relation → Argument → Argument → Base
   baseNot : Function → Base
 
 abbrev pub asTest : Base → Test
 asTest (baseExists q) = exists q
-asTest (baseCompare o a b) = compare o a b
+asTest (basePair x a b) = related x a b
 asTest (baseNot f) = notValue f
 
 abbrev pub basePart : Part Base
@@ -38,8 +38,8 @@ basePart = record { code = λ b. codeTest (asTest b); pool = λ b. poolTest (asT
 pub data BaseOf (room : ℕ) (s l : List ℕ) (p : ℕ) (r m : List ℕ) : Base → Type 0 where
   ofExists : (q : Query) → Spelt operandPart room s l p (qry q) (0x18 ∷ r) m → BaseOf room s l p r m (baseExists q)
   ofNot : (f : Function) → suc (nestingFunction f) ≤ room → Spelt operandPart room s l p (fun f) (0x18 ∷ 0x15 ∷ r) m → BaseOf room s l p r m (baseNot f)
-  ofCompare : {s₁ l₁ : List ℕ} (o : Operator) (a b : Argument) → argumentRight a ≡ true → argumentRight b ≡ true → Spelt operandPart room s l p (argumentOperand a) s₁ l₁ →
-      Spelt operandPart room s₁ l₁ (p + length (poolOperand (argumentOperand a))) (argumentOperand b) (0x14 ∷ operatorByte o ∷ r) m → BaseOf room s l p r m (baseCompare o a b)
+  ofPair : {s₁ l₁ : List ℕ} (x : Relation) (a b : Argument) → argumentRight a ≡ true → argumentRight b ≡ true → relationDeep x + max (nestingArgument a) (nestingArgument b) ≤ room → Spelt operandPart room s l p (argumentOperand a) s₁ l₁ →
+      Spelt operandPart room s₁ l₁ (p + length (poolOperand (argumentOperand a))) (argumentOperand b) (relationCode x ++ r) m → BaseOf room s l p r m (basePair x a b)
 
 -- what begins with a kind in 01..13 is no call
 pub low-no-call : {k : ℕ} {c r : List ℕ} → r ≡ k ∷ c → k ≤ 0x13 → noCall r ≡ true
@@ -53,49 +53,46 @@ pub base-of : {room p : ℕ} {s l r m : List ℕ} (b : Base) → Spelt basePart 
 unfolding codeTest poolTest testRight nestingTest
 base-of {p = p} {r = r} (baseExists q) u = ofExists q (record { plan = u .plan ∙ append-assoc (codeQuery q p) (0x18 ∷ []) r; pool = u .pool; right = u .right; low = u .low; may = refl })
 base-of {p = p} {r = r} (baseNot f) u = let z = u .low in ofNot f z (record { plan = u .plan ∙ append-assoc (codeFunction f p) (0x18 ∷ 0x15 ∷ []) r; pool = u .pool; right = u .right; low = omega arith; may = refl })
-base-of {room} {p} {r = r} {m = m} (baseCompare o a b) u =
+base-of {room} {p} {r = r} {m = m} (basePair x a b) u =
     let q = p + length (poolArgument a) in
     let q' = p + length (poolOperand (argumentOperand a)) in
-    let ra = both-left (argumentRight a) (argumentRight b) (u .right) in
-    let rb = both-right (argumentRight a) (argumentRight b) (u .right) in
+    let right : (argumentRight a && argumentRight b) ≡ true = sym (related-right x a b) ∙ u .right in
+    let ra = both-left (argumentRight a) (argumentRight b) right in
+    let rb = both-right (argumentRight a) (argumentRight b) right in
     let ha = argument-right a ra in
     let hb = argument-right b rb in
-    let c : max (nestingArgument a) (nestingArgument b) ≤ room = u .low in
+    let d : relationDeep x + max (nestingArgument a) (nestingArgument b) ≤ room = let l = u .low in omega (arith, related-nest x a b) in
     let y = le-max-left (nestingArgument a) (nestingArgument b) in
     let z = le-max-right (nestingArgument a) (nestingArgument b) in
     let na = argument-nest a in
     let nb = argument-nest b in
-    let tail : List ℕ = 0x14 ∷ operatorByte o ∷ r in
+    let tail : List ℕ = relationCode x ++ r in
     let e : codeArgument b q ≡ codeOperand (argumentOperand b) q' = argument-code b q ∙ ap (λ d. codeOperand (argumentOperand b) (p + length d)) (argument-pool a) in
     let g = operand-begins (argumentOperand b) q' (hb .0) in
-    ofCompare o a b ra rb
+    ofPair x a b ra rb d
     (record {
-      plan = u .plan ∙ append-assoc (codeArgument a p) (codeArgument b q ++ 0x14 ∷ operatorByte o ∷ []) r ∙ ap (λ d. codeArgument a p ++ d) (append-assoc (codeArgument b q) (0x14 ∷ operatorByte o ∷ []) r) ∙ ap (λ d. codeArgument a p ++ (d ++ tail)) e ∙ ap (λ d. d ++ (codeOperand (argumentOperand b) q' ++ tail)) (argument-code a p);
-      pool = u .pool ∙ append-assoc (poolArgument a) (poolArgument b) m ∙ ap (λ d. d ++ (poolArgument b ++ m)) (argument-pool a) ∙ ap (λ d. poolOperand (argumentOperand a) ++ (d ++ m)) (argument-pool b);
+      plan = u .plan ∙ ap (λ d. d ++ r) (related-code x a b p) ∙ append-assoc (codeArgument a p) (codeArgument b q ++ relationCode x) r ∙ ap (λ d. codeArgument a p ++ d) (append-assoc (codeArgument b q) (relationCode x) r) ∙ ap (λ d. codeArgument a p ++ (d ++ tail)) e ∙ ap (λ d. d ++ (codeOperand (argumentOperand b) q' ++ tail)) (argument-code a p);
+      pool = u .pool ∙ ap (λ d. d ++ m) (related-pool x a b) ∙ append-assoc (poolArgument a) (poolArgument b) m ∙ ap (λ d. d ++ (poolArgument b ++ m)) (argument-pool a) ∙ ap (λ d. poolOperand (argumentOperand a) ++ (d ++ m)) (argument-pool b);
       right = ha .0;
       low = omega arith;
       may = low-no-call (ap (λ d. d ++ tail) (g .2)) (g .4);
     })
-    (record { plan = refl; pool = refl; right = hb .0; low = omega arith; may = refl })
+    (record { plan = refl; pool = refl; right = hb .0; low = omega arith; may = relation-no-call x r })
 
 pub base-from : {room p : ℕ} {s l r m : List ℕ} {b : Base} → BaseOf room s l p r m b → Spelt basePart room s l p b r m
 unfolding codeTest poolTest testRight nestingTest
 base-from {p = p} {r = r} (ofExists q u) = record { plan = u .plan ∙ sym (append-assoc (codeQuery q p) (0x18 ∷ []) r); pool = u .pool; right = u .right; low = u .low; may = refl }
 base-from {p = p} {r = r} (ofNot f h u) = record { plan = u .plan ∙ sym (append-assoc (codeFunction f p) (0x18 ∷ 0x15 ∷ []) r); pool = u .pool; right = u .right; low = h; may = refl }
-base-from {room} {p} {r = r} {m = m} (ofCompare o a b ra rb u v) =
+base-from {room} {p} {r = r} {m = m} (ofPair x a b ra rb deep u v) =
     let q = p + length (poolArgument a) in
     let q' = p + length (poolOperand (argumentOperand a)) in
-    let tail : List ℕ = 0x14 ∷ operatorByte o ∷ r in
-    let na = argument-nest a in
-    let nb = argument-nest b in
-    let la = u .low in
-    let lb = v .low in
+    let tail : List ℕ = relationCode x ++ r in
     let e : codeArgument b q ≡ codeOperand (argumentOperand b) q' = argument-code b q ∙ ap (λ d. codeOperand (argumentOperand b) (p + length d)) (argument-pool a) in
     record {
-      plan = u .plan ∙ ap (λ d. codeOperand (argumentOperand a) p ++ d) (v .plan) ∙ sym (append-assoc (codeArgument a p) (codeArgument b q ++ 0x14 ∷ operatorByte o ∷ []) r ∙ ap (λ d. codeArgument a p ++ d) (append-assoc (codeArgument b q) (0x14 ∷ operatorByte o ∷ []) r) ∙ ap (λ d. codeArgument a p ++ (d ++ tail)) e ∙ ap (λ d. d ++ (codeOperand (argumentOperand b) q' ++ tail)) (argument-code a p));
-      pool = u .pool ∙ ap (λ d. poolOperand (argumentOperand a) ++ d) (v .pool) ∙ sym (append-assoc (poolArgument a) (poolArgument b) m ∙ ap (λ d. d ++ (poolArgument b ++ m)) (argument-pool a) ∙ ap (λ d. poolOperand (argumentOperand a) ++ (d ++ m)) (argument-pool b));
-      right = both-true ra rb;
-      low = max-le (omega arith) (omega arith);
+      plan = u .plan ∙ ap (λ d. codeOperand (argumentOperand a) p ++ d) (v .plan) ∙ sym (ap (λ d. d ++ r) (related-code x a b p) ∙ append-assoc (codeArgument a p) (codeArgument b q ++ relationCode x) r ∙ ap (λ d. codeArgument a p ++ d) (append-assoc (codeArgument b q) (relationCode x) r) ∙ ap (λ d. codeArgument a p ++ (d ++ tail)) e ∙ ap (λ d. d ++ (codeOperand (argumentOperand b) q' ++ tail)) (argument-code a p));
+      pool = u .pool ∙ ap (λ d. poolOperand (argumentOperand a) ++ d) (v .pool) ∙ sym (ap (λ d. d ++ m) (related-pool x a b) ∙ append-assoc (poolArgument a) (poolArgument b) m ∙ ap (λ d. d ++ (poolArgument b ++ m)) (argument-pool a) ∙ ap (λ d. poolOperand (argumentOperand a) ++ (d ++ m)) (argument-pool b));
+      right = related-right x a b ∙ both-true ra rb;
+      low = omega (arith, deep, related-nest x a b);
       may = refl;
     }
 
@@ -112,21 +109,17 @@ module _ {n : ℕ} (fits : n ≤ maxPlan) (tests : Unique testPart n) where
   base-same : {room room' p : ℕ} {s l r r' m m' : List ℕ} {x x' : Base} → length s < suc n → length l ≤ maxPlan → BaseOf room s l p r m x → BaseOf room' s l p r' m' x' → x ≡ x'
   base-same a b (ofExists q u) (ofExists q' v) = let e = unique-operand fits tests .same (qry q) (qry q') a b u v in let f : q ≡ q' = cc in ap baseExists f
   base-same a b (ofExists q u) (ofNot f h v) = let e = unique-operand fits tests .same (qry q) (fun f) a b u v in absurd (let z : _≡_ {A = ℕ} 0 1 = cc in omega arith)
-  base-same a b (ofExists q u) (ofCompare o c d rc rd v w) = let e = unique-operand fits tests .same (qry q) (argumentOperand c) a b u v in absurd (argument-no-test w (sym (plan-rest u v e)))
+  base-same a b (ofExists q u) (ofPair x c d rc rd n v w) = let e = unique-operand fits tests .same (qry q) (argumentOperand c) a b u v in absurd (argument-no-test w (sym (plan-rest u v e)))
   base-same a b (ofNot f h u) (ofExists q v) = let e = unique-operand fits tests .same (fun f) (qry q) a b u v in absurd (let z : _≡_ {A = ℕ} 0 1 = cc in omega arith)
   base-same a b (ofNot f h u) (ofNot f' h' v) = let e = unique-operand fits tests .same (fun f) (fun f') a b u v in let g : f ≡ f' = cc in ap baseNot g
-  base-same a b (ofNot f h u) (ofCompare o c d rc rd v w) = let e = unique-operand fits tests .same (fun f) (argumentOperand c) a b u v in absurd (argument-no-test w (sym (plan-rest u v e)))
-  base-same a b (ofCompare o c d rc rd u w) (ofExists q v) = let e = unique-operand fits tests .same (qry q) (argumentOperand c) a b v u in absurd (argument-no-test w (sym (plan-rest v u e)))
-  base-same a b (ofCompare o c d rc rd u w) (ofNot f h v) = let e = unique-operand fits tests .same (fun f) (argumentOperand c) a b v u in absurd (argument-no-test w (sym (plan-rest v u e)))
-  base-same {p = p} a b (ofCompare o c d rc rd u w) (ofCompare o' c' d' rc' rd' u' w') =
+  base-same a b (ofNot f h u) (ofPair x c d rc rd n v w) = let e = unique-operand fits tests .same (fun f) (argumentOperand c) a b u v in absurd (argument-no-test w (sym (plan-rest u v e)))
+  base-same a b (ofPair x c d rc rd n u w) (ofExists q v) = let e = unique-operand fits tests .same (qry q) (argumentOperand c) a b v u in absurd (argument-no-test w (sym (plan-rest v u e)))
+  base-same a b (ofPair x c d rc rd n u w) (ofNot f h v) = let e = unique-operand fits tests .same (fun f) (argumentOperand c) a b v u in absurd (argument-no-test w (sym (plan-rest v u e)))
+  base-same {p = p} a b (ofPair x c d rc rd n u w) (ofPair x' c' d' rc' rd' n' u' w') =
       let e = unique-operand fits tests .same (argumentOperand c) (argumentOperand c') a b u u' in
       let f = next-same (unique-operand fits tests) a b e u u' w w' in
-      let y = plan-left u in
-      let z = pool-left u in
       let v = move w' (sym (plan-rest u u' e)) (sym (pool-rest u u' e)) (ap (λ x. p + length (poolOperand x)) (sym e)) in
-      let g = plan-rest w v f in
-      let k : operatorByte o ≡ operatorByte o' = cc in
-      let i : o ≡ o' = sym (operator-of o) ∙ ap operatorOf k ∙ operator-of o' in
+      let i = relation-same x x' _ _ (plan-rest w v f) in
       cc (i, argument-same c c' e, argument-same d d' f)
 
   pub unique-base : Unique basePart (suc n)
@@ -323,7 +316,8 @@ pub record Applied (t : Test) : Type 0 where
 
 applied-on : (t : Test) (o : Ops) → Applied (applied o t)
 applied-on (exists q) o = record { base = baseExists q; ops = o; is = refl }
-applied-on (compare c a b) o = record { base = baseCompare c a b; ops = o; is = refl }
+applied-on (compare c a b) o = record { base = basePair (compares c) a b; ops = o; is = refl }
+applied-on (regex c a b) o = record { base = basePair (matches c) a b; ops = o; is = refl }
 applied-on (notValue f) o = record { base = baseNot f; ops = o; is = refl }
 applied-on (not t) o = applied-on t (opNot o)
 applied-on (both t b) o = applied-on t (opRight true b o)

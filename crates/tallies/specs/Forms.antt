@@ -1,6 +1,7 @@
 -- The items of a query form, by the form alone: the kind of each, in the order in which a plan has them. Document 01, "Plan items": "Filter code is postfix".
 use Prim.Native.Nat.{ℕ}
 use mathlib.Core.List.{List, [], _∷_, _++_}
+use Rattle.regexps.specs.Scope.{Scope, whole, part}
 use Rattle.definition.specs.Forms.{Literal, Start, Query, Segments, Selectors, Selector, Test, Argument, Function}
 use Rattle.definition.specs.Forms.Literal.{null, boolean, integer, float, text}
 use Rattle.definition.specs.Forms.Start.{root, current}
@@ -8,7 +9,7 @@ use Rattle.definition.specs.Forms.Query.{query}
 use Rattle.definition.specs.Forms.Segments.{end, child, descendant}
 use Rattle.definition.specs.Forms.Selectors.{one, and}
 use Rattle.definition.specs.Forms.Selector.{name, index, slice, wildcard, filter}
-use Rattle.definition.specs.Forms.Test.{exists, compare, not, notValue, both, either}
+use Rattle.definition.specs.Forms.Test.{exists, compare, regex, not, notValue, both, either}
 use Rattle.definition.specs.Forms.Argument.{literal, singular, value}
 use Rattle.definition.specs.Forms.Function.{countOf, lengthOf, valueOf}
 
@@ -24,6 +25,11 @@ literalItem (boolean b) = 0x13
 literalItem (integer z) = 0x10
 literalItem (float b) = 0x11
 literalItem (text s) = 0x12
+
+-- 1C match, 1D search
+unfoldable pub scopeItem : Scope → ℕ
+scopeItem whole = 0x1C
+scopeItem part = 0x1D
 
 unfoldable mutual
   pub itemsOf : Query → List ℕ
@@ -51,6 +57,7 @@ unfoldable mutual
   pub testItems : Test → List ℕ
   testItems (exists q) = itemsOf q ++ 0x18 ∷ []
   testItems (compare o a b) = argumentItems a ++ (argumentItems b ++ 0x14 ∷ [])
+  testItems (regex c a b) = argumentItems a ++ (argumentItems b ++ scopeItem c ∷ [])
   testItems (not t) = testItems t ++ 0x15 ∷ []
   testItems (notValue f) = functionItems f ++ 0x18 ∷ 0x15 ∷ []
   testItems (both a b) = testItems a ++ 0x16 ∷ testItems b

@@ -8,6 +8,7 @@ use native.Mathlib.Omega.{arith}
 use lib.IntN.{ℤ}
 use lib.ListN.{length, drop, length-drop}
 use Rattle.definition.specs.Bytes.{littleEndian, unsigned64}
+use Rattle.regexps.specs.Scope.{Scope, whole, part}
 use Rattle.definition.specs.Forms.{Literal, Start, Query, Segments, Selectors, Selector, Test, Argument, Function, manySelectors}
 use Rattle.definition.specs.Forms.Literal.{null, boolean, integer, float, text}
 use Rattle.definition.specs.Forms.Start.{root, current}
@@ -15,12 +16,12 @@ use Rattle.definition.specs.Forms.Query.{query}
 use Rattle.definition.specs.Forms.Segments.{end, child, descendant}
 use Rattle.definition.specs.Forms.Selectors.{one, and}
 use Rattle.definition.specs.Forms.Selector.{name, index, slice, wildcard, filter}
-use Rattle.definition.specs.Forms.Test.{exists, compare, not, notValue, both, either}
+use Rattle.definition.specs.Forms.Test.{exists, compare, regex, not, notValue, both, either}
 use Rattle.definition.specs.Forms.Argument.{literal, singular, value}
 use Rattle.definition.specs.Forms.Function.{countOf, lengthOf, valueOf}
-use Rattle.definition.specs.Plans.{two, pooled, startKind, operatorByte, given, eightOf, codeSlice, codeLiteral, framed, planOf, poolSelector, poolSelectors, poolArgument, poolTest, codeQuery, codeSegments, codeSelectors, codeSelector, codeTest, codeArgument, codeFunction}
+use Rattle.definition.specs.Plans.{two, pooled, startKind, operatorByte, scopeKind, given, eightOf, codeSlice, codeLiteral, framed, planOf, poolSelector, poolSelectors, poolArgument, poolTest, codeQuery, codeSegments, codeSelectors, codeSelector, codeTest, codeArgument, codeFunction}
 use Rattle.tallies.specs.Items.{bodyLength, kindsWithin, kindsOf}
-use Rattle.tallies.specs.Forms.{startItem, literalItem, itemsOf, segmentsItems, selectorsItems, selectorItems, testItems, argumentItems, functionItems}
+use Rattle.tallies.specs.Forms.{startItem, literalItem, scopeItem, itemsOf, segmentsItems, selectorsItems, selectorItems, testItems, argumentItems, functionItems}
 
 -- ---- the walk over bytes
 
@@ -110,6 +111,11 @@ unfolding startKind startItem bodyLength
 start-meets root r = with-none 0x01 r refl
 start-meets current r = with-none 0x02 r refl
 
+scope-meets : (c : Scope) (r : List ℕ) → kindsOf (scopeKind c ∷ r) ≡ scopeItem c ∷ kindsOf r
+unfolding scopeKind scopeItem bodyLength
+scope-meets whole r = with-none 0x1C r refl
+scope-meets part r = with-none 0x1D r refl
+
 -- ---- the law, part by part: the walk over what is written for a part meets the part's items, and goes on behind it
 
 mutual
@@ -149,6 +155,11 @@ mutual
       let z : List ℕ = 0x14 ∷ operatorByte o ∷ [] in
       joins (codeArgument a p) (codeArgument b m ++ z) r (argumentItems a) (argumentItems b ++ 0x14 ∷ []) (argument-meets a p ((codeArgument b m ++ z) ++ r))
       (joins (codeArgument b m) z r (argumentItems b) (0x14 ∷ []) (argument-meets b m (z ++ r)) (with-one 0x14 (operatorByte o) r refl))
+  test-meets (regex c a b) p r =
+      let m = p + length (poolArgument a) in
+      let z : List ℕ = scopeKind c ∷ [] in
+      joins (codeArgument a p) (codeArgument b m ++ z) r (argumentItems a) (argumentItems b ++ scopeItem c ∷ []) (argument-meets a p ((codeArgument b m ++ z) ++ r))
+      (joins (codeArgument b m) z r (argumentItems b) (scopeItem c ∷ []) (argument-meets b m (z ++ r)) (scope-meets c r))
   test-meets (not t) p r = ends (codeTest t p) r (testItems t) 0x15 refl (λ s. test-meets t p s)
   test-meets (notValue f) p r =
       joins (codeFunction f p) (0x18 ∷ 0x15 ∷ []) r (functionItems f) (0x18 ∷ 0x15 ∷ []) (function-meets f p (0x18 ∷ 0x15 ∷ r))

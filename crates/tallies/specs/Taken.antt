@@ -7,6 +7,7 @@ use mathlib.Core.List.{List, [], _∷_, _++_, map}
 use lib.Dec.{eqb}
 use lib.IntN.{pos}
 use lib.ListN.{replicate}
+use Rattle.regexps.specs.Scope.{Scope, whole, part}
 use Rattle.definition.specs.Forms.{Literal, Start, Query, Segments, Selectors, Selector, Test, Argument, Function, manySelectors}
 use Rattle.definition.specs.Forms.Literal.{null, boolean, integer, float, text}
 use Rattle.definition.specs.Forms.Start.{root, current}
@@ -14,13 +15,13 @@ use Rattle.definition.specs.Forms.Query.{query}
 use Rattle.definition.specs.Forms.Segments.{end, child, descendant}
 use Rattle.definition.specs.Forms.Selectors.{one, and}
 use Rattle.definition.specs.Forms.Selector.{name, index, slice, wildcard, filter}
-use Rattle.definition.specs.Forms.Test.{exists, compare, not, notValue, both, either}
+use Rattle.definition.specs.Forms.Test.{exists, compare, regex, not, notValue, both, either}
 use Rattle.definition.specs.Forms.Argument.{literal, singular, value}
 use Rattle.definition.specs.Forms.Function.{countOf, lengthOf, valueOf}
 use Rattle.definition.specs.Bytes.{littleEndian}
 use Rattle.definition.specs.Plans.{pooled, startKind, planOf, poolSelectors, poolSelector, codeQuery, codeSegments, codeSelectors, codeSelector}
 use Rattle.tallies.specs.Items.{bodyLength, kindsWithin, kindsOf, occurrences}
-use Rattle.tallies.specs.Forms.{startItem, literalItem, itemsOf, segmentsItems, selectorsItems, selectorItems, testItems, argumentItems, functionItems, itemsOfAll}
+use Rattle.tallies.specs.Forms.{startItem, literalItem, scopeItem, itemsOf, segmentsItems, selectorsItems, selectorItems, testItems, argumentItems, functionItems, itemsOfAll}
 use Rattle.tallies.specs.Tallies.{tabulateFrom, withPlan, allKinds}
 use Rattle.tallies.specs.Meets.{plan-items}
 use Rattle.tallies.specs.Series.{Bytes, bytes-append, kindsOfAll}
@@ -58,6 +59,11 @@ literal-byte (integer z) = omega arith
 literal-byte (float b) = omega arith
 literal-byte (text s) = omega arith
 
+scope-byte : (c : Scope) → scopeItem c < 256
+unfolding scopeItem
+scope-byte whole = omega arith
+scope-byte part = omega arith
+
 mutual
   unfolding itemsOf segmentsItems selectorsItems selectorItems testItems argumentItems functionItems
 
@@ -83,6 +89,7 @@ mutual
   test-bytes : (t : Test) → Bytes (testItems t)
   test-bytes (exists q) = behind (itemsOf q) 0x18 (omega arith) (query-bytes q)
   test-bytes (compare o a b) = bytes-append (argumentItems a) (argumentItems b ++ 0x14 ∷ []) (argument-bytes a) (behind (argumentItems b) 0x14 (omega arith) (argument-bytes b))
+  test-bytes (regex c a b) = bytes-append (argumentItems a) (argumentItems b ++ scopeItem c ∷ []) (argument-bytes a) (behind (argumentItems b) (scopeItem c) (scope-byte c) (argument-bytes b))
   test-bytes (not t) = behind (testItems t) 0x15 (omega arith) (test-bytes t)
   test-bytes (notValue f) = bytes-append (functionItems f) (0x18 ∷ 0x15 ∷ []) (function-bytes f) (before 0x18 (0x15 ∷ []) (omega arith) (one-byte 0x15 (omega arith)))
   test-bytes (both a b) = bytes-append (testItems a) (0x16 ∷ testItems b) (test-bytes a) (before 0x16 (testItems b) (omega arith) (test-bytes b))

@@ -14,7 +14,7 @@ use Rattle.writing.specs.Laws.{translated, item, reports, first-stands, 
 -- A form x of the type A has the code `code x p` where the pool stands at p, and the bytes `pool x` for the pool. P is what else is known of it.
 pub data Agrees {A : Type 0} (code : A → ℕ → List ℕ) (pool : A → List ℕ) (P : A → Type 0) (f : Writer) : Walked A → Type 0 where
   refuses : {n : ℕ} → 0 < n → ((p : ℕ) → f p .marks .verdict ≡ n) → Agrees code pool P f (refused n)
-  writes : {c b : Bool} {x : A} → f ≡ translated c b (code x) (pool x) → P x → Agrees code pool P f (walked c b x)
+  writes : {b : Bool} {x : A} → f ≡ translated b (code x) (pool x) → P x → Agrees code pool P f (walked b x)
 
 module _ {A : Type 0} {code : A → ℕ → List ℕ} {pool : A → List ℕ} {P : A → Type 0} where
   -- an item for a form that has nothing to report
@@ -26,11 +26,11 @@ module _ {A : Type 0} {code : A → ℕ → List ℕ} {pool : A → List ℕ} {P
   knowing (refuses h v) k = refuses h v
   knowing (writes {x = x} e h) k = writes e (k x h)
 
-  -- reports before a writer are those that the walk also has
-  also-agrees : (c b : Bool) {f : Writer} {m : Walked A} → Agrees code pool P f m → Agrees code pool P (seq (reports c b) f) (also c b m)
+  -- a report before a writer is what the walk also has
+  also-agrees : (b : Bool) {f : Writer} {m : Walked A} → Agrees code pool P f m → Agrees code pool P (seq (reports b) f) (also b m)
   unfolding also seq join joinMarks mark
-  also-agrees c b (refuses h v) = refuses h (λ p. v _)
-  also-agrees c b (writes {c = d} {b = e} {x = x} h k) = writes (ap (seq (reports c b)) h ∙ reports-translated c b d e (code x) (pool x)) k
+  also-agrees b (refuses h v) = refuses h (λ p. v _)
+  also-agrees b (writes {b = e} {x = x} h k) = writes (ap (seq (reports b)) h ∙ reports-translated b e (code x) (pool x)) k
 
 module _ {A B : Type 0} {code : A → ℕ → List ℕ} {pool : A → List ℕ} {P : A → Type 0} {code′ : B → ℕ → List ℕ} {pool′ : B → List ℕ} {P′ : B → Type 0} where
   -- one part after another: the second is held against what the walk goes on with
@@ -39,10 +39,10 @@ module _ {A B : Type 0} {code : A → ℕ → List ℕ} {pool : A → List ℕ} 
       → Agrees code′ pool′ P′ (seq f g) (next m k)
   unfolding next seq join joinMarks
   then {f} g k (refuses {n = n} h v) go = refuses h (λ p. ap (λ (a : ℕ). first a (g (p + length (f p .pool)) .marks .verdict)) (v p) ∙ first-stands n _ h)
-  then g k (writes {c = c} {b = b} {x = x} e h) go =
-      subst (λ (w : Writer). Agrees code′ pool′ P′ w (also c b (k x)))
-      (reports-behind c b (code x) (pool x) g ∙ ap (λ (w : Writer). seq w g) (sym e))
-      (also-agrees c b (go x h))
+  then g k (writes {b = b} {x = x} e h) go =
+      subst (λ (w : Writer). Agrees code′ pool′ P′ w (also b (k x)))
+      (reports-behind b (code x) (pool x) g ∙ ap (λ (w : Writer). seq w g) (sym e))
+      (also-agrees b (go x h))
 
   -- the same behind an item
   pub after : {f : Writer} {m : Walked A} (s : ℕ → List ℕ) (q : List ℕ) (g : Writer) (k : A → Walked B)
@@ -51,10 +51,10 @@ module _ {A B : Type 0} {code : A → ℕ → List ℕ} {pool : A → List ℕ} 
   unfolding next seq join joinMarks translated
   after {f} s q g k (refuses {n = n} h v) go =
       refuses h (λ p. ap (λ (a : ℕ). first a (g (p + length q + length (f (p + length q) .pool)) .marks .verdict)) (v (p + length q)) ∙ first-stands n _ h)
-  after s q g k (writes {c = c} {b = b} {x = x} e h) go =
-      subst (λ (w : Writer). Agrees code′ pool′ P′ w (also c b (k x)))
-      (mark-passes _ s q (seq (item (code x) (pool x)) g) ∙ ap (seq (item s q)) (reports-behind c b (code x) (pool x) g ∙ ap (λ (w : Writer). seq w g) (sym e)))
-      (also-agrees c b (go x h))
+  after s q g k (writes {b = b} {x = x} e h) go =
+      subst (λ (w : Writer). Agrees code′ pool′ P′ w (also b (k x)))
+      (mark-passes _ s q (seq (item (code x) (pool x)) g) ∙ ap (seq (item s q)) (reports-behind b (code x) (pool x) g ∙ ap (λ (w : Writer). seq w g) (sym e)))
+      (also-agrees b (go x h))
 
   -- what the walk makes of a part's form
   pub into : {f : Writer} {m : Walked A} (k : A → Walked B)
@@ -93,4 +93,4 @@ module _ {A : Type 0} {code : A → ℕ → List ℕ} {pool : A → List ℕ} {P
   pub behind : {f : Writer} {m : Walked A} (t : List ℕ) → Agrees code pool P f m → Agrees (λ x p. code x p ++ t) pool P (seq f (bytes t)) m
   unfolding seq join joinMarks translated bytes
   behind t (refuses {n = n} h v) = refuses h (λ p. ap (λ (a : ℕ). first a 0) (v p) ∙ first-stands n 0 h)
-  behind t (writes {c = c} {b = b} {x = x} e h) = writes (ap (λ (w : Writer). seq w (bytes t)) e ∙ translated-bytes c b (code x) (pool x) t) h
+  behind t (writes {b = b} {x = x} e h) = writes (ap (λ (w : Writer). seq w (bytes t)) e ∙ translated-bytes b (code x) (pool x) t) h

@@ -1,4 +1,4 @@
--- What is written for a tree agrees with the definition's walk over it, and the translation of its form is what is written: the refusals 4 to 8 and the bytes of a query.
+-- What is written for a tree agrees with the definition's walk over it, and the translation of its form is what is written: the refusals 4, 5, 6 and 8 and the bytes of a query.
 use Prim.Native.Nat.{ℕ, suc, _<_}
 use native.Mathlib.Omega.{arith}
 use mathlib.Core.Path.{_≡_, refl, ap, sym, subst, subst⁻¹}
@@ -236,20 +236,18 @@ pub record Formed (w : Walked F.Query) (e : Effect) : Type 0 where
   pub plan : planOf query ≡ e .plan
   pub pool : poolOf query ≡ e .pool
 
--- What a compiler concludes from what was written for a query: "the first of 4, 5, 6 in the Rust's walk, then 7, 8", and otherwise a form.
+-- What a compiler concludes from what was written for a query: "the first of 4, 5, 6 in the Rust's walk", then 8, and otherwise a form.
 pub record Agreed (w : Walked F.Query) (e : Effect) : Type 0 where
   pub refuses : 0 < e .marks .verdict → judge w ≡ refused (e .marks .verdict)
-  pub calls : e .marks .verdict ≡ 0 → e .marks .calls ≡ true → judge w ≡ refused 7
-  pub beyond : e .marks .verdict ≡ 0 → e .marks .calls ≡ false → e .marks .beyond ≡ true → judge w ≡ refused 8
-  pub forms : e .marks .verdict ≡ 0 → e .marks .calls ≡ false → e .marks .beyond ≡ false → Formed w e
+  pub beyond : e .marks .verdict ≡ 0 → e .marks .beyond ≡ true → judge w ≡ refused 8
+  pub forms : e .marks .verdict ≡ 0 → e .marks .beyond ≡ false → Formed w e
 
--- what a refusal, and what a form with its reports, tell
+-- what a refusal, and what a form with its report, tell
 refused-agreed : {n : ℕ} (e : Effect) → 0 < n → e .marks .verdict ≡ n → Agreed (Walked.refused n) e
 unfolding judge
 refused-agreed {n} e h v =
     record {
       refuses = λ k. ap refused (sym v);
-      calls = λ z. absurd (never z);
       beyond = λ z. absurd (never z);
       forms = λ z. absurd (never z);
     }
@@ -257,33 +255,24 @@ refused-agreed {n} e h v =
     never : e .marks .verdict ≡ 0 → ⊥
     never z = omega (arith, z, v, h)
 
-walked-agreed : (c b : Bool) (q : F.Query) → Agreed (walked c b q) (translated c b (codeQuery q) (poolQuery q) 0)
+walked-agreed : (b : Bool) (q : F.Query) → Agreed (walked b q) (translated b (codeQuery q) (poolQuery q) 0)
 unfolding judge translated planOf poolOf
-walked-agreed true b q =
+walked-agreed true q =
     record {
       refuses = λ k. absurd (omega arith);
-      calls = λ z t. refl;
-      beyond = λ z t. absurd (true≢false t);
+      beyond = λ z t. refl;
       forms = λ z t. absurd (true≢false t);
     }
-walked-agreed false true q =
+walked-agreed false q =
     record {
       refuses = λ k. absurd (omega arith);
-      calls = λ z t. absurd (false≢true t);
-      beyond = λ z t u. refl;
-      forms = λ z t u. absurd (true≢false u);
-    }
-walked-agreed false false q =
-    record {
-      refuses = λ k. absurd (omega arith);
-      calls = λ z t. absurd (false≢true t);
-      beyond = λ z t u. absurd (false≢true u);
-      forms = λ z t u. record { query = q; is = refl; plan = refl; pool = refl };
+      beyond = λ z t. absurd (false≢true t);
+      forms = λ z t. record { query = q; is = refl; plan = refl; pool = refl };
     }
 
 agreed : {P : F.Query → Type 0} {f : Writer} {m : Walked F.Query} → Agrees codeQuery poolQuery P f m → Agreed m (f 0)
 agreed {f} (Agrees.refuses h v) = refused-agreed (f 0) h (v 0)
-agreed (Agrees.writes {c = c} {b = b} {x = q} e h) = subst⁻¹ (λ (w : Writer). Agreed (walked c b q) (w 0)) e (walked-agreed c b q)
+agreed (Agrees.writes {b = b} {x = q} e h) = subst⁻¹ (λ (w : Writer). Agreed (walked b q) (w 0)) e (walked-agreed b q)
 
 -- What is written for a query's tree tells what the definition's walk over it comes to.
 pub agrees : (t : G.Query) → Agreed (walk t) (writeQuery t 0)

@@ -112,7 +112,7 @@ test-pool (valued f) = refl
 test-pool (logical t) = refl
 
 pub test-item : (e : Expression) → seq (writeExpression e) (bytes (testTail (sortExpression e))) ≡ writeForm (asTest e)
-test-item e = translated-bytes false false (codeExpression e) (poolExpression e) (testTail (sortExpression e)) ∙ ap₂ item (fun-ext (test-code e)) (test-pool e)
+test-item e = translated-bytes false (codeExpression e) (poolExpression e) (testTail (sortExpression e)) ∙ ap₂ item (fun-ext (test-code e)) (test-pool e)
 
 -- and behind `!` a query and a test are what they are with the other tail
 pub not-query-code : (q : F.Query) (p : ℕ) → codeQuery q p ++ notTail (querySort (isSingular q)) ≡ codeTest (not (exists q)) p

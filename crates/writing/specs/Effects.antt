@@ -1,4 +1,4 @@
--- What reading a part of a query brings about: bytes for the plan, bytes for the pool, and marks for the refusals 4 to 8.
+-- What reading a part of a query brings about: bytes for the plan, bytes for the pool, and marks for the refusals 4, 5, 6 and 8.
 -- A writer tells this for the place at which the pool stands when the part begins.
 use Prim.Native.Nat.{ℕ, _+_}
 use mathlib.Core.List.{List, [], _∷_, _++_}
@@ -7,21 +7,20 @@ use lib.Dec.{eqb}
 use lib.ListN.{length}
 use Rattle.definition.specs.Plans.{two, pooled, framed}
 
--- the first of 4, 5, 6 in the walk, 0 for none; whether match or search is called; whether a literal is beyond the exact range
+-- the first of 4, 5, 6 in the walk, 0 for none; whether a literal is beyond the range of literals
 pub record Marks : Type 0 where
   pub verdict : ℕ
-  pub calls : Bool
   pub beyond : Bool
 
 abbrev pub noMarks : Marks
-noMarks = record { verdict = 0; calls = false; beyond = false }
+noMarks = record { verdict = 0; beyond = false }
 
 -- the first refusal stands
 abbrev pub first : ℕ → ℕ → ℕ
 first a b = cond (eqb a 0) b a
 
 unfoldable pub joinMarks : Marks → Marks → Marks
-joinMarks m n = record { verdict = first (m .verdict) (n .verdict); calls = m .calls || n .calls; beyond = m .beyond || n .beyond }
+joinMarks m n = record { verdict = first (m .verdict) (n .verdict); beyond = m .beyond || n .beyond }
 
 pub record Effect : Type 0 where
   pub plan : List ℕ
@@ -50,7 +49,7 @@ unfoldable pub mark : Marks → Writer
 mark m p = record { plan = []; pool = []; marks = m }
 
 abbrev pub verdict : ℕ → Writer
-verdict n = mark (record { verdict = n; calls = false; beyond = false })
+verdict n = mark (record { verdict = n; beyond = false })
 
 -- one after the other: the second begins where the first left the pool
 unfoldable pub seq : Writer → Writer → Writer

@@ -5,24 +5,24 @@ use mathlib.Core.Path.{_≡_, refl, ap, ap₂, sym, _∙_, fun-ext, subst, subst
 use mathlib.Core.List.{List, [], _∷_, _++_}
 use mathlib.Core.Bool.{Bool, true, false, cond}
 use lib.ListN.{length}
+use Rattle.regexps.specs.Scope.{Scope, whole, part}
 use Rattle.definition.specs.Forms as F
 use Rattle.definition.specs.Forms.{isSingular, isSingularSelector}
 use Rattle.definition.specs.Forms.Selector.{filter}
-use Rattle.definition.specs.Forms.Test.{exists, compare, not, both, either}
+use Rattle.definition.specs.Forms.Test.{exists, compare, regex, not, both, either}
 use Rattle.definition.specs.Forms.Argument.{literal, singular, value}
 use Rattle.definition.specs.Forms.Function.{countOf, lengthOf, valueOf}
-use Rattle.definition.specs.Forms.Operator.{eq}
-use Rattle.definition.specs.Plans.{framed, operatorByte, poolQuery, poolSelector, poolTest, poolArgument, poolFunction, codeQuery, codeSelector, codeTest, codeArgument, codeFunction}
-use Rattle.definition.specs.Walk.{Walked, fine, next, also, Expression, Operand, Named, asTest, negated, compared, asNodes, asValue, only, asRegex, unformed, call}
+use Rattle.definition.specs.Plans.{framed, operatorByte, scopeKind, poolQuery, poolSelector, poolTest, poolArgument, poolFunction, codeQuery, codeSelector, codeTest, codeArgument, codeFunction}
+use Rattle.definition.specs.Walk.{Walked, fine, next, also, Expression, Operand, Named, asTest, negated, compared, asNodes, asValue, only, asRegex, call}
 use Rattle.definition.specs.Walk.Walked.{refused, walked}
 use Rattle.definition.specs.Walk.Expression.{nodes, valued, logical}
 use Rattle.definition.specs.Walk.Operand.{constant, expression}
 use Rattle.definition.specs.Walk.Named.{count, valueName, match, search, unknown}
 use Rattle.writing.specs.Effects.{Writer, first, joinMarks, join, skip, bytes, mark, verdict, seq, frame}
-use Rattle.writing.specs.Sorts.{Sort, querySort, namedSort, valueVerdict, nodesVerdict, comparedVerdict, oneVerdict, twoVerdict, callVerdict, isRegex}
+use Rattle.writing.specs.Sorts.{Sort, querySort, namedSort, valueVerdict, nodesVerdict, comparedVerdict, oneVerdict, twoVerdict, callVerdict}
 use Rattle.writing.specs.Sorts.Sort.{valueSort, logicalSort}
 use Rattle.writing.specs.Writes.{testTail, notTail, writeNot, callBytes}
-use Rattle.writing.specs.Laws.{translated, item, reports, first-stands, reports-item, mark-splits, seq-assoc, mark-passes, item-item, translated-bytes, verdict-verdict, seq-no-verdict, no-verdict-seq}
+use Rattle.writing.specs.Laws.{translated, item, first-stands, seq-assoc, mark-passes, item-item, translated-bytes, verdict-verdict, seq-no-verdict, no-verdict-seq}
 use Rattle.writing.specs.Agreement.{Agrees, fits, then, after, mapped, frames, before, behind}
 use Rattle.writing.specs.Agreement.Agrees.{refuses, writes}
 use Rattle.writing.specs.Codes.{codeExpression, poolExpression, sortExpression, codeOperand, poolOperand, sortOperand, codeOperands, poolOperands, sortsOperands, writeExpression, writeOperand, writeOperands, writeForm, one-operand, two-operands, test-code, test-pool, test-item, not-query-code, not-test-code}
@@ -59,7 +59,7 @@ not-item : (e : Expression) (t : F.Test) → comparedVerdict true (sortExpressio
 not-item e t v cs ps =
     ap (λ (n : ℕ). seq (writeExpression e) (seq (verdict n) (bytes (notTail (sortExpression e))))) v
     ∙ ap (seq (writeExpression e)) (no-verdict-seq (bytes (notTail (sortExpression e))))
-    ∙ translated-bytes false false (codeExpression e) (poolExpression e) (notTail (sortExpression e))
+    ∙ translated-bytes false (codeExpression e) (poolExpression e) (notTail (sortExpression e))
     ∙ ap₂ item (fun-ext cs) ps
 
 -- `!` before a query and before a test is what is written, and before a value function it is 5
@@ -76,10 +76,10 @@ negates {s} h = then (writeNot s) (λ e. negated e) h (λ e he. subst (λ (r : S
 -- ---- chains
 
 -- to report nothing besides changes nothing
-also-nothing : {A : Type 0} (m : Walked A) → also false false m ≡ m
+also-nothing : {A : Type 0} (m : Walked A) → also false m ≡ m
 unfolding also
 also-nothing (refused n) = refl
-also-nothing (walked c b x) = refl
+also-nothing (walked b x) = refl
 
 -- a judgement that passes x or refuses with the verdict v
 data Judges {A : Type 0} (v : ℕ) (x : A) : Walked A → Type 0 where
@@ -91,8 +91,8 @@ judged : {A B : Type 0} {code : B → ℕ → List ℕ} {pool : B → List ℕ} 
     → Judges v x m → Agrees code pool P (seq (item s q) g) (k x) → Agrees code pool P (seq (item s q) (seq (verdict v) g)) (next m k)
 unfolding next seq join joinMarks mark translated
 judged {code} {pool} {P} {x} s q g k (passes e) h =
-    subst⁻¹ (λ (n : ℕ). Agrees code pool P (seq (item s q) (seq (verdict n) g)) (also false false (k x))) e
-    (subst⁻¹ (λ (w : Writer). Agrees code pool P (seq (item s q) w) (also false false (k x))) (no-verdict-seq g)
+    subst⁻¹ (λ (n : ℕ). Agrees code pool P (seq (item s q) (seq (verdict n) g)) (also false (k x))) e
+    (subst⁻¹ (λ (w : Writer). Agrees code pool P (seq (item s q) w) (also false (k x))) (no-verdict-seq g)
     (subst⁻¹ (λ (m : Walked _). Agrees code pool P (seq (item s q) g) m) (also-nothing (k x)) h))
 judged s q g k (fails {n = n} h e) a = refuses h (λ p. ap (λ (c : ℕ). first c (g (p + length q + 0) .marks .verdict)) e ∙ first-stands n (g (p + length q + 0) .marks .verdict) h)
 
@@ -232,7 +232,7 @@ two-values {t} x y g k go =
 compare-item : (o : F.Operator) (a b : F.Argument) → seq (writeArgumentForm a) (seq (writeArgumentForm b) (bytes (0x14 ∷ operatorByte o ∷ []))) ≡ writeForm (compare o a b)
 unfolding codeTest poolTest
 compare-item o a b =
-    ap (seq (writeArgumentForm a)) (translated-bytes false false (codeArgument b) (poolArgument b) (0x14 ∷ operatorByte o ∷ []))
+    ap (seq (writeArgumentForm a)) (translated-bytes false (codeArgument b) (poolArgument b) (0x14 ∷ operatorByte o ∷ []))
     ∙ item-item (codeArgument a) (λ p. codeArgument b p ++ 0x14 ∷ operatorByte o ∷ []) (poolArgument a) (poolArgument b)
 
 -- "both sides of a comparison before either is judged"
@@ -263,34 +263,28 @@ only-agrees v k h [] = refuses {n = 5} (omega arith) (λ p. refl)
 only-agrees {code} {pool} v k h (o ∷ []) = subst⁻¹ (λ (w : Writer). Agrees code pool Any (seq w (verdict (v (sortOperand o)))) (k o)) (one-operand o) (h o)
 only-agrees v k h (o ∷ x ∷ os) = refuses {n = 5} (omega arith) (λ p. refl)
 
--- a call of match or search: what is in its place, and the report
-regex-item : (a b : F.Argument)
-    → seq (writeArgumentForm a) (seq (writeArgumentForm b) (seq (reports true false) (bytes (0x14 ∷ 0 ∷ [])))) ≡ translated true false (codeTest (unformed a b)) (poolTest (unformed a b))
-unfolding unformed operatorByte
-regex-item a b =
-    ap (seq (writeArgumentForm a)) (sym (mark-passes _ (codeArgument b) (poolArgument b) (bytes (0x14 ∷ 0 ∷ []))))
-    ∙ sym (mark-passes _ (codeArgument a) (poolArgument a) (seq (writeArgumentForm b) (bytes (0x14 ∷ 0 ∷ []))))
-    ∙ ap (seq (reports true false)) (compare-item eq a b)
-    ∙ reports-item true false (codeTest (compare eq a b)) (poolTest (compare eq a b))
+-- a call of match or search is its arguments and its item
+regex-item : (c : Scope) (a b : F.Argument) → seq (writeArgumentForm a) (seq (writeArgumentForm b) (bytes (scopeKind c ∷ []))) ≡ writeForm (regex c a b)
+unfolding codeTest poolTest
+regex-item c a b =
+    ap (seq (writeArgumentForm a)) (translated-bytes false (codeArgument b) (poolArgument b) (scopeKind c ∷ []))
+    ∙ item-item (codeArgument a) (λ p. codeArgument b p ++ scopeKind c ∷ []) (poolArgument a) (poolArgument b)
 
--- a verdict with a report behind two operands
-split-behind : (x y : Operand) (v : ℕ) (g : Writer)
-    → seq (writeOperands (x ∷ y ∷ [])) (seq (mark (record { verdict = v; calls = true; beyond = false })) g) ≡ seq (writeOperand x) (seq (writeOperand y) (seq (verdict v) (seq (reports true false) g)))
-split-behind x y v g =
-    ap₂ seq (two-operands x y) (ap (λ (w : Writer). seq w g) (mark-splits v true false) ∙ seq-assoc (verdict v) (reports true false) g)
-    ∙ seq-assoc (writeOperand x) (writeOperand y) (seq (verdict v) (seq (reports true false) g))
+-- two operands before more
+two-first : (x y : Operand) (g : Writer) → seq (writeOperands (x ∷ y ∷ [])) g ≡ seq (writeOperand x) (seq (writeOperand y) g)
+two-first x y g = ap (λ (w : Writer). seq w g) (two-operands x y) ∙ seq-assoc (writeOperand x) (writeOperand y) g
 
 -- match and search have two arguments, which are values
-regex-agrees : (os : List Operand)
-    → Expresses logicalSort (seq (writeOperands os) (seq (mark (record { verdict = twoVerdict (sortsOperands os); calls = true; beyond = false })) (bytes (0x14 ∷ 0 ∷ [])))) (asRegex os)
+regex-agrees : (c : Scope) (os : List Operand)
+    → Expresses logicalSort (seq (writeOperands os) (seq (verdict (twoVerdict (sortsOperands os))) (bytes (scopeKind c ∷ [])))) (asRegex c os)
 unfolding twoVerdict sortsOperands asRegex sortExpression codeExpression poolExpression seq join joinMarks mark bytes translated
-regex-agrees [] = refuses {n = 5} (omega arith) (λ p. refl)
-regex-agrees (x ∷ []) = refuses {n = 5} (omega arith) (λ p. refl)
-regex-agrees (x ∷ y ∷ []) =
-    subst⁻¹ (λ (w : Writer). Expresses logicalSort w (next (asValue x) (λ a. next (asValue y) (λ b. walked true false (logical (unformed a b))))))
-    (split-behind x y (first (valueVerdict (sortOperand x)) (valueVerdict (sortOperand y))) (bytes (0x14 ∷ 0 ∷ [])))
-    (two-values x y (seq (reports true false) (bytes (0x14 ∷ 0 ∷ []))) (λ a b. walked true false (logical (unformed a b))) (λ a b. writes (regex-item a b) refl))
-regex-agrees (x ∷ y ∷ z ∷ os) = refuses {n = 5} (omega arith) (λ p. refl)
+regex-agrees c [] = refuses {n = 5} (omega arith) (λ p. refl)
+regex-agrees c (x ∷ []) = refuses {n = 5} (omega arith) (λ p. refl)
+regex-agrees c (x ∷ y ∷ []) =
+    subst⁻¹ (λ (w : Writer). Expresses logicalSort w (next (asValue x) (λ a. next (asValue y) (λ b. fine (logical (regex c a b))))))
+    (two-first x y (seq (verdict (first (valueVerdict (sortOperand x)) (valueVerdict (sortOperand y)))) (bytes (scopeKind c ∷ []))))
+    (two-values x y (bytes (scopeKind c ∷ [])) (λ a b. fine (logical (regex c a b))) (λ a b. fits (logical (regex c a b)) (regex-item c a b) refl))
+regex-agrees c (x ∷ y ∷ z ∷ os) = refuses {n = 5} (omega arith) (λ p. refl)
 
 -- a call of a function with one argument: the argument, judged, and the function's item
 one-call : {A : Type 0} {code : A → ℕ → List ℕ} {pool : A → List ℕ} (v : Sort → ℕ) (k : Operand → Walked A) (h : A → F.Function) (t : List ℕ)
@@ -304,21 +298,21 @@ one-call v k h t judge codes pools os =
 
 -- "arguments before the name lookup, then the argument count, then argument types"
 pub call-agrees : (n : Named) (os : List Operand)
-    → Expresses (namedSort n) (seq (writeOperands os) (seq (mark (record { verdict = callVerdict n (sortsOperands os); calls = isRegex n; beyond = false })) (bytes (callBytes n)))) (call n os)
-unfolding namedSort callVerdict isRegex callBytes call codeFunction poolFunction seq join joinMarks mark bytes translated
+    → Expresses (namedSort n) (seq (writeOperands os) (seq (verdict (callVerdict n (sortsOperands os))) (bytes (callBytes n)))) (call n os)
+unfolding namedSort callVerdict callBytes call scopeKind codeFunction poolFunction seq join joinMarks mark bytes translated
 call-agrees count os = one-call nodesVerdict asNodes countOf (0x19 ∷ []) nodes-agree (λ x p. refl) (λ x. refl) os
 call-agrees Named.length os = one-call valueVerdict asValue lengthOf (0x1A ∷ []) value-agrees (λ x p. refl) (λ x. refl) os
 call-agrees valueName os = one-call nodesVerdict asNodes valueOf (0x1B ∷ []) nodes-agree (λ x p. refl) (λ x. refl) os
-call-agrees match os = regex-agrees os
-call-agrees search os = regex-agrees os
+call-agrees match os = regex-agrees whole os
+call-agrees search os = regex-agrees part os
 call-agrees unknown os = refuses {n = 6} (omega arith) (λ p. refl)
 
 -- a call from its arguments
 pub calls-agree : {ss : List Sort} {f : Writer} {m : Walked (List Operand)} (n : Named) → OperatesAll ss f m
-    → Expresses (namedSort n) (seq f (seq (mark (record { verdict = callVerdict n ss; calls = isRegex n; beyond = false })) (bytes (callBytes n)))) (next m (λ os. call n os))
+    → Expresses (namedSort n) (seq f (seq (verdict (callVerdict n ss)) (bytes (callBytes n)))) (next m (λ os. call n os))
 calls-agree {ss} n h =
-    then (seq (mark (record { verdict = callVerdict n ss; calls = isRegex n; beyond = false })) (bytes (callBytes n))) (λ os. call n os) h (λ os hs.
-    subst (λ (ts : List Sort). Expresses (namedSort n) (seq (writeOperands os) (seq (mark (record { verdict = callVerdict n ts; calls = isRegex n; beyond = false })) (bytes (callBytes n)))) (call n os)) hs
+    then (seq (verdict (callVerdict n ss)) (bytes (callBytes n))) (λ os. call n os) h (λ os hs.
+    subst (λ (ts : List Sort). Expresses (namedSort n) (seq (writeOperands os) (seq (verdict (callVerdict n ts)) (bytes (callBytes n)))) (call n os)) hs
     (call-agrees n os))
 
 -- an argument before others

@@ -2,7 +2,7 @@
 use Prim.Native.Nat.{ℕ, zero, suc, _+_, _<_}
 use native.Mathlib.Nat.{add-zero}
 use native.Mathlib.Omega.{arith}
-use mathlib.Core.Path.{_≡_, refl, ap, ap₂, sym, _∙_, fun-ext}
+use mathlib.Core.Path.{_≡_, refl, ap, sym, _∙_, fun-ext}
 use mathlib.Core.List.{List, [], _++_, append-nil, append-assoc}
 use mathlib.Core.Bool.{Bool, false, _||_, or-false, or-assoc}
 use lib.Dec.{eqb·suc-zero}
@@ -28,14 +28,13 @@ first-stands (suc a) b h = rw (eqb·suc-zero a)
 -- the same of marks
 join-none : (m : Marks) → joinMarks m noMarks ≡ m
 unfolding joinMarks
-join-none m = λ i. record { verdict = first-none (m .verdict) i; calls = or-false (m .calls) i; beyond = or-false (m .beyond) i }
+join-none m = λ i. record { verdict = first-none (m .verdict) i; beyond = or-false (m .beyond) i }
 
 join-assoc : (l m n : Marks) → joinMarks (joinMarks l m) n ≡ joinMarks l (joinMarks m n)
 unfolding joinMarks
 join-assoc l m n =
     λ i. record {
       verdict = first-assoc (l .verdict) (m .verdict) (n .verdict) i;
-      calls = or-assoc (l .calls) (m .calls) (n .calls) i;
       beyond = or-assoc (l .beyond) (m .beyond) (n .beyond) i;
     }
 
@@ -79,27 +78,27 @@ seq-assoc f g h = fun-ext at
 -- ---- what is written for a form
 
 -- its code from the pool's place on, its bytes for the pool, and what it reports
-unfoldable pub translated : Bool → Bool → (ℕ → List ℕ) → List ℕ → Writer
-translated c b s q p = record { plan = s p; pool = q; marks = record { verdict = 0; calls = c; beyond = b } }
+unfoldable pub translated : Bool → (ℕ → List ℕ) → List ℕ → Writer
+translated b s q p = record { plan = s p; pool = q; marks = record { verdict = 0; beyond = b } }
 
 -- with nothing to report
 abbrev pub item : (ℕ → List ℕ) → List ℕ → Writer
-item s q = translated false false s q
+item s q = translated false s q
 
--- the reports alone
-abbrev pub reports : Bool → Bool → Writer
-reports c b = mark (record { verdict = 0; calls = c; beyond = b })
+-- the report alone
+abbrev pub reports : Bool → Writer
+reports b = mark (record { verdict = 0; beyond = b })
 
--- reports before what is written for a form are the form's
-pub reports-translated : (c b d e : Bool) (s : ℕ → List ℕ) (q : List ℕ) → seq (reports c b) (translated d e s q) ≡ translated (c || d) (b || e) s q
+-- a report before what is written for a form is the form's
+pub reports-translated : (b e : Bool) (s : ℕ → List ℕ) (q : List ℕ) → seq (reports b) (translated e s q) ≡ translated (b || e) s q
 unfolding seq join joinMarks mark translated
-reports-translated c b d e s q = λ i p. record { plan = s (add-zero p i); pool = q; marks = record { verdict = 0; calls = c || d; beyond = b || e } }
+reports-translated b e s q = λ i p. record { plan = s (add-zero p i); pool = q; marks = record { verdict = 0; beyond = b || e } }
 
-pub reports-item : (c b : Bool) (s : ℕ → List ℕ) (q : List ℕ) → seq (reports c b) (item s q) ≡ translated c b s q
-reports-item c b s q = reports-translated c b false false s q ∙ ap₂ (λ d e. translated d e s q) (or-false c) (or-false b)
+reports-item : (b : Bool) (s : ℕ → List ℕ) (q : List ℕ) → seq (reports b) (item s q) ≡ translated b s q
+reports-item b s q = reports-translated b false s q ∙ ap (λ (e : Bool). translated e s q) (or-false b)
 
-pub reports-behind : (c b : Bool) (s : ℕ → List ℕ) (q : List ℕ) (g : Writer) → seq (reports c b) (seq (item s q) g) ≡ seq (translated c b s q) g
-reports-behind c b s q g = sym (seq-assoc (reports c b) (item s q) g) ∙ ap (λ (w : Writer). seq w g) (reports-item c b s q)
+pub reports-behind : (b : Bool) (s : ℕ → List ℕ) (q : List ℕ) (g : Writer) → seq (reports b) (seq (item s q) g) ≡ seq (translated b s q) g
+reports-behind b s q g = sym (seq-assoc (reports b) (item s q) g) ∙ ap (λ (w : Writer). seq w g) (reports-item b s q)
 
 -- two items end to end
 pub item-item : (s t : ℕ → List ℕ) (q r : List ℕ) → seq (item s q) (item t r) ≡ item (λ p. s p ++ t (p + length q)) (q ++ r)
@@ -107,9 +106,9 @@ unfolding seq join joinMarks translated
 item-item s t q r = refl
 
 -- bytes behind what is written for a form
-pub translated-bytes : (c b : Bool) (s : ℕ → List ℕ) (q t : List ℕ) → seq (translated c b s q) (bytes t) ≡ translated c b (λ p. s p ++ t) q
+pub translated-bytes : (b : Bool) (s : ℕ → List ℕ) (q t : List ℕ) → seq (translated b s q) (bytes t) ≡ translated b (λ p. s p ++ t) q
 unfolding seq join joinMarks translated bytes
-translated-bytes c b s q t = λ i p. record { plan = s p ++ t; pool = append-nil q i; marks = record { verdict = 0; calls = or-false c i; beyond = or-false b i } }
+translated-bytes b s q t = λ i p. record { plan = s p ++ t; pool = append-nil q i; marks = record { verdict = 0; beyond = or-false b i } }
 
 -- marks pass an item by
 pub mark-item : (m : Marks) (s : ℕ → List ℕ) (q : List ℕ) → seq (mark m) (item s q) ≡ seq (item s q) (mark m)
@@ -119,11 +118,6 @@ mark-item m s q =
 
 pub mark-passes : (m : Marks) (s : ℕ → List ℕ) (q : List ℕ) (g : Writer) → seq (mark m) (seq (item s q) g) ≡ seq (item s q) (seq (mark m) g)
 mark-passes m s q g = sym (seq-assoc (mark m) (item s q) g) ∙ ap (λ (w : Writer). seq w g) (mark-item m s q) ∙ seq-assoc (item s q) (mark m) g
-
--- a verdict with reports is the verdict and then the reports
-pub mark-splits : (v : ℕ) (c b : Bool) → mark (record { verdict = v; calls = c; beyond = b }) ≡ seq (verdict v) (reports c b)
-unfolding seq join joinMarks mark
-mark-splits v c b = λ i p. record { plan = []; pool = []; marks = record { verdict = sym (first-none v) i; calls = c; beyond = b } }
 
 -- of two verdicts the first stands
 pub verdict-verdict : (a b : ℕ) → seq (verdict a) (verdict b) ≡ verdict (first a b)

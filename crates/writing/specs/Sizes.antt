@@ -247,7 +247,7 @@ not-tail nodesSort = omega arith
 not-tail valueSort = omega arith
 not-tail logicalSort = omega arith
 
-call-bytes : (n : Named) → length (callBytes n) ≤ 2
+call-bytes : (n : Named) → length (callBytes n) ≤ 1
 unfolding callBytes
 call-bytes count = omega arith
 call-bytes Named.length = omega arith
@@ -405,7 +405,7 @@ mutual
   sizedFunction (function n b xs c) r =
       let z : List ℕ = spellBlanks c (0x29 ∷ r) in
       around 2
-      (seq-sized (sizedArguments xs z) (seq-sized (mark-sized _ (call-verdict (named (functionBytes n)) (sortsOf xs))) (bytes-sized (callBytes (named (functionBytes n))) 2 (call-bytes (named (functionBytes n))))))
+      (seq-sized (sizedArguments xs z) (seq-sized (verdict-sized (call-verdict (named (functionBytes n)) (sortsOf xs))) (bytes-sized (callBytes (named (functionBytes n))) 1 (call-bytes (named (functionBytes n))))))
       (simp length-append (omega arith)) (omega arith)
 
   pub sizedArguments : (xs : G.Arguments) (r : List ℕ) → Sized 0 0 (writeArguments xs) r (spellArguments xs r)

@@ -195,11 +195,3 @@ callVerdict valueName ss = oneVerdict nodesVerdict ss
 callVerdict match ss = twoVerdict ss
 callVerdict search ss = twoVerdict ss
 callVerdict unknown ss = 6
-
-unfoldable pub isRegex : Named → Bool
-isRegex count = false
-isRegex Named.length = false
-isRegex valueName = false
-isRegex match = true
-isRegex search = true
-isRegex unknown = false

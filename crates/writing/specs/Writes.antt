@@ -36,7 +36,7 @@ use Rattle.definition.specs.Walk.{Named, named, operatorForm}
 use Rattle.definition.specs.Walk.Named.{count, valueName, match, search, unknown}
 use Rattle.definition.specs.Plans.{eight, operatorByte}
 use Rattle.writing.specs.Effects.{Writer, first, skip, bytes, pooling, mark, verdict, seq, frame, counted}
-use Rattle.writing.specs.Sorts.{Sort, sortOr, sortAnd, sortBasic, sortParen, sortTest, sortComparable, sortsOf, valueVerdict, comparedVerdict, callVerdict, isRegex}
+use Rattle.writing.specs.Sorts.{Sort, sortOr, sortAnd, sortBasic, sortParen, sortTest, sortComparable, sortsOf, valueVerdict, comparedVerdict, callVerdict}
 use Rattle.writing.specs.Sorts.Sort.{literalSort, singularSort, nodesSort, valueSort, logicalSort}
 
 -- ---- whole numbers: one that is out of range is written as 0 and marked
@@ -87,7 +87,7 @@ writeSlice s =
 unfoldable pub writeNumeral : Numeral → Writer
 writeNumeral (Numeral.integer z) = bytes (0x10 ∷ eight z)
 writeNumeral (Numeral.float b) = bytes (0x11 ∷ littleEndian 8 b)
-writeNumeral Numeral.beyond = seq (bytes (0x13 ∷ 2 ∷ [])) (mark (record { verdict = 0; calls = false; beyond = true }))
+writeNumeral Numeral.beyond = seq (bytes (0x13 ∷ 2 ∷ [])) (mark (record { verdict = 0; beyond = true }))
 
 unfoldable pub writeLiteral : G.Literal → Writer
 writeLiteral (numberLiteral n) = writeNumeral (numeral n)
@@ -135,13 +135,13 @@ notTail logicalSort = 0x15 ∷ []
 abbrev pub writeNot : Sort → Writer
 writeNot s = seq (verdict (comparedVerdict true s)) (bytes (notTail s))
 
--- a call of match or search is written as the comparison that stands in its place
+-- the item of a call, behind its arguments
 unfoldable pub callBytes : Named → List ℕ
 callBytes count = 0x19 ∷ []
 callBytes Named.length = 0x1A ∷ []
 callBytes valueName = 0x1B ∷ []
-callBytes match = 0x14 ∷ 0 ∷ []
-callBytes search = 0x14 ∷ 0 ∷ []
+callBytes match = 0x1C ∷ []
+callBytes search = 0x1D ∷ []
 callBytes unknown = []
 
 unfoldable pub countMore : G.Selectors → ℕ
@@ -229,7 +229,7 @@ unfoldable mutual
   pub writeFunction : G.Function → Writer
   writeFunction (function n b xs c) =
       seq (writeArguments xs)
-      (seq (mark (record { verdict = callVerdict (named (functionBytes n)) (sortsOf xs); calls = isRegex (named (functionBytes n)); beyond = false })) (bytes (callBytes (named (functionBytes n)))))
+      (seq (verdict (callVerdict (named (functionBytes n)) (sortsOf xs))) (bytes (callBytes (named (functionBytes n)))))
 
   pub writeArguments : G.Arguments → Writer
   writeArguments noArgument = skip

@@ -1,10 +1,8 @@
 -- `items::constants::beyond` meets its contract: one mark is set.
 -- Assumes nothing.
-use mathlib.Core.Path.{refl, sym, ap, _∙_}
-use mathlib.Core.Bool.{true, false, or-false}
-use Prim.Native.Nat.{_/_}
-use Rattle.items.specs.Reads.{marksAt, callsAt}
-use Rattle.items.proofs.Marks.{late-raised, late-kept, says-beyond}
+use mathlib.Core.Path.{refl, ap, _∙_}
+use Rattle.items.specs.Reads.{marksAt}
+use Rattle.items.proofs.Marks.{beyond-first, beyond-kept}
 use borrow.Author.Needs.{needs}
 use Rattle.items.proofs.constants.beyond.Statement.{statement}
 use Rattle.items.proofs.constants.beyond.Tie as tie
@@ -16,28 +14,10 @@ marked-requires : tie.Need-marked-requires
 marked-requires c κs = search needs
 
 returns : tie.Need-returns
-returns c = (c .marked .ensures .0, ap marksAt (c .marked .ensures .1) ∙ late-raised (c .before .before .args .st .marks) 0 false true (c .before .if1 .taken) 2 refl refl)
-
-add-marked-2 : tie.Need-add-marked-2
-add-marked-2 c = search needs
-
-marked-requires-2 : tie.Need-marked-requires-2
-marked-requires-2 c κs = search needs
+returns c = (c .marked .ensures .0, ap marksAt (c .marked .ensures .1) ∙ beyond-first (c .before .before .args .st .marks) (c .before .if1 .taken))
 
 returns-2 : tie.Need-returns-2
-returns-2 c = (c .marked2 .ensures .0, ap marksAt (c .marked2 .ensures .1) ∙ late-raised (c .before .before .before .args .st .marks) 1 false true (c .before .if2 .taken) 2 refl refl)
-
-returns-3 : tie.Need-returns-3
-returns-3 c = let n = c .before .before .args .st .marks in ((refl, refl, refl), late-kept n (n / 256) false true refl (sym (or-false (callsAt (n / 256)))) (says-beyond (n / 256) (c .before .if1 .left) (c .if2 .left)))
+returns-2 c = ((refl, refl, refl), beyond-kept (c .before .args .st .marks) (c .if1 .left))
 
 pub beyond-spec : {M : Type 1} → statement M
-beyond-spec =
-    tie.close
-    (tie.spec
-    add-marked
-    marked-requires
-    returns
-    add-marked-2
-    marked-requires-2
-    returns-2
-    returns-3)
+beyond-spec = tie.close (tie.spec add-marked marked-requires returns returns-2)

@@ -86,7 +86,7 @@ module _ (t : ℕ) where
   pub write-call-requires : lts.Need-write-call-requires (calls t) (function-at t) function.Post
   write-call-requires c κs =
       let h = read-of (c .before .before .before .before .before .before .before .before .before .before .before .before .arguments .ensures) (c .before .before .before .before .before .before .r .given .1) in
-      (room 2 (lit≤ tt) (start-call (c .before .before .before .before .before .before .before .before .before .before .before .before .before .before .before .before .skip-blanks .ensures) (c .before .before .before .before .before .before .before .before .before .before .before .before .before .moved .ensures) (c .before .before .before .before .before .before .before .before .before .before .before .before .before .before .before .before .before .before .before .before .args .name) h (c .before .before .before .before .skip-blanks2 .ensures) (c .before .before .before .before .before .before .before .before .before .before .before .before .before .before .before .before .before .before .before .before .pre .1 .0) (rw (not-false (c .before .before .before .is .result) (c .before .before .if1 .left)) at (c .before .before .before .is .ensures)) (c .moved2 .ensures)), ((c .before .before .before .before .before .before .before .before .before .before .before .before .before .before .before .before .before .before .before .before .pre .1 .1), arguments-small h))
+      (room 1 (lit≤ tt) (start-call (c .before .before .before .before .before .before .before .before .before .before .before .before .before .before .before .before .skip-blanks .ensures) (c .before .before .before .before .before .before .before .before .before .before .before .before .before .moved .ensures) (c .before .before .before .before .before .before .before .before .before .before .before .before .before .before .before .before .before .before .before .before .args .name) h (c .before .before .before .before .skip-blanks2 .ensures) (c .before .before .before .before .before .before .before .before .before .before .before .before .before .before .before .before .before .before .before .before .pre .1 .0) (rw (not-false (c .before .before .before .is .result) (c .before .before .if1 .left)) at (c .before .before .before .is .ensures)) (c .moved2 .ensures)), ((c .before .before .before .before .before .before .before .before .before .before .before .before .before .before .before .before .before .before .before .before .pre .1 .1), arguments-small h))
 
   -- src/lib.rt:415:9
   pub call-sort-requires : lts.Need-call-sort-requires (calls t) (function-at t) function.Post

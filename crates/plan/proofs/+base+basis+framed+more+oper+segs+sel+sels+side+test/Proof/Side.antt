@@ -1,20 +1,19 @@
 -- The answers of `side` in the cycle of calls {base, basis, framed, more, oper, segs, sel, sels, side, test}.
-use Rattle.plan.proofs.LawsOper.{side-flat, side-none, side-plural, side-kind, side-operator, side-found}
-use Rattle.plan.proofs.Steps.{read-of, none-of, short-of, small-read, small-none}
-use Rattle.pieces.proofs.Words.{kind-in-at}
+use mathlib.Core.Path.{refl, ap}
+use Rattle.plan.proofs.LawsOper.{relation-small, side-flat, side-none, side-plural, side-unasked, side-deep, side-found}
+use Rattle.plan.proofs.Steps.{read-of, none-of, low-of, short-of, small-read, small-none}
 use borrow.Author.Needs.{needs}
 use native.Mathlib.Omega.{arith}
 use Rattle.plan.proofs.+base+basis+framed+more+oper+segs+sel+sels+side+test.Lts-side as lts
-use Prim.Native.Nat.{ℕ}
+use Prim.Native.Nat.{ℕ, _+_}
 use Rattle.plan.proofs.oper.Reads as oper
 use Rattle.plan.proofs.side.Reads as side
-use Rattle.pieces.proofs.kind.Reads as kind-reads
 use Rattle.pieces.proofs.most.Reads as most-reads
-use Rattle.pieces.proofs.small.Reads as small-reads
+use Rattle.pieces.proofs.relation.Reads as relation-reads
 use Rattle.plan.proofs.+base+basis+framed+more+oper+segs+sel+sels+side+test.Proof.Base.{oper-below, side-at}
 
 abbrev pub calls : ℕ → lts.Claims
-calls t = (oper-below t, oper.Post, kind-reads.Asked, kind-reads.Learnt, small-reads.Asked, small-reads.Learnt, most-reads.Asked, most-reads.Learnt)
+calls t = (oper-below t, oper.Post, relation-reads.Asked, relation-reads.Learnt, most-reads.Asked, most-reads.Learnt)
 
 module _ (t : ℕ) where
   pub returns : lts.Need-returns (calls t) (side-at t) side.Post
@@ -30,19 +29,13 @@ module _ (t : ℕ) where
   enum-known-b c = search needs
 
   pub returns-2 : lts.Need-returns-2 (calls t) (side-at t) side.Post
-  returns-2 c = side-plural (c .before .before .before .before .before .before .before .before .args .a .h) (c .before .before .before .before .before .before .before .before .args .a .sort) (short-of (c .before .before .before .before .before .before .before .before .pre .1 .0)) (read-of (c .before .before .before .before .oper .ensures) (c .before .before .b .given .1)) (c .if2 .taken)
+  returns-2 c = 
+      let a = c .before .before .before .before .before .before .before .before in
+      let rb = read-of (c .before .before .before .before .oper .ensures) (c .before .before .b .given .1) in
+      side-plural (a .args .a .h) (a .args .a .sort) (short-of (a .pre .1 .0)) rb (c .if2 .taken)
 
-  pub kind-requires : lts.Need-kind-requires (calls t) (side-at t) side.Post
-  kind-requires c κs = search needs
-
-  pub returns-3 : lts.Need-returns-3 (calls t) (side-at t) side.Post
-  returns-3 c = side-kind (c .before .before .before .before .before .before .before .before .before .before .args .a .h) (c .before .before .before .before .before .before .before .before .before .before .args .a .sort) (short-of (c .before .before .before .before .before .before .before .before .before .before .pre .1 .0)) (read-of (c .before .before .before .before .before .before .oper .ensures) (c .before .before .before .before .b .given .1)) (c .before .kind .ensures) (c .if3 .taken)
-
-  pub add-small : lts.Need-add-small (calls t) (side-at t) side.Post
-  add-small c = omega (arith, kind-in-at (c .before .kind .ensures) (c .if3 .left))
-
-  pub small-requires : lts.Need-small-requires (calls t) (side-at t) side.Post
-  small-requires c κs = search needs
+  pub relation-requires : lts.Need-relation-requires (calls t) (side-at t) side.Post
+  relation-requires c κs = search needs
 
   pub enum-told-2 : lts.Need-enum-told-2 (calls t) (side-at t) side.Post
   enum-told-2 c = search needs
@@ -53,11 +46,34 @@ module _ (t : ℕ) where
   pub most-requires : lts.Need-most-requires (calls t) (side-at t) side.Post
   most-requires c κs = search needs
 
+  pub add-h : lts.Need-add-h (calls t) (side-at t) side.Post
+  add-h c = 
+      let a = c .before .before .before .before .before .before .before .before .before .before .before .before .before .before in
+      let rb = read-of (c .before .before .before .before .before .before .before .before .before .before .oper .ensures) (c .before .before .before .before .before .before .before .before .b .given .1) in
+      let rc = small-read {L = a .args .pool .now} {room = a .args .room} (c .before .before .before .before .before .relation .ensures) (c .before .before .before .c .given .1) (rb .held) in
+      omega (arith, relation-small rc, c .before .most .ensures, low-of rb, a .pre .1 .1, a .pre .1 .0 .deep)
+
+  pub returns-3 : lts.Need-returns-3 (calls t) (side-at t) side.Post
+  returns-3 c = 
+      let a = c .before .before .before .before .before .before .before .before .before .before .before .before .before .before .before in
+      let rb = read-of (c .before .before .before .before .before .before .before .before .before .before .before .oper .ensures) (c .before .before .before .before .before .before .before .before .before .b .given .1) in
+      let rc = small-read (c .before .before .before .before .before .before .relation .ensures) (c .before .before .before .before .c .given .1) (rb .held) in
+      side-deep (a .args .a .h) (a .args .a .sort) (short-of (a .pre .1 .0)) rb rc (ap (λ (z : ℕ). c .before .before .before .before .c .given .0 .0 .sort + z) (c .before .before .most .ensures)) (c .if3 .taken)
+
   pub returns-4 : lts.Need-returns-4 (calls t) (side-at t) side.Post
-  returns-4 c = side-none (c .before .before .before .before .before .before .args .a .h) (c .before .before .before .before .before .before .args .a .sort) (none-of (c .before .before .oper .ensures) (c .enum-told .given .1))
+  returns-4 c = 
+      let a = c .before .before .before .before .before .before in
+      side-none (a .args .a .h) (a .args .a .sort) (none-of (c .before .before .oper .ensures) (c .enum-told .given .1))
 
   pub returns-5 : lts.Need-returns-5 (calls t) (side-at t) side.Post
-  returns-5 c = side-operator (c .before .before .before .before .before .before .before .before .before .before .before .before .before .args .a .h) (c .before .before .before .before .before .before .before .before .before .before .before .before .before .args .a .sort) (short-of (c .before .before .before .before .before .before .before .before .before .before .before .before .before .pre .1 .0)) (read-of (c .before .before .before .before .before .before .before .before .before .oper .ensures) (c .before .before .before .before .before .before .before .b .given .1)) (c .before .before .before .before .kind .ensures) (c .before .before .before .if3 .left) (small-none (c .before .before .small .ensures) (c .enum-told2 .given .1))
+  returns-5 c = 
+      let a = c .before .before .before .before .before .before .before .before .before .before .before in
+      let rb = read-of (c .before .before .before .before .before .before .before .oper .ensures) (c .before .before .before .before .before .b .given .1) in
+      side-unasked (a .args .a .h) (a .args .a .sort) (short-of (a .pre .1 .0)) rb (none-of ((small-none (c .before .before .relation .ensures) (c .enum-told2 .given .1)) .any _ _ (rb .held)) refl)
 
   pub returns-6 : lts.Need-returns-6 (calls t) (side-at t) side.Post
-  returns-6 c = side-found (c .before .before .before .before .before .before .before .before .before .before .before .before .before .before .before .args .a .h) (c .before .before .before .before .before .before .before .before .before .before .before .before .before .before .before .args .a .sort) (short-of (c .before .before .before .before .before .before .before .before .before .before .before .before .before .before .before .pre .1 .0)) (read-of (c .before .before .before .before .before .before .before .before .before .before .before .oper .ensures) (c .before .before .before .before .before .before .before .before .before .b .given .1)) (c .before .before .before .before .before .before .kind .ensures) (c .before .before .before .before .before .if3 .left) (c .before .before .before .before .before .before .before .before .before .before .before .before .if1 .left) (c .before .before .before .before .before .before .before .if2 .left) (c .before .before .before .before .before .before .before .before .before .before .before .before .before .before .before .pre .1 .1) (c .most .ensures) (small-read (c .before .before .before .before .small .ensures) (c .before .before .c .given .1) (read-of (c .before .before .before .before .before .before .before .before .before .before .before .oper .ensures) (c .before .before .before .before .before .before .before .before .before .b .given .1) .held))
+  returns-6 c = 
+      let a = c .before .before .before .before .before .before .before .before .before .before .before .before .before .before .before in
+      let rb = read-of (c .before .before .before .before .before .before .before .before .before .before .before .oper .ensures) (c .before .before .before .before .before .before .before .before .before .b .given .1) in
+      let rc = small-read (c .before .before .before .before .before .before .relation .ensures) (c .before .before .before .before .c .given .1) (rb .held) in
+      side-found (a .args .a .h) (a .args .a .sort) (short-of (a .pre .1 .0)) rb rc (ap (λ (z : ℕ). c .before .before .before .before .c .given .0 .0 .sort + z) (c .before .before .most .ensures)) (c .before .before .before .before .before .before .before .before .before .before .before .before .if1 .left) (c .before .before .before .before .before .before .before .if2 .left) (c .if3 .left)
