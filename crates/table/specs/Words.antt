@@ -6,7 +6,8 @@ use mathlib.Core.Bool.{Bool, true, false}
 use lib.ListN.{length}
 use Rattle.definition.specs.Bytes.{every}
 use Rattle.definition.specs.Limits.{maxNodes, maxMembers}
-use Rattle.definition.specs.Tables.{nodeCount, kindAt, kindMap, highWord, firstChild, keyStart, keyLength, nodeRight}
+use Rattle.definition.specs.Tables.{nodeCount, kindAt, kindMap, highWord, firstChild, keyStart, keyLength, textRight}
+use Rattle.tables.specs.Joined.{nodeRight}
 use Rattle.text.specs.Chars.{isAscii}
 use Rattle.table.specs.Buckets.{bucketAt}
 use Rattle.table.specs.Chains.{HeadsBelow, Chained, Roomy}
@@ -17,6 +18,10 @@ use Rattle.table.specs.declared.scan.NodeChecked.the-variants.{Next, Wro
 -- where a flag is set, a text is ASCII throughout
 abbrev pub AsciiIf : Bool → List ℕ → Type 0
 AsciiIf b X = b ≡ true → every isAscii X ≡ true
+
+-- no rule on texts and keys fails at any node below n
+abbrev pub TextsBelow : List ℕ → List ℕ → ℕ → Type 0
+TextsBelow T X n = (k : ℕ) → k < n → textRight T X k ≡ true
 
 -- the nodes from a place up to an end are nodes of the table, and their keys lie inside the text
 pub record KeysInside (T X : List ℕ) (from end : ℕ) : Type 0 where
