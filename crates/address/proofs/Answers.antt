@@ -7,15 +7,15 @@ use lib.Dec.{ltb}
 use lib.ListN.{length, drop}
 use borrow.Author.Tests.{lt-ltb, le-ltb}
 use Rattle.definition.specs.Tables.{Checked, checkTable, nodeCount}
-use Rattle.definition.specs.Tables.Checked.{accepted, sized, wrongAt}
+use Rattle.definition.specs.Tables.Checked.{accepted, sized, wrongAt, textAt}
 use Rattle.definition.specs.TableOutcomes.{TableOutcome, reportTable, tableOutcome}
 use Rattle.definition.specs.Paths.{PathOutcome, pathOf, putPath, pathBy, pathOutcome}
-use Rattle.tables.specs.Outcomes.{report-accepted, report-sized, report-wrong}
+use Rattle.tables.specs.Outcomes.{report-accepted, report-sized, report-wrong, report-text}
 use Rattle.table.specs.declared.TableChecked.{TableChecked}
-use Rattle.table.specs.declared.TableChecked.the-variants.{Accepted, WrongSize as Sized, WrongNode as Wrong}
+use Rattle.table.specs.declared.TableChecked.the-variants.{Accepted, WrongSize as Sized, WrongNode as Wrong, WrongText as Text}
 use Rattle.table.specs.Outcomes.{reported}
 use Rattle.address.specs.declared.PathWritten.{PathWritten}
-use Rattle.address.specs.declared.PathWritten.the-variants.{Written, WrongSize, WrongNode, NoNode, SmallRoom}
+use Rattle.address.specs.declared.PathWritten.the-variants.{Written, WrongSize, WrongNode, WrongText, NoNode, SmallRoom}
 use Rattle.address.specs.Outcomes.{told, ToldIn}
 
 -- ---- what the check of the table answers
@@ -38,6 +38,12 @@ module _ (T X : List ℕ) (r : TableChecked) (e : reported r ≡ tableOutcome T 
   says-wrong j i =
       report-wrong (checkTable T X) (number-of (Wrong j) i)
       ∙ ap wrongAt (ap (λ (o : TableOutcome). o .node) (sym e) ∙ ap (λ (x : TableChecked). reported x .node) i)
+
+  pub says-text : (j : ℕ) → r ≡ Text j → checkTable T X ≡ textAt j
+  unfolding reported tableOutcome
+  says-text j i =
+      report-text (checkTable T X) (number-of (Text j) i)
+      ∙ ap textAt (ap (λ (o : TableOutcome). o .node) (sym e) ∙ ap (λ (x : TableChecked). reported x .node) i)
 
 -- ---- what this crate answers
 
@@ -70,3 +76,7 @@ module _ (T X : List ℕ) (i : ℕ) (B : List ℕ) where
   pub told-wrong : (j : ℕ) → checkTable T X ≡ wrongAt j → told (WrongNode j) B ≡ pathOutcome T X i B
   unfolding pathOutcome told pathBy
   told-wrong j e = ap (λ (c : Checked). pathBy c (ltb i (nodeCount T)) (pathOf T X i) B) (sym e)
+
+  pub told-text : (j : ℕ) → checkTable T X ≡ textAt j → told (WrongText j) B ≡ pathOutcome T X i B
+  unfolding pathOutcome told pathBy
+  told-text j e = ap (λ (c : Checked). pathBy c (ltb i (nodeCount T)) (pathOf T X i) B) (sym e)

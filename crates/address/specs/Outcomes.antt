@@ -7,13 +7,14 @@ use Rattle.definition.specs.Tables.{nodeCount}
 use Rattle.definition.specs.Tables.Checked.{accepted}
 use Rattle.definition.specs.Paths.{PathOutcome, pathOf, pathBy}
 use Rattle.address.specs.declared.PathWritten.{PathWritten}
-use Rattle.address.specs.declared.PathWritten.the-variants.{Written, WrongSize, WrongNode, NoNode, SmallRoom}
+use Rattle.address.specs.declared.PathWritten.the-variants.{Written, WrongSize, WrongNode, WrongText, NoNode, SmallRoom}
 
 -- the outcome that an answer is, with what the room holds afterwards
 unfoldable pub told : PathWritten → List ℕ → PathOutcome
 told (Written n) B = record { refusal = 0; size = n; node = 0; room = B }
 told WrongSize B = record { refusal = 9; size = 0; node = 0; room = B }
 told (WrongNode i) B = record { refusal = 10; size = 0; node = i; room = B }
+told (WrongText i) B = record { refusal = 17; size = 0; node = i; room = B }
 told NoNode B = record { refusal = 15; size = 0; node = 0; room = B }
 told (SmallRoom n) B = record { refusal = 16; size = n; node = 0; room = B }
 

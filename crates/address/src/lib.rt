@@ -24,8 +24,10 @@ pub enum PathWritten {
     Written(usize),
     // Refusal 9: the table's size or the text's is wrong.
     WrongSize,
-    // Refusal 10: the least node at which a rule fails.
+    // Refusal 10: the least node at which a rule on records fails.
     WrongNode(usize),
+    // Refusal 17: the least node at which a rule on texts and keys fails.
+    WrongText(usize),
     // Refusal 15: there is no such node.
     NoNode,
     // Refusal 16: the path has so many bytes, and the room has less.
@@ -56,5 +58,6 @@ pub fn path_of_node(table: &[u8], text: &[u8], node: usize, room: &mut [u8]) -> 
         TableChecked::Accepted => path_in(table, text, node, room),
         TableChecked::WrongSize => PathWritten::WrongSize,
         TableChecked::WrongNode(wrong) => PathWritten::WrongNode(wrong),
+        TableChecked::WrongText(wrong) => PathWritten::WrongText(wrong),
     }
 }

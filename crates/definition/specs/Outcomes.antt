@@ -61,7 +61,7 @@ pub record Compiles (s P L : List ℕ) (o : CompileOutcome) : Type 0 where
 
 -- ---- run and plan check
 
--- "Run: 11, 9, 10, 14, 13."
+-- "Run: 11, 9, 10, 14, 13", with 17 behind 10 (document 02, W6).
 pub record Runs (plan pool T X L : List ℕ) (at : ℕ) (o : RunOutcome) : Type 0 where
   pub reading : Reading
   pub reads : Spells plan pool reading

@@ -7,7 +7,7 @@ use lib.Dec.{eqb, ltb}
 use lib.IntN.{pos}
 use lib.ListN.{length, drop}
 use Rattle.definition.specs.Tables.{Checked, checkTable, nodeCount, kindAt, kindMap, firstChild, keyBytes, parentOf}
-use Rattle.definition.specs.Tables.Checked.{accepted, sized, wrongAt}
+use Rattle.definition.specs.Tables.Checked.{accepted, sized, wrongAt, textAt}
 use Rattle.definition.specs.Forms.{Query, Segments, Selector}
 use Rattle.definition.specs.Forms.Start.{root}
 use Rattle.definition.specs.Forms.Query.{query}
@@ -94,7 +94,7 @@ pathOf T X i = 0x24 ∷ spellSteps (stepsTo T X i)
 
 -- ---- the outcome: "Refusals: 16, path room too small, after 15, with the length needed and the buffer untouched"
 
--- the refusal, 0 for none; the path's length, with 0 and 16; the least wrong node where 10 names one; and what the lent room holds afterwards
+-- the refusal, 0 for none; the path's length, with 0 and 16; the least wrong node where 10 or 17 names one; and what the lent room holds afterwards
 pub record PathOutcome : Type 0 where
   pub refusal : ℕ
   pub size : ℕ
@@ -113,6 +113,7 @@ pathBy accepted true s B = putPath s B
 pathBy accepted false s B = record { refusal = 15; size = 0; node = 0; room = B }
 pathBy sized b s B = record { refusal = 9; size = 0; node = 0; room = B }
 pathBy (wrongAt i) b s B = record { refusal = 10; size = 0; node = i; room = B }
+pathBy (textAt i) b s B = record { refusal = 17; size = 0; node = i; room = B }
 
 unfoldable pub pathOutcome : List ℕ → List ℕ → ℕ → List ℕ → PathOutcome
 pathOutcome T X i B = pathBy (checkTable T X) (ltb i (nodeCount T)) (pathOf T X i) B

@@ -17,7 +17,7 @@ use Rattle.definition.specs.Walk.{Walked, walk}
 use Rattle.definition.specs.Walk.Walked.{walked}
 use Rattle.definition.specs.Forms.{Query}
 use Rattle.definition.specs.Tables.{Checked, checkTable, tree}
-use Rattle.definition.specs.Tables.Checked.{accepted, sized, wrongAt}
+use Rattle.definition.specs.Tables.Checked.{accepted, sized, wrongAt, textAt}
 use Rattle.definition.specs.Evaluation.{selected}
 
 -- What is read comes to a refusal or to a query form.
@@ -44,7 +44,7 @@ pub data Reads (s : List ℕ) : Reading → Type 0 where
 
 -- ---- select, and what it shares with run
 
--- the refusal, 0 for none; the number of nodes selected, 0 with every refusal; the least wrong node where 10 names one; what the lent list holds afterwards
+-- the refusal, 0 for none; the number of nodes selected, 0 with every refusal; the least wrong node where 10 or 17 names one; what the lent list holds afterwards
 pub record RunOutcome : Type 0 where
   pub refusal : ℕ
   pub count : ℕ
@@ -68,12 +68,13 @@ unfoldable pub runTable : Checked → Query → List ℕ → List ℕ → List �
 runTable accepted q T X L at = placeFrom (leb at (length L)) (selected q (tree T X)) L at
 runTable sized q T X L at = refuseRun 9 0 L
 runTable (wrongAt i) q T X L at = refuseRun 10 i L
+runTable (textAt i) q T X L at = refuseRun 17 i L
 
 unfoldable pub runBy : Reading → List ℕ → List ℕ → List ℕ → ℕ → RunOutcome
 runBy (refused n) T X L at = refuseRun n 0 L
 runBy (form q) T X L at = runTable (checkTable T X) q T X L at
 
--- "Select: the same without 12, then 9, 10, 14, 13."
+-- "Select: the same without 12, then 9, 10, 14, 13", with 17 behind 10 (document 02, W6).
 pub record Selects (s T X L : List ℕ) (at : ℕ) (o : RunOutcome) : Type 0 where
   pub reading : Reading
   pub reads : Reads s reading

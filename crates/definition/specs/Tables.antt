@@ -1,4 +1,4 @@
--- The table of values: its records, each rule for a node, the least node at which a rule fails, and the tree of values that a table holds.
+-- The table of values: its records, the rules on records and those on texts and keys, the two checks with the least node at which a rule fails, and the tree of values that a table holds.
 -- T is the table's bytes, X the text's, i a node number.
 use Prim.Native.Nat.{ℕ, zero, suc, _+_, _-_, _*_, _/_, _%_}
 use mathlib.Core.List.{List}
@@ -103,7 +103,7 @@ parentBelow T i (suc b) = cond (isChildOf T b i) (some b) (parentBelow T i b)
 abbrev pub parentOf : List ℕ → ℕ → Option ℕ
 parentOf T i = parentBelow T i i
 
--- ---- the rules for a node
+-- ---- the rules on records: no text is read
 
 -- "Byte 0 kind", "Byte 1 depth, at most 63. Bytes 2-3 .. zero." Document 02, W2: "Document 01's 'bytes 12-15 zero' goes".
 unfoldable pub headRight : List ℕ → ℕ → Bool
@@ -118,64 +118,113 @@ unfoldable pub rangeRight : List ℕ → ℕ → Bool
 rangeRight T i = cond (eqb (highWord T i) 0) (eqb (lowWord T i) 0) (eqb (lowWord T i) (firstChild T i) && leb (lowWord T i + highWord T i) (nodeCount T))
 
 -- "Bytes 16-23: integer in two's complement; finite float bits; text start and length; first child and child count; else zero."
--- "A map has at most 1,024 members".
-unfoldable pub payloadRight : List ℕ → List ℕ → ℕ → Bool
-payloadRight T X i =
+-- "A map has at most 1,024 members". Where a text starts and how long it is, is a rule on texts.
+unfoldable pub payloadRecord : List ℕ → ℕ → Bool
+payloadRecord T i =
     cond (ltb (kindAt T i) 3) (eqb (payload T i) 0)
     (cond (eqb (kindAt T i) 3) true
     (cond (eqb (kindAt T i) kindFloat) (isFinite (payload T i))
-    (cond (eqb (kindAt T i) kindText) (goodPart X (lowWord T i) (highWord T i))
+    (cond (eqb (kindAt T i) kindText) true
     (cond (eqb (kindAt T i) kindList) (rangeRight T i) (rangeRight T i && leb (highWord T i) maxMembers)))))
 
 -- "the key of any other node has start and length 0"
 unfoldable pub noKey : List ℕ → ℕ → Bool
 noKey T i = eqb (keyStart T i) 0 && eqb (keyLength T i) 0
 
+-- what is asked of a record by the node's parent: its number in bytes 12-15, "Depth is 0 at the root, else the parent's plus 1", and no key where it is no map
+unfoldable pub placeRecord : List ℕ → ℕ → Option ℕ → Bool
+placeRecord T i none = false
+placeRecord T i (some p) = eqb (parentAt T i) p && (eqb (depthAt T i) (depthAt T p + 1) && cond (eqb (kindAt T p) kindMap) true (noKey T i))
+
+unfoldable pub standsRecord : List ℕ → ℕ → Bool
+standsRecord T zero = eqb (parentAt T zero) 0 && (eqb (depthAt T zero) 0 && noKey T zero)
+standsRecord T (suc i) = placeRecord T (suc i) (parentOf T (suc i))
+
+-- no rule on records fails at node i
+unfoldable pub recordRight : List ℕ → ℕ → Bool
+recordRight T i = headRight T i && (payloadRecord T i && standsRecord T i)
+
+-- ---- the rules on texts and keys, for any records: document 02, W6, "takes each range as its record writes it, as far as the table reaches"
+
+-- the text of a node, if it is one
+unfoldable pub textInside : List ℕ → List ℕ → ℕ → Bool
+textInside T X i = cond (eqb (kindAt T i) kindText) (goodPart X (lowWord T i) (highWord T i)) true
+
+-- whether node p is a map whose written range holds node i
+unfoldable pub holds : List ℕ → ℕ → ℕ → Bool
+holds T p i = eqb (kindAt T p) kindMap && (leb (lowWord T p) i && ltb i (lowWord T p + highWord T p))
+
 -- whether the key of node i is unlike those of the n nodes from j on
 unfoldable pub keyDiffers : List ℕ → List ℕ → ℕ → ℕ → ℕ → Bool
 keyDiffers T X i j zero = true
 keyDiffers T X i j (suc n) = not (sameBytes (keyBytes T X j) (keyBytes T X i)) && keyDiffers T X i (suc j) n
 
--- a member's key: inside the text, UTF-8, and unlike the keys of the members before it
-unfoldable pub memberRight : List ℕ → List ℕ → ℕ → ℕ → Bool
-memberRight T X p i = goodPart X (keyStart T i) (keyLength T i) && keyDiffers T X i (firstChild T p) (i - firstChild T p)
+-- the key of a member i of map p: inside the text, UTF-8, and unlike the keys of the members before it
+unfoldable pub keyRight : List ℕ → List ℕ → ℕ → ℕ → Bool
+keyRight T X p i = goodPart X (keyStart T i) (keyLength T i) && keyDiffers T X i (lowWord T p) (i - lowWord T p)
 
--- what is asked of a node by its parent: its number in bytes 12-15, "Depth is 0 at the root, else the parent's plus 1", and the rules on keys
-unfoldable pub placeRight : List ℕ → List ℕ → ℕ → Option ℕ → Bool
-placeRight T X i none = false
-placeRight T X i (some p) = eqb (parentAt T i) p && (eqb (depthAt T i) (depthAt T p + 1) && cond (eqb (kindAt T p) kindMap) (memberRight T X p i) (noKey T i))
+-- the same under each of the first n nodes that holds i, whether it stands before i or behind it
+unfoldable pub keysRight : List ℕ → List ℕ → ℕ → ℕ → Bool
+keysRight T X i zero = true
+keysRight T X i (suc p) = cond (holds T p i) (keyRight T X p i) true && keysRight T X i p
 
-unfoldable pub standsRight : List ℕ → List ℕ → ℕ → Bool
-standsRight T X zero = eqb (parentAt T zero) 0 && (eqb (depthAt T zero) 0 && noKey T zero)
-standsRight T X (suc i) = placeRight T X (suc i) (parentOf T (suc i))
+-- no rule on texts and keys fails at node i
+unfoldable pub textRight : List ℕ → List ℕ → ℕ → Bool
+textRight T X i = textInside T X i && keysRight T X i (nodeCount T)
 
--- no rule fails at node i
-unfoldable pub nodeRight : List ℕ → List ℕ → ℕ → Bool
-nodeRight T X i = headRight T i && (payloadRight T X i && standsRight T X i)
+-- ---- the checks
 
--- ---- the check
+-- "each with its least node": the least of the n numbers from i on that fails a test
+unfoldable pub leastFailing : (ℕ → Bool) → ℕ → ℕ → Option ℕ
+leastFailing right i zero = none
+leastFailing right i (suc n) = cond (right i) (leastFailing right (suc i) n) (some i)
 
--- "the least such node", among the n nodes from i on
-unfoldable pub leastWrong : List ℕ → List ℕ → ℕ → ℕ → Option ℕ
-leastWrong T X i zero = none
-leastWrong T X i (suc n) = cond (nodeRight T X i) (leastWrong T X (suc i) n) (some i)
+abbrev pub leastRecord : List ℕ → Option ℕ
+leastRecord T = leastFailing (recordRight T) 0 (nodeCount T)
+
+abbrev pub leastText : List ℕ → List ℕ → Option ℕ
+leastText T X = leastFailing (textRight T X) 0 (nodeCount T)
 
 -- refusal 9: "table empty, not a multiple of 24 bytes, over 65,535 nodes, or text over 16,777,216 bytes"
 unfoldable pub badSize : List ℕ → List ℕ → Bool
 badSize T X = eqb (length T) 0 || (not (eqb (length T % recordSize) 0) || (ltb maxNodes (nodeCount T) || ltb maxText (length X)))
 
--- What the check of a table comes to: all right, refusal 9, or refusal 10 with its node.
+-- What a check comes to: all right, refusal 9, "10 for the record rules, 17 for the text rules", each with its node.
 pub data Checked : Type 0 where
   accepted : Checked
   sized : Checked
   wrongAt : ℕ → Checked
+  textAt : ℕ → Checked
 
-unfoldable pub byLeast : Option ℕ → Checked
-byLeast none = accepted
-byLeast (some i) = wrongAt i
+unfoldable pub byRecord : Option ℕ → Checked
+byRecord none = accepted
+byRecord (some i) = wrongAt i
 
+unfoldable pub byText : Option ℕ → Checked
+byText none = accepted
+byText (some i) = textAt i
+
+unfoldable pub bySize : Bool → Checked → Checked
+bySize true c = sized
+bySize false c = c
+
+-- the two operations, each of which can be called alone
+unfoldable pub checkRecords : List ℕ → List ℕ → Checked
+checkRecords T X = bySize (badSize T X) (byRecord (leastRecord T))
+
+unfoldable pub checkTexts : List ℕ → List ℕ → Checked
+checkTexts T X = bySize (badSize T X) (byText (leastText T X))
+
+-- what a check comes to, or what follows it where it accepts
+unfoldable pub andThen : Checked → Checked → Checked
+andThen accepted c = c
+andThen sized c = sized
+andThen (wrongAt i) c = wrongAt i
+andThen (textAt i) c = textAt i
+
+-- the pair: "the first over all nodes, then the second"
 unfoldable pub checkTable : List ℕ → List ℕ → Checked
-checkTable T X = elim (badSize T X) [ true ↦ sized | false ↦ byLeast (leastWrong T X 0 (nodeCount T)) ]
+checkTable T X = andThen (checkRecords T X) (checkTexts T X)
 
 -- ---- the tree of an accepted table
 

@@ -188,6 +188,10 @@ allJudged (x ∷ xs) = judged x && allJudged xs
 abbrev wrong : ℕ → ℕ → ℕ → Broken
 wrong at b n = broken (changed at b sampleTable) sampleText 10 n
 
+-- and 17 where a text or a key is at fault
+abbrev wrongText : ℕ → ℕ → ℕ → Broken
+wrongText at b n = broken (changed at b sampleTable) sampleText 17 n
+
 abbrev pub tables : List Broken
 tables =
     broken sampleTable sampleText 0 0 ∷
@@ -213,10 +217,10 @@ tables =
     -- a float that is not finite
     broken (changed 118 0xF0 (changed 119 0x7F sampleTable)) sampleText 10 4 ∷
     -- a text past the end, by its length and by the higher bytes of its start and its length, and one that cuts a character
-    wrong 68 3 2 ∷
-    wrong 66 1 2 ∷
-    wrong 70 1 2 ∷
-    wrong 68 1 2 ∷
+    wrongText 68 3 2 ∷
+    wrongText 66 1 2 ∷
+    wrongText 70 1 2 ∷
+    wrongText 68 1 2 ∷
     -- a wrong first child of a list and of a map, a range past the end, an orphan
     wrong 40 2 1 ∷
     wrong 42 1 1 ∷
@@ -229,11 +233,11 @@ tables =
     wrong 80 1 3 ∷
     wrong 76 1 3 ∷
     -- a key past the end, by its length, the higher bytes of it, and its start
-    wrong 32 9 1 ∷
-    wrong 34 1 1 ∷
-    wrong 30 1 1 ∷
+    wrongText 32 9 1 ∷
+    wrongText 34 1 1 ∷
+    wrongText 30 1 1 ∷
     -- two members of one key
-    wrong 52 0 2 ∷
+    wrongText 52 0 2 ∷
     -- a root with a key, and one that is not at depth 0
     wrong 8 1 0 ∷
     wrong 1 1 0 ∷
@@ -258,7 +262,7 @@ part x s n = sameBytes (x .part) s && eqb (x .number) n
 abbrev outcome : RunOutcome → ℕ → ℕ → ℕ → List ℕ → Bool
 outcome x n c i ps = eqb (x .refusal) n && (eqb (x .count) c && (eqb (x .node) i && sameBytes (x .places) ps))
 
--- the text of node 2 and the key of node 1 are found; an integer has no text, a list element no key, and there is no node 6
+-- the text of node 2 and the key of node 1 are found; an integer has no text, a list element no key, and there is no node 6; the table is judged before the node
 pub partsHold :
     all
     (part (textOutcome sampleTable sampleText 2) (hex "C3 A9") 0 ∷
@@ -270,6 +274,8 @@ pub partsHold :
     part (keyOutcome sampleTable sampleText 6) [] 15 ∷
     part (textOutcome [] sampleText 0) [] 9 ∷
     part (keyOutcome (changed 8 1 sampleTable) sampleText 1) [] 10 ∷
+    part (textOutcome (changed 52 0 sampleTable) sampleText 9) [] 17 ∷
+    part (keyOutcome (changed 68 3 sampleTable) sampleText 1) [] 17 ∷
     []) ≡ true
 unfolding computes
 partsHold = refl
@@ -287,6 +293,7 @@ pub runsHold :
     run sampleTable (9 ∷ 9 ∷ []) 2 13 0 0 (9 ∷ 9 ∷ []) ∷
     run sampleTable (9 ∷ 9 ∷ []) 3 14 0 0 (9 ∷ 9 ∷ []) ∷
     run (changed 40 2 sampleTable) (9 ∷ 9 ∷ []) 3 10 0 1 (9 ∷ 9 ∷ []) ∷
+    run (changed 52 0 sampleTable) (9 ∷ 9 ∷ []) 3 17 0 2 (9 ∷ 9 ∷ []) ∷
     run [] (9 ∷ 9 ∷ []) 3 9 0 0 (9 ∷ 9 ∷ []) ∷
     []) ≡ true
 unfolding computes

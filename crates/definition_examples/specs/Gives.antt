@@ -17,7 +17,7 @@ use Rattle.definition.specs.QueryForms.{isForm}
 use Rattle.definition.specs.Plans.{planOf, poolOf}
 use Rattle.definition.specs.Walk.{walk}
 use Rattle.definition.specs.Tables.{Checked, checkTable, tree}
-use Rattle.definition.specs.Tables.Checked.{accepted, sized, wrongAt}
+use Rattle.definition.specs.Tables.Checked.{accepted, sized, wrongAt, textAt}
 use Rattle.definition.specs.Evaluation.{selected}
 use Rattle.definition.specs.Selecting.{Reading, Reads, early, judge, hasTree}
 use Rattle.definition.specs.Selecting.Reading.{form, refused}
@@ -50,6 +50,7 @@ abbrev pub isAccepted : Checked → Bool
 isAccepted accepted = true
 isAccepted sized = false
 isAccepted (wrongAt i) = false
+isAccepted (textAt i) = false
 
 -- whether a reading is a form, and the form selects the nodes
 abbrev pub picks : Reading → List ℕ → List ℕ → List ℕ → Bool
@@ -93,6 +94,7 @@ is-accepted : (c : Checked) → isAccepted c ≡ true → c ≡ accepted
 is-accepted accepted e = refl
 is-accepted sized e = absurd (false≢true e)
 is-accepted (wrongAt i) e = absurd (false≢true e)
+is-accepted (textAt i) e = absurd (false≢true e)
 
 picked : (r : Reading) (s T X ns : List ℕ) → Reads s r → checkTable T X ≡ accepted → picks r T X ns ≡ true → Gives s T X ns
 picked (refused n) s T X ns h a e = absurd (false≢true e)

@@ -16,3 +16,4 @@ pub mod Rights
 pub mod Limits
 pub mod Deep
 pub mod Paths
+pub mod Checks

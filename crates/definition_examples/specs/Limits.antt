@@ -7,7 +7,7 @@ use native.Mathlib.Omega.{arith}
 use lib.IntN.{pos}
 use lib.ListN.{length}
 use Rattle.definition.specs.Values.{Json}
-use Rattle.definition.specs.Tables.{kindAt, highWord, rangeRight, payloadRight, badSize}
+use Rattle.definition.specs.Tables.{kindAt, highWord, rangeRight, payloadRecord, badSize}
 use Rattle.definition.specs.Forms.{Query}
 use Rattle.definition.specs.QueryForms.{isForm}
 use Rattle.definition.specs.Compare.{Value}
@@ -40,17 +40,17 @@ and-false : (b : Bool) → (b && false) ≡ false
 and-false true = refl
 and-false false = refl
 
-pub largest-map : (T X : List ℕ) (i : ℕ) → kindAt T i ≡ 7 → highWord T i ≡ 1024 → payloadRight T X i ≡ rangeRight T i
-unfolding payloadRight
-largest-map T X i h k = rw (h, k) (and-true (rangeRight T i))
+pub largest-map : (T : List ℕ) (i : ℕ) → kindAt T i ≡ 7 → highWord T i ≡ 1024 → payloadRecord T i ≡ rangeRight T i
+unfolding payloadRecord
+largest-map T i h k = rw (h, k) (and-true (rangeRight T i))
 
-pub map-too-large : (T X : List ℕ) (i : ℕ) → kindAt T i ≡ 7 → highWord T i ≡ 1025 → payloadRight T X i ≡ false
-unfolding payloadRight
-map-too-large T X i h k = rw (h, k) (and-false (rangeRight T i))
+pub map-too-large : (T : List ℕ) (i : ℕ) → kindAt T i ≡ 7 → highWord T i ≡ 1025 → payloadRecord T i ≡ false
+unfolding payloadRecord
+map-too-large T i h k = rw (h, k) (and-false (rangeRight T i))
 
-pub any-list : (T X : List ℕ) (i : ℕ) → kindAt T i ≡ 6 → payloadRight T X i ≡ rangeRight T i
-unfolding payloadRight
-any-list T X i h = rw h refl
+pub any-list : (T : List ℕ) (i : ℕ) → kindAt T i ≡ 6 → payloadRecord T i ≡ rangeRight T i
+unfolding payloadRecord
+any-list T i h = rw h refl
 
 -- ---- refusal 11: "not the translation of a query form, or over 65,535 bytes"
 

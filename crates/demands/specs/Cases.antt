@@ -12,13 +12,13 @@ use lib.Seq.{sets, sets-eq}
 use Rattle.definition.specs.Forms.{Query}
 use Rattle.definition.specs.Plans.{planOf, poolOf}
 use Rattle.definition.specs.Tables.{Checked, checkTable, tree}
-use Rattle.definition.specs.Tables.Checked.{accepted, sized, wrongAt}
+use Rattle.definition.specs.Tables.Checked.{accepted, sized, wrongAt, textAt}
 use Rattle.definition.specs.Evaluation.{selected}
 use Rattle.definition.specs.Outcomes.{Reading, Reads, Spells, CompileOutcome, Compiles, RunOutcome, Runs, Selects, write, compileBy, refuseRun, runTable, runBy}
 use Rattle.definition.specs.Outcomes.Reading.{refused, form}
 use Rattle.demands.specs.Promises.{CompileCase, Listed, RunCase}
 use Rattle.demands.specs.Promises.CompileCase.{refuses as refusesQuery, smallPlan, smallPool, writes}
-use Rattle.demands.specs.Promises.RunCase.{refuses as refusesRun, wrongSize, wrongNode, lists}
+use Rattle.demands.specs.Promises.RunCase.{refuses as refusesRun, wrongSize, wrongNode, wrongText, lists}
 use Rattle.demands.specs.Lists.{placed-listed, listed-one}
 
 -- ---- the answers of compile, case by case
@@ -70,6 +70,7 @@ unfolding runTable refuseRun
 table-case q T X L at accepted e = lists q e (placed-listed (selected q (tree T X)) L at)
 table-case q T X L at sized e = wrongSize q e
 table-case q T X L at (wrongAt i) e = wrongNode q i e
+table-case q T X L at (textAt i) e = wrongText q i e
 
 pub run-case : (x : Reading) (T X L : List ℕ) (at : ℕ) → RunCase T X L at x (runBy x T X L at)
 unfolding runBy refuseRun
@@ -87,6 +88,7 @@ unfolding runBy runTable refuseRun
 case-is (refusesRun n) = refl
 case-is (wrongSize q e) = rw e
 case-is (wrongNode q i e) = rw e
+case-is (wrongText q i e) = rw e
 case-is {T} {X} {L} {at} (lists q e l) = listed-one l (accepted-lists q T X L at e)
 
 -- what select and run answer, case by case

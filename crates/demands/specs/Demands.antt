@@ -3,10 +3,11 @@
 -- What the letters and the types are stands in Promises.antt, and when each operation refuses in Refusals.antt. The contracts of the crate `promises`, on which the linked
 -- library stands, say of each operation's answer:
 --   compile        CompilesOnly s P R c               check_plan     ChecksPlanOnly plan pool n
---   select         SelectsOnly s T X L at o           check_table    ChecksTableOnly T X o
---   run            RunsOnly plan pool T X L at o      text_of_node   TextOnly T X i o, and TextBegins: which part of the text it is
---   tally          TalliesOnly plan pool C m o        key_of_node    KeyOnly T X i o, and KeyBegins
---   path_of_node   PathOnly T X i B o
+--   select         SelectsOnly s T X L at o           check_records  ChecksRecordsOnly T X o
+--   run            RunsOnly plan pool T X L at o      check_texts    ChecksTextsOnly T X o
+--   tally          TalliesOnly plan pool C m o        check_table    ChecksTableOnly T X o: the pair
+--   path_of_node   PathOnly T X i B o                 text_of_node   TextOnly T X i o, and TextBegins: which part of the text it is
+--                                                     key_of_node    KeyOnly T X i o, and KeyBegins
 -- where C are the counts before and m is the number of plans.
 -- None of them requires anything, so they hold for all input. Each operation also ends on all input: the toolchain's logic is one of total correctness (its guide DESIGN,
 -- "Termination": a triple holds only of code that ends, and a loop or a cycle of calls is shown to end by a measure), so a function that is proved ends wherever its `requires` holds.
@@ -28,8 +29,8 @@ use Rattle.definition.specs.Forms.Test.{regex}
 use Rattle.definition.specs.Plans.{planOf, poolOf}
 use Rattle.definition.specs.Slices.{slicePlaces}
 use Rattle.definition.specs.StandardSlices.{rfcPlaces}
-use Rattle.definition.specs.Tables.{nodeCount, checkTable, tree}
-use Rattle.definition.specs.Tables.Checked.{accepted, wrongAt}
+use Rattle.definition.specs.Tables.{nodeCount, recordRight, textRight, checkRecords, checkTexts, andThen, checkTable, tree}
+use Rattle.definition.specs.Tables.Checked.{accepted, wrongAt, textAt}
 use Rattle.definition.specs.TableOutcomes.{TableOutcome, PartOutcome}
 use Rattle.definition.specs.Paths.{PathOutcome, pathOf}
 use Rattle.definition.specs.Evaluation.{selected, evalTest, evalArgument}
@@ -37,6 +38,8 @@ use Rattle.definition.specs.Outcomes.{Reading, Reads, Spells, CompileOutcome, C
 use Rattle.definition.specs.Outcomes.Reading.{form}
 use Rattle.definition_examples.specs.Rows.{starredRows}
 use Rattle.standards.specs.Slices.{Standard, slices-standard, no-start-standard}
+use Rattle.tables.specs.Joined.{nodeRight}
+use Rattle.tables.specs.Pair.{both-accept, accept-both}
 use Rattle.tables.specs.Places.{begins-one}
 use Rattle.addresses.specs.Normalized.{Normalized}
 use Rattle.addresses.specs.Normalized as addresses
@@ -47,11 +50,11 @@ use Rattle.tallies.specs.Forms.{itemsOf}
 use Rattle.tallies.specs.Tallies.{TallyOutcome, Tallies, tallyBy, withPlan, allKinds}
 use Rattle.tallies.specs.Meets.{plan-items}
 use Rattle.tallies.specs.Taken.{occurring, example, example-counts}
-use Rattle.demands.specs.Promises.{Settled, ReadsOnly, CompilesOnly, SelectsOnly, RunsOnly, ChecksPlanOnly, TalliesOnly, ChecksTableOnly, TextOnly, TextBegins, KeyOnly, KeyBegins, PathOnly, CompileCase, Listed, RunCase, PathCase, alone, planIn, poolIn, Written, Stored, AllServed, AllAnswer, Unchanged, Taken, Counted, planBytes}
-use Rattle.demands.specs.Refusals.{First, LeastWrong, NoText, NoKey, compileRules, selectRules, runRules, planRules, tableRules, partRules, pathRules, tallyRules}
+use Rattle.demands.specs.Promises.{Settled, ReadsOnly, CompilesOnly, SelectsOnly, RunsOnly, ChecksPlanOnly, TalliesOnly, ChecksRecordsOnly, ChecksTextsOnly, ChecksTableOnly, TextOnly, TextBegins, KeyOnly, KeyBegins, PathOnly, CompileCase, Listed, RunCase, PathCase, alone, planIn, poolIn, Written, Stored, AllServed, AllAnswer, Unchanged, Taken, Counted, planBytes}
+use Rattle.demands.specs.Refusals.{First, WrongSize, LeastWrong, NoText, NoKey, compileRules, selectRules, runRules, planRules, recordRules, textRules, tableRules, partRules, pathRules, tallyRules}
 use Rattle.demands.specs.Firsts.{exactly}
-use Rattle.demands.specs.Checks.{wrong-why}
-use Rattle.demands.specs.Exactly.{compile-first, select-first, run-first, plan-check-first, table-check-first, text-first, key-first, tally-first}
+use Rattle.demands.specs.Checks.{wrong-why, text-why, records-least, texts-least, accepted-joined, texts-joined}
+use Rattle.demands.specs.Exactly.{compile-first, select-first, run-first, plan-check-first, records-check-first, texts-check-first, table-check-first, text-of-first, key-of-first, tally-first}
 use Rattle.demands.specs.Cases.{compile-cases, select-cases, run-cases}
 use Rattle.demands.specs.Written.{written, written-only, enough}
 use Rattle.demands.specs.Rooms.{plan-within, pool-within, no-twelve, never-twelve, tenSlices, tenSlicesForm, ten-slices}
@@ -77,6 +80,12 @@ one-plan-check = checks-one
 
 pub one-tally : {plan pool C : List ℕ} {m : ℕ} {o o′ : TallyOutcome} → Tallies plan pool C m o → Tallies plan pool C m o′ → o ≡ o′
 one-tally {plan} {C = C} {m = m} a b = a .is ∙ ap (λ (z : ℕ). tallyBy z plan C m) (checks-one (a .checks) (b .checks)) ∙ sym (b .is)
+
+pub one-records-check : (T X : List ℕ) {o o′ : TableOutcome} → ChecksRecordsOnly T X o → ChecksRecordsOnly T X o′ → o ≡ o′
+one-records-check T X a b = a ∙ sym b
+
+pub one-texts-check : (T X : List ℕ) {o o′ : TableOutcome} → ChecksTextsOnly T X o → ChecksTextsOnly T X o′ → o ≡ o′
+one-texts-check T X a b = a ∙ sym b
 
 pub one-table-check : (T X : List ℕ) {o o′ : TableOutcome} → ChecksTableOnly T X o → ChecksTableOnly T X o′ → o ≡ o′
 one-table-check T X a b = a ∙ sym b
@@ -124,14 +133,20 @@ run-exactly {plan} {pool} {T} {X} {L} {at} k = exactly (runRules plan pool T X L
 pub plan-check-exactly : {plan pool : List ℕ} {m : ℕ} → ChecksPlanOnly plan pool m → (n : ℕ) → (m ≡ n) ↔ First (planRules plan pool) n
 plan-check-exactly {plan} {pool} k = exactly (planRules plan pool) (plan-check-first (k .is))
 
+pub records-check-exactly : (T X : List ℕ) {o : TableOutcome} → ChecksRecordsOnly T X o → (n : ℕ) → (o .refusal ≡ n) ↔ First (recordRules T X) n
+records-check-exactly T X k = exactly (recordRules T X) (records-check-first T X k)
+
+pub texts-check-exactly : (T X : List ℕ) {o : TableOutcome} → ChecksTextsOnly T X o → (n : ℕ) → (o .refusal ≡ n) ↔ First (textRules T X) n
+texts-check-exactly T X k = exactly (textRules T X) (texts-check-first T X k)
+
 pub table-check-exactly : (T X : List ℕ) {o : TableOutcome} → ChecksTableOnly T X o → (n : ℕ) → (o .refusal ≡ n) ↔ First (tableRules T X) n
 table-check-exactly T X k = exactly (tableRules T X) (table-check-first T X k)
 
 pub text-exactly : (T X : List ℕ) (i : ℕ) {o : PartOutcome} → TextOnly T X i o → (n : ℕ) → (o .number ≡ n) ↔ First (partRules (NoText T i) T X) n
-text-exactly T X i k = exactly (partRules (NoText T i) T X) (text-first T X i k)
+text-exactly T X i k = exactly (partRules (NoText T i) T X) (text-of-first T X i k)
 
 pub key-exactly : (T X : List ℕ) (i : ℕ) {o : PartOutcome} → KeyOnly T X i o → (n : ℕ) → (o .number ≡ n) ↔ First (partRules (NoKey T i) T X) n
-key-exactly T X i k = exactly (partRules (NoKey T i) T X) (key-first T X i k)
+key-exactly T X i k = exactly (partRules (NoKey T i) T X) (key-of-first T X i k)
 
 pub path-exactly : (T X : List ℕ) (i : ℕ) (B : List ℕ) {o : PathOutcome} → PathOnly T X i B o → (n : ℕ) → (o .refusal ≡ n) ↔ First (pathRules T X i B) n
 path-exactly T X i B k = exactly (pathRules T X i B) (path-first T X i B k)
@@ -139,8 +154,8 @@ path-exactly T X i B k = exactly (pathRules T X i B) (path-first T X i B k)
 pub tally-exactly : {plan pool C : List ℕ} {m : ℕ} {o : TallyOutcome} → TalliesOnly plan pool C m o → (n : ℕ) → (o .refusal ≡ n) ↔ First (tallyRules plan pool C m) n
 tally-exactly {plan} {pool} {C} {m} k = exactly (tallyRules plan pool C m) (tally-first (k .is))
 
--- the node that comes with 10 is the least at which a rule fails
-pub ten-names-least : (T X : List ℕ) (i : ℕ) → checkTable T X ≡ wrongAt i → LeastWrong T X i
+-- the node that comes with 10 is the least at which a rule on records fails, and the node that comes with 17 the least at which a rule on texts and keys fails
+pub ten-names-least : (T X : List ℕ) (i : ℕ) → checkTable T X ≡ wrongAt i → LeastWrong (recordRight T) (nodeCount T) i
 ten-names-least T X i h = wrong-why T X i h .1
 
 -- 7 is given by no operation (document 02, W4): "7 is no longer met by any input". The two that gave it:
@@ -153,6 +168,9 @@ select-never-seven {s} {T} {X} {L} {at} k e = never-first (selectRules s T X L a
 -- and a run
 pub run-never-seven : {plan pool T X L : List ℕ} {at : ℕ} {o : RunOutcome} → RunsOnly plan pool T X L at o → o .refusal ≡ 7 → ⊥
 run-never-seven {plan} {pool} {T} {X} {L} {at} k e = never-first (runRules plan pool T X L at) 7 refl (run-exactly k 7 .0 e)
+
+pub seventeen-names-least : (T X : List ℕ) (i : ℕ) → checkTable T X ≡ textAt i → LeastWrong (textRight T X) (nodeCount T) i
+seventeen-names-least T X i h = text-why T X i h .2
 
 -- ---- 2. What compile writes runs as the definition says, on every accepted table, from every position of every list; and select answers the same.
 
@@ -292,3 +310,29 @@ match-search-selects = asking-selects
 -- the meaning that search widens is that of any part
 pub search-any-part : (x : Regexp) (w : List ℕ) → Describes (widen part x) w ↔ Part (Describes x) w
 search-any-part = any-part
+
+-- ---- 10. Two checks of a table (W6). `recordRight` and `textRight` (definition/specs/Tables.antt) are the rules on records and those on texts and keys, for any bytes of a right size.
+
+-- each check by itself names its least node
+pub records-names-least : (T X : List ℕ) {o : TableOutcome} → ChecksRecordsOnly T X o → o .refusal ≡ 10 → LeastWrong (recordRight T) (nodeCount T) (o .node)
+records-names-least T X k z = rw k (records-least T X (rw k at z))
+
+pub texts-names-least : (T X : List ℕ) {o : TableOutcome} → ChecksTextsOnly T X o → o .refusal ≡ 17 → LeastWrong (textRight T X) (nodeCount T) (o .node)
+texts-names-least T X k z = rw k (texts-least T X (rw k at z))
+
+-- what select, run, text, key and path ask is the first check over all nodes, then the second
+pub pair-of-checks : (T X : List ℕ) → checkTable T X ≡ andThen (checkRecords T X) (checkTexts T X)
+unfolding checkTable
+pair-of-checks T X = refl
+
+-- so a table is accepted if and only if both accept it
+pub pair-accepts : (T X : List ℕ) → (checkTable T X ≡ accepted) ↔ ((checkRecords T X ≡ accepted) × (checkTexts T X ≡ accepted))
+pair-accepts T X = (both-accept T X, λ w. accept-both T X (w .0) (w .1))
+
+-- and an accepted pair is what an accepted table was: its size is right, and each node keeps to all rules, those on keys under its parent (`nodeRight`, tables/specs/Joined.antt)
+pub accepted-as-before : (T X : List ℕ) → (checkTable T X ≡ accepted) ↔ ((WrongSize T X → ⊥) × ((i : ℕ) → i < nodeCount T → nodeRight T X i ≡ true))
+accepted-as-before = accepted-joined
+
+-- with right records the rules on texts and keys ask at each node what the rules in one ask
+pub texts-as-before : (T X : List ℕ) → checkRecords T X ≡ accepted → (i : ℕ) → i < nodeCount T → textRight T X i ≡ nodeRight T X i
+texts-as-before = texts-joined

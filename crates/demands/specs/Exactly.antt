@@ -12,19 +12,19 @@ use Rattle.definition.specs.Limits.{maxInt}
 use Rattle.definition.specs.Forms.{Query}
 use Rattle.definition.specs.Plans.{planOf, poolOf}
 use Rattle.definition.specs.Tables.{Checked, checkTable, tree}
-use Rattle.definition.specs.Tables.Checked.{accepted, sized, wrongAt}
+use Rattle.definition.specs.Tables.Checked.{accepted, sized, wrongAt, textAt}
 use Rattle.definition.specs.TableOutcomes.{TableOutcome, PartOutcome, reportTable, tableOutcome, partBy, foundPart, refusedPart, hasText, hasKey, textOutcome, keyOutcome}
 use Rattle.definition.specs.Evaluation.{selected}
 use Rattle.definition.specs.Outcomes.{Reading, Reads, Translates, Spells, spelled, notSpelled, CompileOutcome, RunOutcome, Runs, ChecksPlan, refusalOf, refuseRun, compileBy, runBy}
 use Rattle.definition.specs.Outcomes.Reading.{refused, form}
 use Rattle.tallies.specs.Tallies.{TallyOutcome, Tallies, allKinds, everyBelow, sumAt, fits, tallyBy}
-use Rattle.demands.specs.Promises.{CompilesOnly, SelectsOnly, ChecksTableOnly, TextOnly, KeyOnly, CompileCase, Listed, RunCase}
+use Rattle.demands.specs.Promises.{CompilesOnly, SelectsOnly, ChecksRecordsOnly, ChecksTextsOnly, ChecksTableOnly, TextOnly, KeyOnly, CompileCase, Listed, RunCase}
 use Rattle.demands.specs.Promises.CompileCase.{smallPlan, smallPool, writes}
 use Rattle.demands.specs.Promises.Listed.{listed, filled, beyond}
-use Rattle.demands.specs.Promises.RunCase.{wrongSize, wrongNode, lists}
-use Rattle.demands.specs.Refusals.{Rule, rule, First, RoomTooSmall, NoText, NoKey, CountPasses, tableRules, listRules, compileRules, selectRules, planRules, runRules, partRules, tallyRules, StartBeyond, TooFewPlaces}
+use Rattle.demands.specs.Promises.RunCase.{wrongSize, wrongNode, wrongText, lists}
+use Rattle.demands.specs.Refusals.{Rule, rule, First, RoomTooSmall, NoText, NoKey, CountPasses, recordRules, textRules, tableRules, listRules, compileRules, selectRules, planRules, runRules, partRules, tallyRules, StartBeyond, TooFewPlaces}
 use Rattle.demands.specs.Firsts.{alike-by, query-first}
-use Rattle.demands.specs.Checks.{sized-why, wrong-why, accepted-why, checkedOr, table-first}
+use Rattle.demands.specs.Checks.{sized-why, wrong-first, text-first, accepted-first, checkedOr, table-first, records-first, texts-first}
 use Rattle.demands.specs.Cases.{compile-case, run-case, accepted-lists}
 use Rattle.demands.specs.Running.{runs-as}
 
@@ -88,6 +88,13 @@ unfolding reportTable
 report-number accepted = refl
 report-number sized = refl
 report-number (wrongAt i) = refl
+report-number (textAt i) = refl
+
+pub records-check-first : (T X : List ℕ) {o : TableOutcome} → ChecksRecordsOnly T X o → First (recordRules T X) (o .refusal)
+records-check-first T X e = subst (First (recordRules T X)) (sym (ap (λ (o : TableOutcome). o .refusal) e)) (records-first T X)
+
+pub texts-check-first : (T X : List ℕ) {o : TableOutcome} → ChecksTextsOnly T X o → First (textRules T X) (o .refusal)
+texts-check-first T X e = subst (First (textRules T X)) (sym (ap (λ (o : TableOutcome). o .refusal) e)) (texts-first T X)
 
 pub table-check-first : (T X : List ℕ) {o : TableOutcome} → ChecksTableOnly T X o → First (tableRules T X) (o .refusal)
 unfolding tableOutcome
@@ -100,6 +107,7 @@ part-number accepted true s = refl
 part-number accepted false s = refl
 part-number sized b s = refl
 part-number (wrongAt i) b s = refl
+part-number (textAt i) b s = refl
 
 module _ (T X s : List ℕ) (b : Bool) where
   part-rest : (t : Bool) → b ≡ t → First (rule 15 (b ≡ false) ∷ []) (cond t 0 15)
@@ -111,13 +119,13 @@ module _ (T X s : List ℕ) (b : Bool) where
       subst (First (partRules (b ≡ false) T X)) (sym (ap (λ (o : PartOutcome). o .number) e ∙ part-number (checkTable T X) b s))
       (table-first T X (rule 15 (b ≡ false) ∷ []) (cond b 0 15) (checkTable T X) refl (λ a. part-rest b refl))
 
-pub text-first : (T X : List ℕ) (i : ℕ) {o : PartOutcome} → TextOnly T X i o → First (partRules (NoText T i) T X) (o .number)
+pub text-of-first : (T X : List ℕ) (i : ℕ) {o : PartOutcome} → TextOnly T X i o → First (partRules (NoText T i) T X) (o .number)
 unfolding textOutcome
-text-first T X i e = part-first T X _ (hasText T i) e
+text-of-first T X i e = part-first T X _ (hasText T i) e
 
-pub key-first : (T X : List ℕ) (i : ℕ) {o : PartOutcome} → KeyOnly T X i o → First (partRules (NoKey T i) T X) (o .number)
+pub key-of-first : (T X : List ℕ) (i : ℕ) {o : PartOutcome} → KeyOnly T X i o → First (partRules (NoKey T i) T X) (o .number)
 unfolding keyOutcome
-key-first T X i e = part-first T X _ (hasKey T i) e
+key-of-first T X i e = part-first T X _ (hasKey T i) e
 
 -- ---- run and select
 
@@ -130,14 +138,18 @@ listed-fits (beyond b) z h = omega (arith, z)
 form-runs : {T X L : List ℕ} {at : ℕ} {q : Query} {o : RunOutcome} → RunCase T X L at (form q) o → (o .refusal ≡ 0) ⊎ (9 ≤ o .refusal)
 form-runs (wrongSize q e) = inr (omega arith)
 form-runs (wrongNode q i e) = inr (omega arith)
+form-runs (wrongText q i e) = inr (omega arith)
 form-runs (lists q e (listed f)) = inl refl
 form-runs (lists q e (filled a b)) = inr (omega arith)
 form-runs (lists q e (beyond b)) = inr (omega arith)
 
 -- the forms that F gives all come to the outcome o
 module _ (F : Query → Type 0) (T X L : List ℕ) (at : ℕ) where
+  abbrev placeRules : List Rule
+  placeRules = rule 14 (StartBeyond L at) ∷ rule 13 (TooFewPlaces F T X L at) ∷ []
+
   list-rest : (q : Query) {o : RunOutcome} → F q → ((p : Query) → F p → runBy (form p) T X L at ≡ o) → checkTable T X ≡ accepted → Listed (selected q (tree T X)) L at o
-      → First (rule 14 (StartBeyond L at) ∷ rule 13 (TooFewPlaces F T X L at) ∷ []) (o .refusal)
+      → First placeRules (o .refusal)
   list-rest q f same h (listed a) =
       inr (λ b. omega arith, inr (λ w. listed-fits (subst (Listed (selected (w .0) (tree T X)) L at) (same (w .0) (w .1)) (accepted-lists (w .0) T X L at h)) refl (w .2), refl))
   list-rest q f same h (filled a b) = inr (λ c. omega arith, inl (refl, (q, f, b)))
@@ -145,8 +157,9 @@ module _ (F : Query → Type 0) (T X L : List ℕ) (at : ℕ) where
 
   list-first : {q : Query} {o : RunOutcome} → F q → ((p : Query) → F p → runBy (form p) T X L at ≡ o) → RunCase T X L at (form q) o → First (listRules F T X L at) (o .refusal)
   list-first f same (wrongSize q e) = inl (refl, sized-why T X e)
-  list-first f same (wrongNode q i e) = let w = wrong-why T X i e in inr (w .0, inl (refl, (i, w .1 .inside, w .1 .fails)))
-  list-first f same (lists q e l) = let w = accepted-why T X e in inr (w .0, inr (w .1, list-rest q f same e l))
+  list-first f same (wrongNode q i e) = wrong-first T X placeRules i e
+  list-first f same (wrongText q i e) = text-first T X placeRules i e
+  list-first f same (lists q {o} e l) = accepted-first T X placeRules (o .refusal) e (list-rest q f same e l)
 
 -- the first of run's order, from what the plan and the pool spell
 module _ {plan pool : List ℕ} (T X L : List ℕ) (at : ℕ) {o : RunOutcome} where

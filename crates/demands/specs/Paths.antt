@@ -11,7 +11,7 @@ use lib.ListN.{length, take, drop}
 use lib.Seq.{take-append-seam}
 use Rattle.definition.specs.Limits.{maxQuery, maxPlan}
 use Rattle.definition.specs.Tables.{Checked, nodeCount, checkTable}
-use Rattle.definition.specs.Tables.Checked.{accepted, sized, wrongAt}
+use Rattle.definition.specs.Tables.Checked.{accepted, sized, wrongAt, textAt}
 use Rattle.definition.specs.Outcomes.{CompileOutcome, RunOutcome, Runs}
 use Rattle.definition.specs.Paths.{formOf, pathOf, PathOutcome, putPath, pathBy, pathOutcome}
 use Rattle.definition_examples.specs.Gives.{Gives}
@@ -19,7 +19,7 @@ use Rattle.tables.specs.Accepted.{accepted-gives}
 use Rattle.addresses.specs.Finds.{steps-find}
 use Rattle.addresses.specs.Addresses.{path-reads}
 use Rattle.demands.specs.Promises.{CompilesOnly, SelectsOnly, PathOnly, PathCase, Listed, Answers, alone, planIn, poolIn}
-use Rattle.demands.specs.Promises.PathCase.{wrongSize, wrongNode, noNode, smallRoom, writes}
+use Rattle.demands.specs.Promises.PathCase.{wrongSize, wrongNode, wrongText, noNode, smallRoom, writes}
 use Rattle.demands.specs.Promises.Listed.{listed}
 use Rattle.demands.specs.Refusals.{Rule, rule, First, NoNode, PathTooLong, tableRules, pathRules}
 use Rattle.demands.specs.Checks.{checkedOr, table-first}
@@ -34,6 +34,7 @@ module _ (T X : List ℕ) (i : ℕ) (B : List ℕ) where
   unfolding pathBy putPath
   case-by sized h x y e f = wrongSize h
   case-by (wrongAt j) h x y e f = wrongNode j h
+  case-by (textAt j) h x y e f = wrongText j h
   case-by accepted h false y e f = noNode h (ltb-false i (nodeCount T) e)
   case-by accepted h true true e f = rw f (smallRoom h (ltb-true i (nodeCount T) e) (ltb-true (length B) (length (pathOf T X i)) f))
   case-by accepted h true false e f = rw f (writes h (ltb-true i (nodeCount T) e) (ltb-false (length B) (length (pathOf T X i)) f))
@@ -59,6 +60,7 @@ module _ (T X : List ℕ) (i : ℕ) (B : List ℕ) where
   number-by accepted false y f = refl
   number-by sized x y f = refl
   number-by (wrongAt j) x y f = refl
+  number-by (textAt j) x y f = refl
 
   -- exactly when each number is answered
   pub path-first : {o : PathOutcome} → PathOnly T X i B o → First (pathRules T X i B) (o .refusal)
@@ -73,6 +75,7 @@ module _ (T X : List ℕ) (i : ℕ) (B : List ℕ) where
 pub case-written : {T X B : List ℕ} {i : ℕ} {o : PathOutcome} → PathCase T X i B o → o .refusal ≡ 0 → (checkTable T X ≡ accepted) × (i < nodeCount T) × (take (o .size) (o .room) ≡ pathOf T X i)
 case-written (wrongSize h) z = absurd (omega (arith, z))
 case-written (wrongNode j h) z = absurd (omega (arith, z))
+case-written (wrongText j h) z = absurd (omega (arith, z))
 case-written (noNode h l) z = absurd (omega (arith, z))
 case-written (smallRoom h l m) z = absurd (omega (arith, z))
 case-written {T} {X} {B} {i} (writes h l m) z = (h, l, take-append-seam (pathOf T X i) (drop (length (pathOf T X i)) B))

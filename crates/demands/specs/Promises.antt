@@ -11,8 +11,8 @@ use lib.ListN.{length, take, drop, getD, replicate}
 use Rattle.definition.specs.Forms.{Query}
 use Rattle.definition.specs.Plans.{planOf, poolOf}
 use Rattle.definition.specs.Tables.{nodeCount, lowWord, keyStart, checkTable, tree}
-use Rattle.definition.specs.Tables.Checked.{accepted, sized, wrongAt}
-use Rattle.definition.specs.TableOutcomes.{TableOutcome, PartOutcome, tableOutcome, textOutcome, keyOutcome}
+use Rattle.definition.specs.Tables.Checked.{accepted, sized, wrongAt, textAt}
+use Rattle.definition.specs.TableOutcomes.{TableOutcome, PartOutcome, recordsOutcome, textsOutcome, tableOutcome, textOutcome, keyOutcome}
 use Rattle.definition.specs.Paths.{PathOutcome, pathOf, pathOutcome}
 use Rattle.definition.specs.Evaluation.{selected}
 use Rattle.definition.specs.Outcomes.{Reading, Reads, Translates, CompileOutcome, Compiles, RunOutcome, Runs, Selects, ChecksPlan, runBy}
@@ -57,7 +57,13 @@ ChecksPlanOnly plan pool = Settled (ChecksPlan plan pool)
 abbrev pub TalliesOnly : List ℕ → List ℕ → List ℕ → ℕ → TallyOutcome → Type 0
 TalliesOnly plan pool C m = Settled (Tallies plan pool C m)
 
--- table check, text of a node and key of a node: the definition computes the one outcome
+-- the check of the records, that of the texts and keys, the pair of them, text of a node and key of a node: the definition computes the one outcome
+abbrev pub ChecksRecordsOnly : List ℕ → List ℕ → TableOutcome → Type 0
+ChecksRecordsOnly T X o = o ≡ recordsOutcome T X
+
+abbrev pub ChecksTextsOnly : List ℕ → List ℕ → TableOutcome → Type 0
+ChecksTextsOnly T X o = o ≡ textsOutcome T X
+
 abbrev pub ChecksTableOnly : List ℕ → List ℕ → TableOutcome → Type 0
 ChecksTableOnly T X o = o ≡ tableOutcome T X
 
@@ -109,17 +115,19 @@ pub data Listed (ns L : List ℕ) (at : ℕ) : RunOutcome → Type 0 where
 pub data RunCase (T X L : List ℕ) (at : ℕ) : Reading → RunOutcome → Type 0 where
   -- the plan is refused by 11, or the query by its number, and no place changes
   refuses : (n : ℕ) → RunCase T X L at (refused n) (record { refusal = n; count = 0; node = 0; places = L })
-  -- 9 and 10: the table is refused, by its size or at its least wrong node
+  -- 9, 10 and 17: the table is refused, by its size, at its least wrong record or at its least wrong text or key
   wrongSize : (q : Query) → checkTable T X ≡ sized → RunCase T X L at (form q) (record { refusal = 9; count = 0; node = 0; places = L })
   wrongNode : (q : Query) (i : ℕ) → checkTable T X ≡ wrongAt i → RunCase T X L at (form q) (record { refusal = 10; count = 0; node = i; places = L })
+  wrongText : (q : Query) (i : ℕ) → checkTable T X ≡ textAt i → RunCase T X L at (form q) (record { refusal = 17; count = 0; node = i; places = L })
   -- the table is accepted: the nodes are in the list, or 14 or 13
   lists : (q : Query) {o : RunOutcome} → checkTable T X ≡ accepted → Listed (selected q (tree T X)) L at o → RunCase T X L at (form q) o
 
 -- Path of a node: the answer, and what the room B holds afterwards.
 pub data PathCase (T X : List ℕ) (i : ℕ) (B : List ℕ) : PathOutcome → Type 0 where
-  -- 9 and 10: the table is refused
+  -- 9, 10 and 17: the table is refused
   wrongSize : checkTable T X ≡ sized → PathCase T X i B (record { refusal = 9; size = 0; node = 0; room = B })
   wrongNode : (j : ℕ) → checkTable T X ≡ wrongAt j → PathCase T X i B (record { refusal = 10; size = 0; node = j; room = B })
+  wrongText : (j : ℕ) → checkTable T X ≡ textAt j → PathCase T X i B (record { refusal = 17; size = 0; node = j; room = B })
   -- 15: there is no such node
   noNode : checkTable T X ≡ accepted → nodeCount T ≤ i → PathCase T X i B (record { refusal = 15; size = 0; node = 0; room = B })
   -- 16: the room is too small; the answer carries the length needed, and no byte changes

@@ -1,4 +1,4 @@
--- When each operation refuses: a condition for each row of document 01's "Refusal numbers" and for refusals 16 and 21, and each operation's order. The letters are those of Promises.antt.
+-- When each operation refuses: a condition for each row of document 01's "Refusal numbers" and for refusals 16, 17 and 21, and each operation's order. The letters are those of Promises.antt.
 -- Assumes nothing: these are definitions.
 use Prim.Native.Nat.{ℕ, _+_, _%_, _≤_, _<_}
 use mathlib.Core.Path.{_≡_}
@@ -15,7 +15,7 @@ use Rattle.definition.specs.Forms.{Query}
 use Rattle.definition.specs.Walk.{Walked, walk}
 use Rattle.definition.specs.Walk.Walked.{walked}
 use Rattle.definition.specs.Plans.{planOf, poolOf}
-use Rattle.definition.specs.Tables.{nodeCount, nodeRight, tree}
+use Rattle.definition.specs.Tables.{nodeCount, recordRight, textRight, tree}
 use Rattle.definition.specs.TableOutcomes.{hasText, hasKey}
 use Rattle.definition.specs.Paths.{pathOf}
 use Rattle.definition.specs.Evaluation.{selected}
@@ -68,15 +68,23 @@ BeyondExact s = (t : G.Query) × (spell t ≡ s) × (q : Query) × (walk t ≡ w
 abbrev pub WrongSize : List ℕ → List ℕ → Type 0
 WrongSize T X = (length T ≡ 0) ⊎ (length T % recordSize ≡ 0 → ⊥) ⊎ (maxNodes < nodeCount T) ⊎ (maxText < length X)
 
--- 10: "a table rule fails", at some node
-abbrev pub WrongNode : List ℕ → List ℕ → Type 0
-WrongNode T X = (i : ℕ) × (i < nodeCount T) × (nodeRight T X i ≡ false)
+-- a test fails at some of n nodes
+abbrev pub Wrong : (ℕ → Bool) → ℕ → Type 0
+Wrong right n = (i : ℕ) × (i < n) × (right i ≡ false)
 
--- "answer carries the least such node": node i
-pub record LeastWrong (T X : List ℕ) (i : ℕ) : Type 0 where
-  pub inside : i < nodeCount T
-  pub fails : nodeRight T X i ≡ false
-  pub below : (k : ℕ) → k < i → nodeRight T X k ≡ true
+-- 10: a rule on records fails, at some node
+abbrev pub WrongRecord : List ℕ → Type 0
+WrongRecord T = Wrong (recordRight T) (nodeCount T)
+
+-- 17: a rule on texts and keys fails, at some node (document 02, W6)
+abbrev pub WrongText : List ℕ → List ℕ → Type 0
+WrongText T X = Wrong (textRight T X) (nodeCount T)
+
+-- "each with its least node": node i, of n
+pub record LeastWrong (right : ℕ → Bool) (n i : ℕ) : Type 0 where
+  pub inside : i < n
+  pub fails : right i ≡ false
+  pub below : (k : ℕ) → k < i → right k ≡ true
 
 -- 11: "plan or pool not the translation of a query form, or over 65,535 bytes"
 abbrev pub NotTranslated : List ℕ → List ℕ → Type 0
@@ -136,9 +144,16 @@ walkRules s = rule 4 (OutOfRange s) ∷ rule 5 (Mistyped s) ∷ rule 6 (UnknownF
 abbrev pub queryRules : List ℕ → List Rule
 queryRules s = rule 1 (TooLong s) ∷ rule 2 (NotUtf8 s) ∷ rule 3 (TooDeep s) ∷ rule 4 (NotInGrammar s) ∷ walkRules s
 
--- "Table check: 9, 10."
+-- the check of the records, and that of the texts and keys
+abbrev pub recordRules : List ℕ → List ℕ → List Rule
+recordRules T X = rule 9 (WrongSize T X) ∷ rule 10 (WrongRecord T) ∷ []
+
+abbrev pub textRules : List ℕ → List ℕ → List Rule
+textRules T X = rule 9 (WrongSize T X) ∷ rule 17 (WrongText T X) ∷ []
+
+-- the pair: "10 before 17"
 abbrev pub tableRules : List ℕ → List ℕ → List Rule
-tableRules T X = rule 9 (WrongSize T X) ∷ rule 10 (WrongNode T X) ∷ []
+tableRules T X = rule 9 (WrongSize T X) ∷ rule 10 (WrongRecord T) ∷ rule 17 (WrongText T X) ∷ []
 
 -- "14, 13", behind the table's
 abbrev pub listRules : (Query → Type 0) → List ℕ → List ℕ → List ℕ → ℕ → List Rule
@@ -148,7 +163,7 @@ listRules F T X L at = tableRules T X ++ rule 14 (StartBeyond L at) ∷ rule 13 
 abbrev pub compileRules : List ℕ → List ℕ → List ℕ → List Rule
 compileRules s P R = queryRules s ++ rule 12 (RoomTooSmall s P R) ∷ []
 
--- "Select: the same without 12, then 9, 10, 14, 13."
+-- "Select: the same without 12, then 9, 10, 14, 13", with 17 behind 10
 abbrev pub selectRules : List ℕ → List ℕ → List ℕ → List ℕ → ℕ → List Rule
 selectRules s T X L at = queryRules s ++ listRules (λ q. Reads s (form q)) T X L at
 
@@ -156,15 +171,15 @@ selectRules s T X L at = queryRules s ++ listRules (λ q. Reads s (form q)) T X 
 abbrev pub planRules : List ℕ → List ℕ → List Rule
 planRules plan pool = rule 11 (NotTranslated plan pool) ∷ []
 
--- "Run: 11, 9, 10, 14, 13."
+-- "Run: 11, 9, 10, 14, 13", with 17 behind 10
 abbrev pub runRules : List ℕ → List ℕ → List ℕ → List ℕ → List ℕ → ℕ → List Rule
 runRules plan pool T X L at = planRules plan pool ++ listRules (λ q. Translates q plan pool) T X L at
 
--- "Text and key of a node: 9, 10, 15", where W says that the node has none
+-- "Text and key of a node: 9, 10, 15", with 17 behind 10, where W says that the node has none
 abbrev pub partRules : Type 0 → List ℕ → List ℕ → List Rule
 partRules W T X = tableRules T X ++ rule 15 W ∷ []
 
--- path of a node: 9, 10, 15, 16
+-- path of a node: 9, 10, 17, 15, 16
 abbrev pub pathRules : List ℕ → List ℕ → ℕ → List ℕ → List Rule
 pathRules T X i B = tableRules T X ++ rule 15 (NoNode T i) ∷ rule 16 (PathTooLong T X i B) ∷ []
 

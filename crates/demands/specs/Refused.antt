@@ -55,8 +55,9 @@ use Rattle.definition.specs.TableOutcomes.{TableOutcome, PartOutcome}
 use Rattle.definition.specs.Paths.{PathOutcome}
 use Rattle.definition_examples.specs.Computes.{computes}
 use Rattle.definition_examples.specs.Paths.{walked}
+use Rattle.definition_examples.specs.Sample.{node}
 use Rattle.tallies.specs.Tallies.{TallyOutcome}
-use Rattle.demands.specs.Promises.{CompilesOnly, RunsOnly, ChecksPlanOnly, ChecksTableOnly, TextOnly, KeyOnly, PathOnly, TalliesOnly}
+use Rattle.demands.specs.Promises.{CompilesOnly, RunsOnly, ChecksPlanOnly, ChecksRecordsOnly, ChecksTextsOnly, ChecksTableOnly, TextOnly, KeyOnly, PathOnly, TalliesOnly}
 use Rattle.demands.specs.Refusals.{NotTranslated}
 use Rattle.demands.specs.Rooms.{noBlank as o}
 use Rattle.demands.specs.Running.{runs-as}
@@ -184,6 +185,10 @@ nullTable = replicate 24 0
 abbrev pub eighthKind : List ℕ
 eighthKind = 0x08 ∷ replicate 23 0
 
+-- and one of a text of one byte
+abbrev pub longText : List ℕ
+longText = node 5 0 0 0 0 1
+
 -- no plan is empty
 no-plan : NotTranslated [] []
 unfolding planOf codeQuery
@@ -197,10 +202,23 @@ module _ {L : List ℕ} {at : ℕ} (o : RunOutcome) where
   pub sized-run : RunsOnly rootPlan [] [] [] L at o → o .refusal ≡ 9
   sized-run k = run-exactly k 9 .1 (inr (λ n. n rootForm root-translates, inl (refl, inl refl)))
 
--- 10: a kind that there is not
+-- 10: a kind that there is not, which the check of the texts does not look at
 pub kindless : (o : TableOutcome) → ChecksTableOnly eighthKind [] o → o .refusal ≡ 10
 unfolding computes
 kindless o k = ap (λ (o : TableOutcome). o .refusal) k
+
+pub kindless-texts : (o : TableOutcome) → ChecksTextsOnly eighthKind [] o → o .refusal ≡ 0
+unfolding computes
+kindless-texts o k = ap (λ (o : TableOutcome). o .refusal) k
+
+-- 17: a text of one byte in a text of none, which the check of the records does not look at
+pub outside : (o : TableOutcome) → ChecksTableOnly longText [] o → o .refusal ≡ 17
+unfolding computes
+outside o k = ap (λ (o : TableOutcome). o .refusal) k
+
+pub outside-records : (o : TableOutcome) → ChecksRecordsOnly longText [] o → o .refusal ≡ 0
+unfolding computes
+outside-records o k = ap (λ (o : TableOutcome). o .refusal) k
 
 -- 11: no plan at all
 pub unplanned : (n : ℕ) → ChecksPlanOnly [] [] n → n ≡ 11

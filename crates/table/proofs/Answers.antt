@@ -5,12 +5,12 @@ use mathlib.Core.List.{List, []}
 use mathlib.Core.Bool.{Bool, true, false, cond}
 use borrow.Author.Tests.{eq-eqb, ne-eqb}
 use Rattle.definition.specs.Tables.{checkTable}
-use Rattle.definition.specs.Tables.Checked.{accepted, sized, wrongAt}
+use Rattle.definition.specs.Tables.Checked.{accepted, sized, wrongAt, textAt}
 use Rattle.definition.specs.TableOutcomes.{TableOutcome, PartOutcome, reportTable, tableOutcome}
-use Rattle.tables.specs.Outcomes.{report-accepted, report-sized, report-wrong}
+use Rattle.tables.specs.Outcomes.{report-accepted, report-sized, report-wrong, report-text}
 use Rattle.tables.specs.Places.{Begins, partStart}
 use Rattle.table.specs.declared.TableChecked.{TableChecked}
-use Rattle.table.specs.declared.TableChecked.the-variants.{Accepted, WrongSize, WrongNode}
+use Rattle.table.specs.declared.TableChecked.the-variants.{Accepted, WrongSize, WrongNode, WrongText}
 use Rattle.table.specs.Outcomes.{reported, answered}
 
 module _ (T X : List ℕ) (r : TableChecked) (h : reported r ≡ tableOutcome T X) where
@@ -30,6 +30,10 @@ module _ (T X : List ℕ) (r : TableChecked) (h : reported r ≡ tableOutcome T 
   pub says-wrong : (i : ℕ) → r ≡ WrongNode i → checkTable T X ≡ wrongAt (reportTable (checkTable T X) .node)
   unfolding reported
   says-wrong i e = report-wrong (checkTable T X) (number-of (WrongNode i) e)
+
+  pub says-text : (i : ℕ) → r ≡ WrongText i → checkTable T X ≡ textAt (reportTable (checkTable T X) .node)
+  unfolding reported
+  says-text i e = report-text (checkTable T X) (number-of (WrongText i) e)
 
 -- a part and a number that are an outcome's are the outcome
 pub answered-is : (o : PartOutcome) (s : List ℕ) (n : ℕ) → s ≡ o .part → n ≡ o .number → answered s n ≡ o

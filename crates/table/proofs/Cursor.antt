@@ -7,7 +7,8 @@ use lib.Dec.{ltb}
 use native.Mathlib.Omega.{arith}
 use native.Mathlib.Numerals.{add-one}
 use borrow.Author.Tests.{ltb-true, ltb-false}
-use Rattle.definition.specs.Tables.{nodeCount, kindAt, depthAt, highWord, kindMap, childCount, countsBefore, firstChild, nodeRight}
+use Rattle.definition.specs.Tables.{nodeCount, kindAt, depthAt, highWord, kindMap, childCount, countsBefore, firstChild}
+use Rattle.tables.specs.Joined.{nodeRight}
 use Rattle.tables.specs.Counts.{counts-root, counts-next, counts-monotone}
 use Rattle.tables.specs.Parents.{InRange}
 use Rattle.tables.specs.Least.{RightBelow, right-more}

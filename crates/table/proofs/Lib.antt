@@ -1,5 +1,6 @@
 pub mod Answers
 pub mod Chains
+pub mod Checks
 pub mod Cursor
 pub mod Folds
 pub mod Inside

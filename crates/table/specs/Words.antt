@@ -5,12 +5,17 @@ use mathlib.Core.List.{List}
 use mathlib.Core.Bool.{Bool, true, false}
 use lib.ListN.{length}
 use Rattle.definition.specs.Limits.{maxNodes, maxMembers}
-use Rattle.definition.specs.Tables.{nodeCount, kindAt, depthAt, kindMap, highWord, firstChild, keyStart, keyLength, nodeRight}
+use Rattle.definition.specs.Tables.{nodeCount, kindAt, depthAt, kindMap, highWord, firstChild, keyStart, keyLength, textRight}
+use Rattle.tables.specs.Joined.{nodeRight}
 use Rattle.table.specs.Buckets.{bucketAt}
 use Rattle.table.specs.Chains.{HeadsBelow, Chained, Roomy}
 use Rattle.table.specs.declared.scan.Cursor.{Cursor}
 use Rattle.table.specs.declared.scan.NodeChecked.{NodeChecked}
 use Rattle.table.specs.declared.scan.NodeChecked.the-variants.{Next, Wrong}
+
+-- no rule on texts and keys fails at any node below n
+abbrev pub TextsBelow : List ℕ → List ℕ → ℕ → Type 0
+TextsBelow T X n = (k : ℕ) → k < n → textRight T X k ≡ true
 
 -- the nodes from a place up to an end are nodes of the table, and their keys lie inside the text
 pub record KeysInside (T X : List ℕ) (from end : ℕ) : Type 0 where

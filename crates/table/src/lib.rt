@@ -1,14 +1,17 @@
-// The table of values: the check of a table, the text and the key of a node, and the fields that the evaluator reads.
+// The table of values: the check of its records, that of its texts and keys, and the pair; the text and the key of a node; and the fields that the evaluator reads.
 //
 //   records    the fields of a record of 24 bytes
 //   buckets    the bucket of a key
 //   keys       whether a key is unlike those before it in its map
 //   rules      the rules for a node
-//   scan       the pass over the nodes
+//   scan       the pass over the nodes, by all rules
+//   structure  the pass over the records alone
+//   texts      the pass over the texts and keys alone, on any records
+//   pair       what the passes come to together
 //   named      the text and the key of a node
 ghost use mathlib.Core.Path.{_≡_};
 ghost use Rattle.definition.specs.Tables.{badSize, lowWord, keyStart};
-ghost use Rattle.definition.specs.TableOutcomes.{tableOutcome, textOutcome, keyOutcome};
+ghost use Rattle.definition.specs.TableOutcomes.{recordsOutcome, textsOutcome, tableOutcome, textOutcome, keyOutcome};
 ghost use Rattle.table.specs.Outcomes.{reported, answered};
 ghost use Rattle.tables.specs.Places.{Begins, partStart};
 ghost use denote.Ref.{ptr};
@@ -16,9 +19,14 @@ ghost use denote.Ref.{ptr};
 mod buckets;
 mod keys;
 mod named;
+mod pair;
 pub mod records;
 mod rules;
 mod scan;
+mod structure;
+mod texts;
+
+use structure::Pass;
 
 const RECORD: usize = 24;
 
@@ -26,14 +34,16 @@ const MAX_NODES: usize = 65535;
 
 const MAX_TEXT: usize = 16777216;
 
-// What the check of a table finds.
+// What a check of a table finds.
 pub enum TableChecked {
     // No rule fails.
     Accepted,
     // Refusal 9: the table's size or the text's is wrong.
     WrongSize,
-    // Refusal 10: the least node at which a rule fails.
+    // Refusal 10: the least node at which a rule on records fails.
     WrongNode(usize),
+    // Refusal 17: the least node at which a rule on texts and keys fails.
+    WrongText(usize),
 }
 
 // Whether the size of the table or of the text is wrong.
@@ -52,14 +62,43 @@ fn bad_size(table: &[u8], text: &[u8]) -> bool
     MAX_TEXT < text.len()
 }
 
-// The check of a table.
+// The check of the records alone.
+pub fn check_records(table: &[u8], text: &[u8]) -> TableChecked
+    ensures { λ r. ⌜ reported r ≡ recordsOutcome (now (table .entry)) (now (text .entry)) ⌝ }
+{
+    if bad_size(table, text) {
+        return TableChecked::WrongSize;
+    }
+    match structure::over_records(table) {
+        Pass::Right => TableChecked::Accepted,
+        Pass::WrongAt(node) => TableChecked::WrongNode(node),
+    }
+}
+
+// The check of the texts and keys alone, which takes each range as its record writes it, as far as the table reaches.
+pub fn check_texts(table: &[u8], text: &[u8]) -> TableChecked
+    ensures { λ r. ⌜ reported r ≡ textsOutcome (now (table .entry)) (now (text .entry)) ⌝ }
+{
+    if bad_size(table, text) {
+        return TableChecked::WrongSize;
+    }
+    match pair::joined(table, text) {
+        Pass::Right => TableChecked::Accepted,
+        Pass::WrongAt(node) => pair::refused_text(table, text, node),
+    }
+}
+
+// The pair: the check of the records over all nodes, then that of the texts and keys.
 pub fn check_table(table: &[u8], text: &[u8]) -> TableChecked
     ensures { λ r. ⌜ reported r ≡ tableOutcome (now (table .entry)) (now (text .entry)) ⌝ }
 {
     if bad_size(table, text) {
         return TableChecked::WrongSize;
     }
-    scan::scan(table, text)
+    match pair::joined(table, text) {
+        Pass::Right => TableChecked::Accepted,
+        Pass::WrongAt(node) => pair::refused(table, node),
+    }
 }
 
 // The text of a node as a part of the lent text, and 0 in the lent number; or an empty part, and the refusal in the number.

@@ -22,6 +22,8 @@ const WRONG_SIZE: u8 = 9;
 
 const WRONG_NODE: u8 = 10;
 
+const WRONG_TEXT: u8 = 17;
+
 const NO_TEXT: u8 = 15;
 
 // Whether a number is that of a node of kind 5.
@@ -62,6 +64,7 @@ pub fn text_refusal(table: &[u8], text: &[u8], node: usize) -> u8
         }
         TableChecked::WrongSize => WRONG_SIZE,
         TableChecked::WrongNode(_) => WRONG_NODE,
+        TableChecked::WrongText(_) => WRONG_TEXT,
     }
 }
 
@@ -78,6 +81,7 @@ pub fn key_refusal(table: &[u8], text: &[u8], node: usize) -> u8
         }
         TableChecked::WrongSize => WRONG_SIZE,
         TableChecked::WrongNode(_) => WRONG_NODE,
+        TableChecked::WrongText(_) => WRONG_TEXT,
     }
 }
 

@@ -1,9 +1,10 @@
-// The rules for a node. Each function answers whether a rule of the definition is kept, and asks that its nodes are nodes of the table.
+// The joined rule for a node, part by part. Each function answers whether a rule of the definition is kept, and asks that its nodes are nodes of the table.
 ghost use mathlib.Core.Path.{_≡_};
 ghost use mathlib.Core.Option.{some};
 ghost use mathlib.Core.Bool.{true};
 ghost use Prim.Native.Nat.{_<_, _+_};
-ghost use Rattle.definition.specs.Tables.{nodeCount, kindAt, kindMap, firstChild, goodPart, headRight, isFinite, rangeRight, payloadRight, noKey, memberRight, placeRight, nodeRight};
+ghost use Rattle.definition.specs.Tables.{nodeCount, kindAt, kindMap, firstChild, goodPart, headRight, isFinite, rangeRight, noKey};
+ghost use Rattle.tables.specs.Joined.{payloadRight, memberRight, placeRight, nodeRight};
 ghost use Rattle.text.specs.Known.{Known};
 ghost use Rattle.table.specs.Words.{Child, MembersBefore, Kept};
 use crate::keys;

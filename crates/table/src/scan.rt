@@ -2,8 +2,9 @@
 ghost use mathlib.Core.Path.{_≡_};
 ghost use Prim.Native.Nat.{_<_, _≤_, _+_};
 ghost use Rattle.definition.specs.Limits.{maxNodes};
-ghost use Rattle.definition.specs.Tables.{nodeCount, firstChild, leastWrong, byLeast};
+ghost use Rattle.definition.specs.Tables.{nodeCount, firstChild};
 ghost use Rattle.definition.specs.TableOutcomes.{reportTable};
+ghost use Rattle.tables.specs.Joined.{leastWrong, byLeast};
 ghost use Rattle.tables.specs.Least.{RightBelow};
 ghost use Rattle.text.specs.Known.{Known};
 ghost use Rattle.table.specs.Words.{NodeAt, HasParent, CursorAt, ParentAt, Before, NodeFound};

@@ -10,12 +10,14 @@ use native.Mathlib.Omega.{arith}
 use borrow.Author.Tests.{ltb-true, ltb-false, eqb-true, eqb-false, not-true}
 use Rattle.definition.specs.Limits.{maxDepth, maxMembers}
 use Rattle.definition.specs.Bytes.{sameBytes}
-use Rattle.definition.specs.Tables.{nodeCount, kindAt, depthAt, parentAt, keyStart, keyLength, payload, lowWord, highWord, kindFloat, kindText, kindList, kindMap, childCount, countsBefore, firstChild, keyBytes, goodPart, parentOf, isFinite, rangeRight, payloadRight, noKey, keyDiffers, memberRight, placeRight, standsRight, nodeRight, checkTable}
+use Rattle.definition.specs.Tables.{nodeCount, kindAt, depthAt, parentAt, keyStart, keyLength, payload, lowWord, highWord, kindFloat, kindText, kindList, kindMap, childCount, countsBefore, firstChild, keyBytes, goodPart, parentOf, isFinite, rangeRight, keyDiffers, checkTable}
 use Rattle.definition.specs.Tables.Checked.{accepted}
 use Rattle.tables.specs.Bools.{and-left, and-right}
 use Rattle.tables.specs.Counts.{counts-next}
 use Rattle.tables.specs.Parents.{InRange, parent-is, parent-some}
-use Rattle.tables.specs.Least.{RightBelow, accepted-right}
+use Rattle.tables.specs.Joined.{placeRight, nodeRight}
+use Rattle.tables.specs.Least.{RightBelow}
+use Rattle.tables.specs.Pair.{accepted-right}
 use Rattle.tables.specs.Sizes.{RightSize, right-size}
 use Rattle.tables.specs.Rights.{kind-small, depth-small, range-first, count-list, count-map, count-other, payload-float, payload-text, list-range, map-range, map-members, right-head, right-payload, right-place, stands-under, place-deeper, place-number, place-key, member-part, member-differs, root-depth-zero, right-reached, children-later, first-inside}
 

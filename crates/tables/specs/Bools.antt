@@ -17,6 +17,11 @@ pub and-both : (a b : Bool) → a ≡ true → b ≡ true → (a && b) ≡ true
 and-both true b p q = q
 and-both false b p q = p
 
+-- a test and one that always holds
+pub and-true : (a : Bool) → (a && true) ≡ a
+and-true true = refl
+and-true false = refl
+
 -- a conjunction fails with its first test
 pub and-not-left : (a b : Bool) → a ≡ false → (a && b) ≡ false
 and-not-left true b h = absurd (true≢false h)

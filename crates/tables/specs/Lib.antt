@@ -2,10 +2,17 @@ pub mod Bools
 pub mod Fields
 pub mod Counts
 pub mod Parents
+pub mod Failing
+pub mod Joined
 pub mod Least
 pub mod Rights
 pub mod Keys
 pub mod Sizes
+pub mod Splits
+pub mod Records
+pub mod Holds
+pub mod Pair
+pub mod Starts
 pub mod Accepted
 pub mod Outcomes
 pub mod Rows

@@ -9,7 +9,7 @@ use lib.ListN.{length}
 use native.Mathlib.Omega.{arith}
 use borrow.Author.Tests.{ltb-true, eqb-true, lt-ltb, le-ltb}
 use Rattle.definition.specs.Tables.{Checked, nodeCount, kindAt, keyStart, keyLength, lowWord, highWord, kindText, kindMap, firstChild, goodPart, parentBelow, parentOf}
-use Rattle.definition.specs.Tables.Checked.{accepted, sized, wrongAt}
+use Rattle.definition.specs.Tables.Checked.{accepted, sized, wrongAt, textAt}
 use Rattle.definition.specs.TableOutcomes.{TableOutcome, reportTable, PartOutcome, refusedPart, foundPart, partBy, hasText, isMember, hasKey}
 use Rattle.tables.specs.Bools.{and-left, and-right, and-not-left, and-not-right}
 use Rattle.tables.specs.Counts.{counts-next}
@@ -23,18 +23,28 @@ unfolding reportTable
 report-accepted accepted h = refl
 report-accepted sized h = absurd (omega arith)
 report-accepted (wrongAt i) h = absurd (omega arith)
+report-accepted (textAt i) h = absurd (omega arith)
 
 pub report-sized : (c : Checked) → reportTable c .refusal ≡ 9 → c ≡ sized
 unfolding reportTable
 report-sized accepted h = absurd (omega arith)
 report-sized sized h = refl
 report-sized (wrongAt i) h = absurd (omega arith)
+report-sized (textAt i) h = absurd (omega arith)
 
 pub report-wrong : (c : Checked) → reportTable c .refusal ≡ 10 → c ≡ wrongAt (reportTable c .node)
 unfolding reportTable
 report-wrong accepted h = absurd (omega arith)
 report-wrong sized h = absurd (omega arith)
 report-wrong (wrongAt i) h = refl
+report-wrong (textAt i) h = absurd (omega arith)
+
+pub report-text : (c : Checked) → reportTable c .refusal ≡ 17 → c ≡ textAt (reportTable c .node)
+unfolding reportTable
+report-text accepted h = absurd (omega arith)
+report-text sized h = absurd (omega arith)
+report-text (wrongAt i) h = absurd (omega arith)
+report-text (textAt i) h = refl
 
 module _ (c : Checked) (b : Bool) (s : List ℕ) where
   -- the number, by what the check came to and whether there is such a text
@@ -45,6 +55,10 @@ module _ (c : Checked) (b : Bool) (s : List ℕ) where
   pub number-wrong : (i : ℕ) → c ≡ wrongAt i → partBy c b s .number ≡ 10
   unfolding partBy refusedPart
   number-wrong i e = ap (λ (x : Checked). partBy x b s .number) e
+
+  pub number-text : (i : ℕ) → c ≡ textAt i → partBy c b s .number ≡ 17
+  unfolding partBy refusedPart
+  number-text i e = ap (λ (x : Checked). partBy x b s .number) e
 
   pub number-lacking : c ≡ accepted → b ≡ false → partBy c b s .number ≡ 15
   unfolding partBy foundPart refusedPart
@@ -61,6 +75,7 @@ found-whole accepted true s h = (refl, refl, refl)
 found-whole accepted false s h = absurd (omega arith)
 found-whole sized b s h = absurd (omega arith)
 found-whole (wrongAt i) b s h = absurd (omega arith)
+found-whole (textAt i) b s h = absurd (omega arith)
 
 -- a refusal is answered with an empty part
 pub refused-empty : (c : Checked) (b : Bool) (s : List ℕ) → (partBy c b s .number ≡ 0 → ⊥) → partBy c b s .part ≡ []
@@ -69,6 +84,7 @@ refused-empty accepted true s h = absurd (h refl)
 refused-empty accepted false s h = refl
 refused-empty sized b s h = refl
 refused-empty (wrongAt i) b s h = refl
+refused-empty (textAt i) b s h = refl
 
 module _ (T : List ℕ) (i : ℕ) where
   -- which nodes have a text

@@ -1,4 +1,4 @@
--- The rules for a node, one law for each way in which a rule is kept or fails. Assumes nothing.
+-- The joined rule for a node, one law for each way in which it is kept or fails. Assumes nothing.
 use Prim.Native.Nat.{ℕ, zero, suc, _+_, _-_, _≤_, _<_}
 use mathlib.Core.Path.{_≡_, refl, sym, ap, _∙_, subst}
 use mathlib.Core.List.{List}
@@ -11,10 +11,11 @@ use borrow.Author.Tests.{leb-true, ltb-true, ltb-false, eqb-true, eqb-false, le-
 use Rattle.definition.specs.Limits.{maxDepth, maxMembers}
 use Rattle.definition.specs.Bytes.{part}
 use Rattle.definition.specs.Utf8.{isUtf8}
-use Rattle.definition.specs.Tables.{nodeCount, field, kindAt, depthAt, parentAt, keyStart, keyLength, payload, lowWord, highWord, kindFloat, kindText, kindList, kindMap, isContainer, childCount, countsBefore, firstChild, goodPart, parentOf, headRight, isFinite, rangeRight, payloadRight, noKey, keyDiffers, memberRight, placeRight, standsRight, nodeRight}
+use Rattle.definition.specs.Tables.{nodeCount, field, kindAt, depthAt, parentAt, keyStart, keyLength, payload, lowWord, highWord, kindFloat, kindText, kindList, kindMap, isContainer, childCount, countsBefore, firstChild, goodPart, parentOf, headRight, isFinite, rangeRight, noKey, keyDiffers}
 use Rattle.tables.specs.Bools.{and-left, and-right, and-both, and-not-left, and-not-right, both-answers}
 use Rattle.tables.specs.Counts.{counts-root, counts-next}
 use Rattle.tables.specs.Parents.{InRange, parent-is, parent-none}
+use Rattle.tables.specs.Joined.{payloadRight, memberRight, placeRight, standsRight, nodeRight}
 use Rattle.tables.specs.Least.{RightBelow}
 
 -- a part that passes the end of the text is wrong; one inside is right if it is UTF-8

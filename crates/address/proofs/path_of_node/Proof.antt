@@ -1,6 +1,6 @@
 -- What the check of the table comes to decides. Assumes nothing.
 use Rattle.tables.specs.Accepted.{accepted-gives}
-use Rattle.address.proofs.Answers.{says-accepted, says-sized, says-wrong, told-accepted, told-sized, told-wrong}
+use Rattle.address.proofs.Answers.{says-accepted, says-sized, says-wrong, says-text, told-accepted, told-sized, told-wrong, told-text}
 use borrow.Author.Needs.{needs}
 use Rattle.address.proofs.path_of_node.Statement.{statement}
 use Rattle.address.proofs.path_of_node.Tie as tie
@@ -20,6 +20,9 @@ enum-told-2 c = search needs
 enum-known-wrong : tie.Need-enum-known-wrong
 enum-known-wrong c = search needs
 
+enum-known-wrong-2 : tie.Need-enum-known-wrong-2
+enum-known-wrong-2 c = search needs
+
 same-length : tie.Need-same-length
 same-length c = search needs
 
@@ -32,6 +35,9 @@ returns-2 c = told-sized (c .before .before .before .before .before .before .arg
 returns-3 : tie.Need-returns-3
 returns-3 c = told-wrong (c .before .before .before .before .before .before .before .args .table .now) (c .before .before .before .before .before .before .before .args .text .now) (c .before .before .before .before .before .before .before .args .node) (c .before .before .before .before .before .before .before .args .room .now) _ (says-wrong (c .before .before .before .before .before .before .before .args .table .now) (c .before .before .before .before .before .before .before .args .text .now) (c .before .before .before .check-table .result) (c .before .before .before .check-table .ensures) _ (c .before .wrong .given .1))
 
+returns-4 : tie.Need-returns-4
+returns-4 c = told-text (c .before .before .before .before .before .before .before .args .table .now) (c .before .before .before .before .before .before .before .args .text .now) (c .before .before .before .before .before .before .before .args .node) (c .before .before .before .before .before .before .before .args .room .now) _ (says-text (c .before .before .before .before .before .before .before .args .table .now) (c .before .before .before .before .before .before .before .args .text .now) (c .before .before .before .check-table .result) (c .before .before .before .check-table .ensures) _ (c .before .wrong2 .given .1))
+
 pub path-of-node-spec : {M : Type 1} → statement M
 path-of-node-spec =
     tie.close
@@ -41,7 +47,9 @@ path-of-node-spec =
     path-in-requires
     enum-told-2
     enum-known-wrong
+    enum-known-wrong-2
     same-length
     returns
     returns-2
-    returns-3)
+    returns-3
+    returns-4)

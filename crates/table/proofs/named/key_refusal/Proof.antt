@@ -2,8 +2,8 @@
 use mathlib.Core.Path.{sym, _∙_}
 use Rattle.definition.specs.Tables.{checkTable, keyBytes}
 use Rattle.definition.specs.TableOutcomes.{hasKey, keyOutcome}
-use Rattle.tables.specs.Outcomes.{number-sized, number-wrong, number-lacking, number-found}
-use Rattle.table.proofs.Answers.{says-accepted, says-sized, says-wrong}
+use Rattle.tables.specs.Outcomes.{number-sized, number-wrong, number-text, number-lacking, number-found}
+use Rattle.table.proofs.Answers.{says-accepted, says-sized, says-wrong, says-text}
 use Rattle.tables.specs.Accepted.{accepted-gives, accepted-parented}
 use borrow.Author.Needs.{needs}
 use Rattle.table.proofs.named.key_refusal.Statement.{statement}
@@ -32,6 +32,9 @@ enum-told-2 c = search needs
 enum-told-3 : tie.Need-enum-told-3
 enum-told-3 c = search needs
 
+enum-told-4 : tie.Need-enum-told-4
+enum-told-4 c = search needs
+
 returns-2 : tie.Need-returns-2
 unfolding keyOutcome
 returns-2 c =
@@ -50,6 +53,12 @@ returns-4 c =
     let a = c .before .before .before .before .before .args in
     sym (number-wrong (checkTable (a .table .now) (a .text .now)) (hasKey (a .table .now) (a .node)) (keyBytes (a .table .now) (a .text .now) (a .node)) _ (says-wrong (a .table .now) (a .text .now) (c .before .before .check-table .result) (c .before .before .check-table .ensures) _ (c .enum-told3 .given .1)))
 
+returns-5 : tie.Need-returns-5
+unfolding keyOutcome
+returns-5 c =
+    let a = c .before .before .before .before .before .args in
+    sym (number-text (checkTable (a .table .now) (a .text .now)) (hasKey (a .table .now) (a .node)) (keyBytes (a .table .now) (a .text .now) (a .node)) _ (says-text (a .table .now) (a .text .now) (c .before .before .check-table .result) (c .before .before .check-table .ensures) _ (c .enum-told4 .given .1)))
+
 pub key-refusal-spec : {M : Type 1} → statement M
 key-refusal-spec =
     tie.close
@@ -60,6 +69,8 @@ key-refusal-spec =
     returns
     enum-told-2
     enum-told-3
+    enum-told-4
     returns-2
     returns-3
-    returns-4)
+    returns-4
+    returns-5)

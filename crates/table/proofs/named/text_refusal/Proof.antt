@@ -2,8 +2,8 @@
 use mathlib.Core.Path.{sym, _∙_}
 use Rattle.definition.specs.Tables.{checkTable, textBytesAt}
 use Rattle.definition.specs.TableOutcomes.{hasText, textOutcome}
-use Rattle.tables.specs.Outcomes.{number-sized, number-wrong, number-lacking, number-found}
-use Rattle.table.proofs.Answers.{says-accepted, says-sized, says-wrong}
+use Rattle.tables.specs.Outcomes.{number-sized, number-wrong, number-text, number-lacking, number-found}
+use Rattle.table.proofs.Answers.{says-accepted, says-sized, says-wrong, says-text}
 use borrow.Author.Needs.{needs}
 use Rattle.table.proofs.named.text_refusal.Statement.{statement}
 use Rattle.table.proofs.named.text_refusal.Tie as tie
@@ -29,6 +29,9 @@ enum-told-2 c = search needs
 enum-told-3 : tie.Need-enum-told-3
 enum-told-3 c = search needs
 
+enum-told-4 : tie.Need-enum-told-4
+enum-told-4 c = search needs
+
 returns-2 : tie.Need-returns-2
 unfolding textOutcome
 returns-2 c =
@@ -47,6 +50,12 @@ returns-4 c =
     let a = c .before .before .before .before .before .args in
     sym (number-wrong (checkTable (a .table .now) (a .text .now)) (hasText (a .table .now) (a .node)) (textBytesAt (a .table .now) (a .text .now) (a .node)) _ (says-wrong (a .table .now) (a .text .now) (c .before .before .check-table .result) (c .before .before .check-table .ensures) _ (c .enum-told3 .given .1)))
 
+returns-5 : tie.Need-returns-5
+unfolding textOutcome
+returns-5 c =
+    let a = c .before .before .before .before .before .args in
+    sym (number-text (checkTable (a .table .now) (a .text .now)) (hasText (a .table .now) (a .node)) (textBytesAt (a .table .now) (a .text .now) (a .node)) _ (says-text (a .table .now) (a .text .now) (c .before .before .check-table .result) (c .before .before .check-table .ensures) _ (c .enum-told4 .given .1)))
+
 pub text-refusal-spec : {M : Type 1} → statement M
 text-refusal-spec =
     tie.close
@@ -57,6 +66,8 @@ text-refusal-spec =
     returns
     enum-told-2
     enum-told-3
+    enum-told-4
     returns-2
     returns-3
-    returns-4)
+    returns-4
+    returns-5)

@@ -5,7 +5,8 @@ use mathlib.Core.Path.{_≡_, refl, sym, ap, subst}
 use mathlib.Core.Option.{Option}
 use Prim.Native.Nat.{ℕ, _-_, _+_}
 use lib.ListN.{length}
-use Rattle.definition.specs.Tables.{nodeCount, firstChild, byLeast}
+use Rattle.definition.specs.Tables.{nodeCount, firstChild}
+use Rattle.tables.specs.Joined.{byLeast}
 use Rattle.definition.specs.TableOutcomes.{reportTable}
 use Rattle.tables.specs.Least.{RightBelow, least-wrong, least-none}
 use Rattle.tables.specs.Rights.{first-inside}

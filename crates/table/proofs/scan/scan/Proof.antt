@@ -4,7 +4,8 @@ use borrow.Author.Tests.{not-true, not-false}
 use mathlib.Core.Path.{sym, _∙_, ap}
 use Prim.Native.Nat.{ℕ}
 use mathlib.Core.Option.{Option}
-use Rattle.definition.specs.Tables.{nodeCount, byLeast}
+use Rattle.definition.specs.Tables.{nodeCount}
+use Rattle.tables.specs.Joined.{byLeast}
 use Rattle.definition.specs.TableOutcomes.{reportTable}
 use Rattle.tables.specs.Least.{least-wrong}
 use Rattle.table.specs.Outcomes.{reported}
