@@ -29,7 +29,7 @@ module _ (t : ℕ) where
   enum-known-b c = search needs
 
   pub returns-2 : lts.Need-returns-2 (calls t) (side-at t) side.Post
-  returns-2 c = 
+  returns-2 c =
       let a = c .before .before .before .before .before .before .before .before in
       let rb = read-of (c .before .before .before .before .oper .ensures) (c .before .before .b .given .1) in
       side-plural (a .args .a .h) (a .args .a .sort) (short-of (a .pre .1 .0)) rb (c .if2 .taken)
@@ -47,32 +47,32 @@ module _ (t : ℕ) where
   most-requires c κs = search needs
 
   pub add-h : lts.Need-add-h (calls t) (side-at t) side.Post
-  add-h c = 
+  add-h c =
       let a = c .before .before .before .before .before .before .before .before .before .before .before .before .before .before in
       let rb = read-of (c .before .before .before .before .before .before .before .before .before .before .oper .ensures) (c .before .before .before .before .before .before .before .before .b .given .1) in
       let rc = small-read {L = a .args .pool .now} {room = a .args .room} (c .before .before .before .before .before .relation .ensures) (c .before .before .before .c .given .1) (rb .held) in
       omega (arith, relation-small rc, c .before .most .ensures, low-of rb, a .pre .1 .1, a .pre .1 .0 .deep)
 
   pub returns-3 : lts.Need-returns-3 (calls t) (side-at t) side.Post
-  returns-3 c = 
+  returns-3 c =
       let a = c .before .before .before .before .before .before .before .before .before .before .before .before .before .before .before in
       let rb = read-of (c .before .before .before .before .before .before .before .before .before .before .before .oper .ensures) (c .before .before .before .before .before .before .before .before .before .b .given .1) in
       let rc = small-read (c .before .before .before .before .before .before .relation .ensures) (c .before .before .before .before .c .given .1) (rb .held) in
       side-deep (a .args .a .h) (a .args .a .sort) (short-of (a .pre .1 .0)) rb rc (ap (λ (z : ℕ). c .before .before .before .before .c .given .0 .0 .sort + z) (c .before .before .most .ensures)) (c .if3 .taken)
 
   pub returns-4 : lts.Need-returns-4 (calls t) (side-at t) side.Post
-  returns-4 c = 
+  returns-4 c =
       let a = c .before .before .before .before .before .before in
       side-none (a .args .a .h) (a .args .a .sort) (none-of (c .before .before .oper .ensures) (c .enum-told .given .1))
 
   pub returns-5 : lts.Need-returns-5 (calls t) (side-at t) side.Post
-  returns-5 c = 
+  returns-5 c =
       let a = c .before .before .before .before .before .before .before .before .before .before .before in
       let rb = read-of (c .before .before .before .before .before .before .before .oper .ensures) (c .before .before .before .before .before .b .given .1) in
       side-unasked (a .args .a .h) (a .args .a .sort) (short-of (a .pre .1 .0)) rb (none-of ((small-none (c .before .before .relation .ensures) (c .enum-told2 .given .1)) .any _ _ (rb .held)) refl)
 
   pub returns-6 : lts.Need-returns-6 (calls t) (side-at t) side.Post
-  returns-6 c = 
+  returns-6 c =
       let a = c .before .before .before .before .before .before .before .before .before .before .before .before .before .before .before in
       let rb = read-of (c .before .before .before .before .before .before .before .before .before .before .before .oper .ensures) (c .before .before .before .before .before .before .before .before .before .b .given .1) in
       let rc = small-read (c .before .before .before .before .before .before .relation .ensures) (c .before .before .before .before .c .given .1) (rb .held) in
