@@ -16,7 +16,7 @@ import regexp_samples, regexps
 LARGE = [
     # texts of many characters, and counts within counts
     ("a" * 2000 + "b", "a*b"), ("a" * 2000, "a*b"), ("é" * 900, ".{64}(é{2,9})*"), ("ab" * 500 + "c", "(a|b|ab)*c"), ("x" * 1500 + "needle" + "y" * 1500, "needle"),
-    ("x" * 1500 + "needl" + "y" * 1500, "needle"), ("a" * 4000, "(a{20}){20}(a{60}){60}"), ("a" * 1000, "((a{5}){8}){25}"), ("a" * 999, "((a{5}){8}){25}"),
+    ("x" * 1500 + "needl" + "y" * 1500, "needle"), ("a" * 1300, "(a{20}){20}(a{30}){30}"), ("a" * 1000, "((a{5}){8}){25}"), ("a" * 999, "((a{5}){8}){25}"),
     ("a" * 64, "(a?){64}a{64}"), ("a" * 127, "(a?){64}a{64}"), ("a" * 129, "(a?){64}a{64}"), ("a" * 30, "(a*)*(a|aa)+"), ("a" * 29 + "b", "(a*)*(a|aa)+"),
     ("aaaaaaaa", "((((a{2}){2}){2}){64}){0,1}"), ("a" * 9, "(((a{64}){64}){64}){64}"), ("", "(((a?){64}){64}){64}"), ("aaaa", "(((a?){64}){64}){64}"),
     ("a" * 17 + "b", "(a|b|ab){3,18}"), ("\n" * 5, "(.|\\n)*"), ("\r\n", "[^a]{2}"),
@@ -29,7 +29,8 @@ LARGE = [
 
 def rows():
     for _, _, text, expression, _ in regexps.ROWS:
-        yield text, expression
+        if len(text) < 2000:
+            yield text, expression
     for expression in regexps.IN_PART + regexps.OUTSIDE:
         yield "a", expression
     pick = random.Random(20261117)

@@ -7,7 +7,6 @@ use lines::words;
 use lines::words::ByteWord;
 use regex_reader::nested::Reading;
 ghost use Prim.Native.Nat.{_≤_};
-ghost use lib.ListN.{length};
 
 // The characters of the longest expression.
 const CHARS: usize = 1024;
@@ -18,7 +17,7 @@ const BEFORE: usize = 7;
 
 const BEHIND: usize = 5;
 // The longest text that is tested without marks too.
-const SHORT: usize = 32;
+const SHORT: usize = 16;
 // How many lines are answered at most.
 const LINES: u64 = 1048576;
 
@@ -26,29 +25,30 @@ fn bad_line() {
     output::text(b"bad line\n");
 }
 
+fn put(code: &mut [u32], at: usize, word: u32) {
+    if at < code.len() {
+        code[at] = word;
+    }
+}
+
 // The words of any number of any characters.
-fn put_anything(code: &mut [u32], at: usize) {
-    if code.len() < BEHIND {
-        return;
-    }
-    if code.len() - BEHIND < at {
-        return;
-    }
-    code[at] = 5;
-    code[at + 1] = 0;
-    code[at + 2] = 1;
-    code[at + 3] = 1;
-    code[at + 4] = 0;
+fn put_anything(code: &mut [u32], at: usize)
+    requires { ⌜ at ≤ 8202 ⌝ }
+{
+    put(code, at, 5);
+    put(code, at + 1, 0);
+    put(code, at + 2, 1);
+    put(code, at + 3, 1);
+    put(code, at + 4, 0);
 }
 
 // The code up to `end` is widened, so that it describes the texts that have a part which it described.
-fn widen(code: &mut [u32], end: usize) {
-    if code.len() < BEFORE {
-        return;
-    }
-    code[0] = 2;
+fn widen(code: &mut [u32], end: usize)
+    requires { ⌜ end ≤ 8202 ⌝ }
+{
+    put(code, 0, 2);
     put_anything(code, 1);
-    code[6] = 2;
+    put(code, 6, 2);
     put_anything(code, end);
 }
 
@@ -77,17 +77,27 @@ fn show(whole: bool, part: bool) {
     }
 }
 
-// Writes what holds of the text, for the code that ends at a place.
-fn answer(code: &mut [u32], end: usize, text: &[u8]) {
-    let mut marks = io::large_buffer();
+// Whether the same is found of a short text with no room for marks, or the text is long.
+fn agrees(code: &[u32], from: usize, to: usize, text: &[u8], found: bool) -> bool {
+    if SHORT < text.len() {
+        return true;
+    }
     let mut none = [0u8; 1];
-    let short = text.len() <= SHORT;
+    test(code, from, to, text, &mut none) == found
+}
+
+// Writes what holds of the text, for the code that ends at a place.
+fn answer(code: &mut [u32], end: usize, text: &[u8])
+    requires { ⌜ end ≤ 8202 ⌝ }
+{
+    let mut marks = io::large_buffer();
     let whole = test(code, BEFORE, end, text, &mut marks);
-    let same = !short || whole == test(code, BEFORE, end, text, &mut none);
+    let first = agrees(code, BEFORE, end, text, whole);
     widen(code, end);
     let part = test(code, 0, end + BEHIND, text, &mut marks);
+    let second = agrees(code, 0, end + BEHIND, text, part);
     show(whole, part);
-    if same && (!short || part == test(code, 0, end + BEHIND, text, &mut none)) {
+    if first && second {
         output::newline();
     } else {
         output::text(b" differs\n");
