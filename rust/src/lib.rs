@@ -60,7 +60,7 @@
 //!
 //! No query, no JSON text and no stored plan or table makes safe code of this crate panic. A run hands out at most
 //! [`DEFAULT_LIMIT`] nodes, or as many as the caller says ([`Plan::run_up_to`]). The limit bounds memory and not time: a
-//! query may visit many nodes and select few. Threads of Rust have stack enough for every call; `include/stewpebble.h` in
+//! query may visit many nodes and select few, and an expression whose counts nest may take long. Threads of Rust have stack enough for every call; `include/stewpebble.h` in
 //! the repository says how much that is.
 //!
 //! # Features
