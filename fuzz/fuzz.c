@@ -515,7 +515,7 @@ static void expression_test(int depth) {
 }
 static void basic(int depth) {
     size_t k = below(10);
-    if (one_in(7)) { expression_test(depth); return; }
+    if (one_in(6)) { expression_test(depth); return; }
     if (k == 0 && depth > 0) {
         if (one_in(2)) say("!"), blank();
         say("("), blank(), logical(depth - 1), blank(), say(")");
@@ -539,6 +539,7 @@ static void make_query(void) {
     query.n = 0, say("$");
     // about as long as a query may be
     if (one_in(100)) { for (size_t most = 3000 + below(1300); query.n < most;) segments(1, 0); return; }
+    if (one_in(10)) { say(ANY("[?", "..[?", ".*[?", "[?@.a&&", "[?$.b||")), expression_test(1), say("]"); return; }
     if (!one_in(60)) { segments((int)below(5), 0); return; }
     // brackets about as deep as they may be
     size_t deep = 29 + below(6);
