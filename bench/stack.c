@@ -2,6 +2,7 @@
 //   plans    up to 128 filters inside each other, each behind 62 segments from `$` that select all of a level, on a table of depth 63: the deepest that plan check takes
 //   queries  32 queries from `$` inside each other: descendants and a comparison in front of each, or 38 descendant wildcards
 //            each compiled and run, and by select
+//   expressions  the same, with match or search at the bottom: expressions of 1,024 bytes that nest groups or repeats, or are long rows or many alternatives
 // Each try runs in a process of its own, on a thread with a stack of the given size. A run that needs more than the header says is enough fails.
 #define _GNU_SOURCE
 #include <pthread.h>
@@ -16,8 +17,8 @@
 
 #define DEPTH 63
 #define WILD 62
-static uint8_t table[(DEPTH + 1) * 24], text[1], plan[65535], pool[65535], query[4096];
-static size_t plan_length, pool_length, query_length;
+static uint8_t table[(DEPTH + 1) * 24], text[1024], plan[65535], pool[65535], query[4096];
+static size_t plan_length, pool_length, query_length, text_length;
 static uint32_t list[16];
 
 // A list in a list, 63 times, and the number 1 inside.
@@ -34,6 +35,35 @@ static void make_table(void) {
     }
 }
 
+// The same with a text inside: the expression that is made of what begins it so often, a middle, and what ends it so often.
+static void make_expression(const char *begins, const char *middle, const char *ends, int often) {
+    char made[4096], *p = made;
+    for (int i = 0; i < often; i++) p = stpcpy(p, begins);
+    p = stpcpy(p, middle);
+    for (int i = 0; i < often; i++) p = stpcpy(p, ends);
+    text_length = (size_t)(p - made);
+    if (text_length > sizeof text) { printf("too long an expression\n"); exit(1); }
+    memcpy(text, made, text_length);
+    make_table();
+    uint32_t words[2] = {0, (uint32_t)text_length};
+    table[DEPTH * 24] = 5;
+    memcpy(table + DEPTH * 24 + 16, words, 8);
+}
+
+// What stands at the bottom of a plan: a filter that searches the first text of the pool for the second.
+static int searching;
+static uint8_t *bottom(uint8_t *p) {
+    uint16_t start = 6, length = (uint16_t)text_length;
+    memcpy(p, "\3\1\0\11\13\0\22\0\0\6\0\22", 12);
+    memcpy(p + 12, &start, 2);
+    memcpy(p + 14, &length, 2);
+    p[16] = 0x1D;
+    memcpy(pool, "aaaaaa", 6);
+    memcpy(pool + 6, text, text_length);
+    pool_length = 6 + text_length;
+    return p + 17;
+}
+
 // The code of a query from `$` that nests n filters, each behind many segments, written at p; where it ends.
 static uint8_t *code(uint8_t *p, int n, const uint8_t *segment, size_t size, int many) {
     *p++ = 1;
@@ -46,14 +76,14 @@ static uint8_t *code(uint8_t *p, int n, const uint8_t *segment, size_t size, int
         length[0] = (uint8_t)m;
         length[1] = (uint8_t)(m >> 8);
         p = q;
-    }
+    } else if (searching) p = bottom(p);
     *p++ = 10;
     return p;
 }
 
 static void make_plan(int n, const char *segment, size_t size) {
-    plan_length = (size_t)(code(plan, n, (const uint8_t *)segment, size, WILD) - plan);
     pool_length = 0;
+    plan_length = (size_t)(code(plan, n, (const uint8_t *)segment, size, WILD) - plan);
 }
 
 // `$` and 31 times a segment's text so often and a filter that begins as told, then the last of them and the brackets that are open.
@@ -76,7 +106,7 @@ static void *work(void *unused) {
     (void)unused;
     uint64_t a = 0, b = 0;
     if (selecting) {
-        answer = stewpebble_select(query, query_length, table, sizeof table, text, 0, list, 16, 0, &a, &b);
+        answer = stewpebble_select(query, query_length, table, sizeof table, text, text_length, list, 16, 0, &a, &b);
         return 0;
     }
     if (compiling) {
@@ -84,7 +114,7 @@ static void *work(void *unused) {
         if (answer) return 0;
         plan_length = a, pool_length = b;
     }
-    answer = stewpebble_run(plan, plan_length, pool, pool_length, table, sizeof table, text, 0, list, 16, 0, &a, &b);
+    answer = stewpebble_run(plan, plan_length, pool, pool_length, table, sizeof table, text, text_length, list, 16, 0, &a, &b);
     return 0;
 }
 
@@ -135,6 +165,17 @@ static void measure_query(const char *name, const char *segment, int often, cons
     measure(name, STEWPEBBLE_QUERY_STACK);
 }
 
+// An expression, as a text of the table, at the bottom of the deepest query, and at that of the deepest plan.
+static void measure_expression(const char *name, const char *begins, const char *middle, const char *ends, int often, const char *test) {
+    printf("%s, %d times\n", name, often);
+    make_expression(begins, middle, ends, often);
+    measure_query("..[?@>''", "", 0, "..[?@>''&&$", test);
+    searching = 1;
+    measure_plan("..[?@,?@]", 67, "\4\2\0\11\3\0\2\12\30\11\3\0\2\12\30", 15);
+    measure_plan("..[*,*]", 126, "\4\2\0\10\10", 5);
+    searching = 0;
+}
+
 int main(void) {
     make_table();
     measure_plan("[*]", 128, "\3\1\0\10", 4);
@@ -143,5 +184,14 @@ int main(void) {
     measure_plan("..[*,*]", 128, "\4\2\0\10\10", 5);
     measure_query("..[?@==1", "", 0, "..[?@==1&&$", "..[?@==1&&$==$]");
     measure_query("..*", "..*", 38, "[?$", "[?$]");
+    static char many[1200] = "..[?@>''&&match('";
+    memset(many + 17, 'a', 1024), strcpy(many + 17 + 1024, "',@)]");
+    measure_expression("a row of characters", ".", "", "", 1024, many);
+    measure_expression("alternatives", "|", "a", "", 1023, "..[?@>''&&search('aaaaaa',@)]");
+    measure_expression("groups", "(", "a", ")", 511, "..[?@>''&&search('aaaaaa',@)]");
+    measure_expression("groups that are repeated", "(", "a", ")*", 340, "..[?@>''&&match('aaaaaa',@)]");
+    measure_expression("groups behind a character", "(a", "", ")*", 255, "..[?@>''&&search('aaaaaa',@)]");
+    measure_expression("groups behind an alternative", "(a|", "", ")", 255, "..[?@>''&&match('aaaaaa',@)]");
+    measure_expression("groups with a count", "(", "a", "){2}", 200, "..[?@>''&&match('aaaaaa',@)]");
     return over != 0;
 }

@@ -85,6 +85,18 @@ int main(void) {
     expect("select from beyond the list", stewpebble_select(BYTES("$"), table, sizeof table, text, TEXT, list, 4, 5, &a, &b), 14);
     expect("select by an unknown function", stewpebble_select(BYTES("$[?foo()]"), table, sizeof table, text, TEXT, list, 4, 0, &a, &b), 6);
 
+    static const uint8_t matching[] = {1, 3, 1, 0, 9, 11, 0, 0x12, 0, 0, 1, 0, 0x12, 1, 0, 1, 0, 0x1C, 10};
+    expect("compile of match", stewpebble_compile(BYTES("$[?match('a','b')]"), plan, sizeof plan, pool, sizeof pool, &a, &b), 0);
+    expect("its plan's length", a, sizeof matching);
+    expect("its plan", memcmp(plan, matching, sizeof matching), 0);
+    expect("its pool", memcmp(pool, "ab", 2), 0);
+    expect("select by match", stewpebble_select(BYTES("$[?match(@,'[^a-z]')]"), table, sizeof table, text, TEXT, list, 4, 0, &a, &b), 0);
+    expect("its count", a, 1);
+    expect("its list", list[0], 2);
+    expect("select by search", stewpebble_select(BYTES("$[?!search(@,'e')]"), table, sizeof table, text, TEXT, list, 4, 0, &a, &b), 0);
+    expect("its count", a, 2);
+    expect("select by match compared", stewpebble_select(BYTES("$[?match('a','b')==true]"), table, sizeof table, text, TEXT, list, 4, 0, &a, &b), 5);
+
     expect("text of a node", stewpebble_text_of_node(table, sizeof table, text, TEXT, 2, &a, &b), 0);
     expect("its start", a, 2);
     expect("its length", b, 2);

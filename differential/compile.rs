@@ -254,9 +254,6 @@ fn expected(parser: &JSONPathParser, query: &[u8]) -> Option<Expected> {
     if retired {
         return say(5, "W12");
     }
-    if calls_in_segment(&tree.segments) {
-        return say(7, "S3, S4");
-    }
     if beyond(query) {
         return say(8, "R8");
     }
@@ -353,6 +350,7 @@ impl Writer {
                     _ => 99,
                 });
             }
+            FilterExpression::Function { name, .. } if name == "match" || name == "search" => self.operand(e, out),
             _ => {
                 self.operand(e, out);
                 out.push(0x18);
@@ -384,6 +382,8 @@ impl Writer {
                     "count" => 0x19,
                     "length" => 0x1A,
                     "value" => 0x1B,
+                    "match" => 0x1C,
+                    "search" => 0x1D,
                     _ => 99,
                 });
             }

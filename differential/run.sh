@@ -1,8 +1,9 @@
 #!/usr/bin/env bash
-# Calls every function of the C boundary, and compares compile, select and run with the given Rust text on random queries and documents.
+# Calls every function of the C boundary, compares compile, select and run with the given Rust text on random queries and documents, and match and search with Python.
 #
 #   differential/run.sh calls                                 the calls of the C boundary alone
 #   differential/run.sh paths [COUNT [SEED]]                  paths of nodes of random tables, compiled and run; the same for COUNT and SEED
+#   differential/run.sh regexps [COUNT [SEED]]                match and search on random expressions and texts, beside tools/regexps.py and Python's re; the same
 #   ORACLE=DIR differential/run.sh [COUNT [SEED]]             compile, on random and damaged queries; COUNT is 1000000 and SEED is 1 where they are not given
 #   ORACLE=DIR differential/run.sh select [COUNT [SEED]]      select and run, on random documents; the same for COUNT and SEED
 #   ORACLE=DIR differential/run.sh vectors                    some of the queries with their refusals, as crates/compile_vectors reads them
@@ -12,7 +13,7 @@
 # The archive is that of bin/archive, for the machine at hand.
 set -euo pipefail
 cd "$(dirname "$0")/.."
-[ "${1:-}" = calls ] || [ "${1:-}" = paths ] || : "${ORACLE:?names the folder of the built Rust text}"
+[ "${1:-}" = calls ] || [ "${1:-}" = paths ] || [ "${1:-}" = regexps ] || : "${ORACLE:?names the folder of the built Rust text}"
 mkdir -p target/differential
 archive=$(bin/archive)
 cc -O2 -Wall -Wextra -Werror -o target/differential/calls differential/calls.c "$archive"
@@ -21,6 +22,10 @@ target/differential/calls >&2
 if [ "${1:-}" = paths ]; then
     cc -O2 -Wall -Wextra -Werror -o target/differential/paths differential/paths.c "$archive"
     target/differential/paths "${2:-1000000}" "${3:-1}"
+    exit
+fi
+if [ "${1:-}" = regexps ]; then
+    python3 differential/regexps.py "${2:-1000000}" "${3:-1}"
     exit
 fi
 built=$ORACLE/target/release

@@ -24,7 +24,7 @@ static struct stewpebble_record table[] = {
 };
 
 static const char *const queries[] = {"$.rows[*].name", "$.rows[?@.qty < $.limit].name", "$..price", "$.rows[-1].qty", "$.rows[::-1].name", "$.rows[?@.price == null].name",
-                                      "$.rows[?count(@.*) == 3].qty", "$.rows[?@.price >= 1 && @.qty].price", "$.rows[?match(@.name, 'b.*')]", "$.rows[*"};
+                                      "$.rows[?count(@.*) == 3].qty", "$.rows[?@.price >= 1 && @.qty].price", "$.rows[?match(@.name, 'b.*')].name", "$.rows[*"};
 enum { FORMULAS = sizeof queries / sizeof *queries, LONGEST = 64 };
 static struct { uint32_t refusal; uint64_t plan_length, pool_length; uint8_t plan[STEWPEBBLE_PLAN_ROOM(LONGEST)], pool[STEWPEBBLE_POOL_ROOM(LONGEST)]; } formulas[FORMULAS];
 

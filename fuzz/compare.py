@@ -1,4 +1,5 @@
-"""Compares what the fuzzer lists with tools/reference.py, tools/plans.py and tools/tables.py, which say document 01 apart from the engine.
+"""Compares what the fuzzer lists with tools/reference.py, tools/plans.py and tools/tables.py, which say the rules apart from the engine;
+regexps.py, which the first of them uses, has the expressions of match and search. Refusal 7, which no input has, is none of their answers.
 
     fuzz list-queries 5 | python3 fuzz/compare.py
     fuzz list-plans 20 | python3 fuzz/compare.py

@@ -21,7 +21,7 @@ uint32_t WRAP(compile)(const uint8_t *q, size_t n, uint8_t *plan, size_t plan_ro
     case 5: if (r == 0 && plan_room > *a) plan[*a] = 0; break;       // writes more than it reports
     case 6: if (r == 12) *a += 1; break;                             // a length that is not the one needed
     case 7: if (r == 5) *b = 1; break;                               // a number with a refusal that names none
-    case 8: if (r == 7) r = 12; break;                               // another refusal
+    case 8: if (r == 6) r = 7; break;                                // a refusal that no input has
     case 9: if (r == 0 && calls % 999 == 0) plan[1] ^= 1; break;     // another answer to the same input, now and then
     }
     return r;

@@ -180,7 +180,7 @@ static Answer compile(Bytes q, size_t n, size_t plan_room, size_t pool_room) {
     }
     uint32_t early = n > 4096 ? 1 : !is_utf8(q, n) ? 2 : brackets_pass(q, n) ? 3 : 0;
     if (early) CHECK(was.refusal == early);
-    else CHECK(was.refusal == 0 || (was.refusal >= 4 && was.refusal <= 8) || was.refusal == 12);
+    else CHECK(was.refusal == 0 || (was.refusal >= 4 && was.refusal <= 8 && was.refusal != 7) || was.refusal == 12);
     if (was.refusal == 12) CHECK(was.first > plan_room || was.second > pool_room);
     else if (was.refusal) CHECK(was.first == 0 && was.second == 0);
     if (!was.refusal) CHECK(was.first >= 2);
@@ -283,7 +283,7 @@ static Answer run(Bytes q, size_t qn, Bytes p, size_t pn, Bytes o, size_t on, By
         was = r;
     }
     uint32_t r = was.refusal;
-    CHECK(r == 0 || r == 9 || r == 10 || r == 13 || r == 14 || (q ? r <= 8 : r == 11));
+    CHECK(r == 0 || r == 9 || r == 10 || r == 13 || r == 14 || (q ? r <= 8 && r != 7 : r == 11));
     if (r) CHECK(was.first == 0);
     if (r != 10) CHECK(was.second == 0);
     for (size_t i = 0; i < places; i++) CHECK(listed[i] < n / 24);
@@ -380,6 +380,50 @@ static void say(const char *s) { put(&query, s); }
 static void blank(void) { if (one_in(14)) say((const char *[]){" ", "\t", "\n", "\r", "  "}[below(5)]); }
 #define ANY(...) ((const char *[]){__VA_ARGS__}[below(sizeof((const char *[]){__VA_ARGS__}) / sizeof(char *))])
 
+// ---- expressions of match and search
+
+static Buffer expression;
+static void tell(const char *s) { put(&expression, s); }
+static void alternatives(int depth);
+static void piece(int depth) {
+    switch (below(depth > 0 ? 9 : 7)) {
+    case 0: tell("."); break;
+    case 1: tell(ANY("[ab]", "[^a]", "[a-c]", "[^a-z]", "[-a]", "[a-]", "[^-]", "[é-ü]", "[\\n\\]]", "[b-a]", one_in(3) ? ANY("[+--]", "[]", "[^]", "[a-b-c]", "[[]") : "[b-d]")); break;
+    case 2: tell(one_in(5) ? ANY("\\d", "\\$", "\\p{L}", "\\") : ANY("\\.", "\\n", "\\\\", "\\(", "\\^", "\\|", "\\-")); break;
+    case 7: case 8: tell("("), alternatives(depth - 1), tell(")"); break;
+    default: tell(ANY("a", "b", "c", "d", "a", "b", "é", "\xf0\x9f\x98\x80", "ab", "^", "$", "-", " "));
+    }
+    if (one_in(3)) tell(one_in(12) ? ANY("{65}", "{1", "**", "+?", "{,2}", "{64}", "{0,64}", "{63,}") : ANY("*", "+", "?", "*", "{2}", "{1,}", "{0,3}", "{2,1}", "{0}", "{3,5}"));
+}
+static void alternatives(int depth) {
+    for (size_t k = below(4); k; k--) piece(depth);
+    while (one_in(4)) {
+        tell("|");
+        for (size_t k = below(3); k; k--) piece(depth);
+    }
+}
+static void damage(Buffer *b);
+static void make_expression(void) {
+    expression.n = 0;
+    // one that is about as long as an expression may be
+    if (one_in(80)) for (size_t most = 1000 + below(50); expression.n < most;) piece(0);
+    else alternatives((int)below(4));
+    if (one_in(8)) damage(&expression);
+    if (expression.n > 1500) expression.n = 1500;
+}
+// The bytes as a literal of the query.
+static void literal_of(const Buffer *b) {
+    const char *quote = ANY("'", "\"");
+    say(quote);
+    for (size_t i = 0; i < b->n; i++) {
+        char shown[8] = {(char)b->at[i], 0};
+        if (b->at[i] < 32) snprintf(shown, sizeof shown, "\\u%04x", b->at[i]);
+        else if (b->at[i] == '\\' || b->at[i] == (uint8_t)quote[0]) shown[0] = '\\', shown[1] = (char)b->at[i], shown[2] = 0;
+        say(shown);
+    }
+    say(quote);
+}
+
 static void name(void) { say(ANY("a", "b", "c", "d", "a", "b", "é", "ab", "_1", "true", "in")); }
 static void quoted(void) {
     const char *quote = ANY("'", "\"");
@@ -457,15 +501,28 @@ static void function(int depth) {
     else path(depth, 0);
     blank(), say(")");
 }
+// match or search, with an expression that is a literal, or whatever may be compared
+static void expression_test(int depth) {
+    if (one_in(3)) say("!"), blank();
+    say(ANY("match", "search")), say("("), blank();
+    if (one_in(5)) comparable(depth);
+    else say(ANY("@", "@", "@", "@.a", "$[0]", "value(@.*)", "value($..b)"));
+    blank(), say(","), blank();
+    if (one_in(5)) comparable(depth);
+    else if (one_in(4)) say(ANY("@", "@.a", "$[1]", "$.b", "value(@..*)"));
+    else make_expression(), literal_of(&expression);
+    blank(), say(")");
+}
 static void basic(int depth) {
     size_t k = below(10);
+    if (one_in(6)) { expression_test(depth); return; }
     if (k == 0 && depth > 0) {
         if (one_in(2)) say("!"), blank();
         say("("), blank(), logical(depth - 1), blank(), say(")");
     } else if (k < 6) {
         comparable(depth), blank(), say(ANY("==", "!=", "<", "<=", ">", ">=")), blank(), comparable(depth);
     } else if (k == 6 && depth > 0) {
-        if (one_in(8)) { say(ANY("match(@,'a')", "!search(@.a, \"a\")", "foo()", "count()==1", "length(@.*)==0")); return; }
+        if (one_in(8)) { say(ANY("match(@)", "!search(@.*, \"a\")", "match(@,'a')==true", "search(match(@,@),'a')", "foo()", "count()==1", "length(@.*)==0")); return; }
         // a function alone is refused 5, with `!` before it or without
         if (one_in(20)) { if (one_in(2)) say("!"), blank(); function(depth - 1); return; }
         function(depth - 1), blank(), say(ANY("==", "!=", "<", "<=", ">", ">=")), blank(), comparable(depth);
@@ -482,6 +539,7 @@ static void make_query(void) {
     query.n = 0, say("$");
     // about as long as a query may be
     if (one_in(100)) { for (size_t most = 3000 + below(1300); query.n < most;) segments(1, 0); return; }
+    if (one_in(10)) { say(ANY("[?", "..[?", ".*[?", "[?@.a&&", "[?$.b||")), expression_test(1), say("]"); return; }
     if (!one_in(60)) { segments((int)below(5), 0); return; }
     // brackets about as deep as they may be
     size_t deep = 29 + below(6);
@@ -544,6 +602,15 @@ static void make_table(size_t nodes) {
     static uint8_t depth[256];
     static uint8_t member[256], parent[256];
     text.n = 0, put(&text, letters), widest = 0;
+    // some texts are expressions
+    static uint32_t starts[4], sizes[4];
+    size_t expressions = 0;
+    for (size_t k = below(5); k; k--) {
+        make_expression();
+        if (!is_utf8(expression.at, expression.n) || expression.n > 60) continue;
+        memcpy(text.at + text.n, expression.at, expression.n);
+        starts[expressions] = (uint32_t)text.n, sizes[expressions++] = (uint32_t)expression.n, text.n += expression.n;
+    }
     size_t used = 1, deep = one_in(4);
     depth[0] = member[0] = parent[0] = 0;
     memset(table.at, 0, 24 * nodes);
@@ -560,7 +627,8 @@ static void make_table(size_t nodes) {
         case 4: high = one_in(2) ? 0x3FF00000 : one_in(2) ? 0x80000000 : (uint32_t)next() & 0xBFFFFFFF; low = one_in(3) ? (uint32_t)next() : 0; break;
         case 5:
             low = (uint32_t)(one_in(6) ? 26 : below(26));
-            high = (uint32_t)(low == 26 ? 2 : low == 25 ? 1 : one_in(6) ? 0 : 1 + below(2));
+            high = (uint32_t)(low == 26 ? 2 : low == 25 ? 1 : one_in(6) ? 0 : one_in(4) && low < 20 ? 3 + below(5) : 1 + below(2));
+            if (expressions && one_in(4)) { size_t k = below(expressions); low = starts[k], high = sizes[k]; }
             break;
         case 6: case 7: low = children ? (uint32_t)used : 0, high = (uint32_t)children;
         }
@@ -595,7 +663,7 @@ static double steps(Bytes p, double n, double w, double *reached) {
                 double code = 1;
                 static const uint8_t bodies[32] = {[0x10] = 8, 8, 4, 1, 1, 0, 2, 2};
                 for (at += 3; at < end;)
-                    if (p[at] <= 2) code += steps(p, n, w, &inner) + inner; else at += 1 + bodies[p[at] & 31], code += n;
+                    if (p[at] <= 2) code += steps(p, n, w, &inner) + inner; else code += p[at] == 0x1C || p[at] == 0x1D ? n + 100 : n, at += 1 + bodies[p[at] & 31];
                 found += w, tried += w * code;
             }
             }
@@ -609,7 +677,11 @@ static double steps(Bytes p, double n, double w, double *reached) {
 
 // ---- a round
 
-static size_t query_kinds[3];
+static size_t query_kinds[3], with_expressions;
+static int calls_expression(Bytes p, size_t n) {
+    for (size_t i = 0; i < n; i += 1 + body_length(p[i])) if (p[i] == 0x1C || p[i] == 0x1D) return 1;
+    return 0;
+}
 static void lists(Bytes q, size_t qn, Bytes p, size_t pn, Bytes o, size_t on, uint32_t refused, Answer checked) {
     Bytes t = table.at, x = text.at;
     size_t n = table.n, m = text.n, start = one_in(3) ? below(9) : 0;
@@ -702,6 +774,7 @@ static void one_round(void) {
         if (one_in(2)) plan.at[0] = 1, plan.n += !plan.n, plan.at[plan.n - 1] = 10;
     } else {
         set(&plan, plan_kept, c.first), set(&pool, pool_kept, c.second);
+        with_expressions += (size_t)calls_expression(plan.at, plan.n);
         size_t a = c.first, b = c.second;
         Answer exact = compile(q, n, a, b);
         CHECK(exact.refusal == 0 && same(c, exact) && !memcmp(plan.at, plan_kept, a) && !memcmp(pool.at, pool_kept, b));
@@ -803,6 +876,24 @@ static void edges(void) {
     if (pthread_create(&thread, &attributes, deepest, 0) == 0) pthread_join(thread, 0);
     nested(&deep_plan, 129);
     CHECK(check_plan(deep_plan.at, deep_plan.n, pool.at, 0) == 11);
+    // expressions about as long and as deep as they may be, as literals and in the table: 1,024 and 1,025 characters; 511 groups; 340 repeats inside each other
+    for (int sort = 0; sort < 4; sort++) {
+        expression.n = 0;
+        for (int i = 0; i < (sort == 0 ? 1024 : sort == 1 ? 1025 : sort == 2 ? 511 : 340); i++) tell(sort < 2 ? "a" : "(");
+        if (sort >= 2) tell("a");
+        for (int i = 0; i < (sort == 2 ? 511 : sort == 3 ? 340 : 0); i++) tell(sort == 2 ? ")" : ")*");
+        text.n = 0;
+        while (text.n < (sort == 0 ? 1024u : sort == 1 ? 1025u : sort == 2 ? 1u : 6u)) text.at[text.n++] = 'a';
+        record(table.at, 0, 6, 0, 1, 2), record(table.at, 1, 5, 1, 0, (uint32_t)text.n), record(table.at, 2, 5, 1, (uint32_t)text.n, (uint32_t)expression.n);
+        memcpy(text.at + text.n, expression.at, expression.n), text.n += expression.n, table.n = 3 * 24;
+        for (int way = 0; way < 4; way++) {
+            query.n = 0, say(way % 2 ? "$[?search($[0]," : "$[?match($[0],");
+            if (way < 2) say("$[1]"); else literal_of(&expression);
+            say(")]");
+            r = run(query.at, query.n, 0, 0, 0, 0, table.at, table.n, text.at, text.n, 4, 0);
+            CHECK(r.refusal == 0 && r.first == (sort == 1 ? 0 : 2));
+        }
+    }
     // lengths of plan and pool
     for (size_t n = 65535; n <= 65536; n++) {
         memset(plan.at, 8, n), memcpy(plan.at, "\1\3", 2), set_word(plan.at + 2, (uint32_t)(n - 5) | 0x08080000), plan.at[n - 1] = 10;
@@ -922,12 +1013,12 @@ static void *work(void *unused) {
         for (round_number = 0; round_number < much; round_number++) one_round();
     } else if (!strcmp(what, "random")) {
         for (round_number = 0; round_number < much; round_number++) one_round();
-        printf("%zu rounds, seed %llu; queries of random bytes %zu, structured %zu, damaged %zu\n", much, (unsigned long long)seed,
-               query_kinds[0], query_kinds[1], query_kinds[2]);
+        printf("%zu rounds, seed %llu; queries of random bytes %zu, structured %zu, damaged %zu; %zu compiled with match or search\n", much, (unsigned long long)seed,
+               query_kinds[0], query_kinds[1], query_kinds[2], with_expressions);
     } else if (!strcmp(what, "edges")) edges();
     else if (!strcmp(what, "queries")) short_queries(much, 0);
     else if (!strcmp(what, "plans")) {
-        static const uint8_t kinds[] = {0, 1, 2, 3, 4, 5, 6, 7, 8, 9, 10, 11, 15, 16, 17, 18, 19, 20, 21, 22, 23, 24, 25, 26, 27, 28, 32, 127, 128, 255};
+        static const uint8_t kinds[] = {0, 1, 2, 3, 4, 5, 6, 7, 8, 9, 10, 11, 15, 16, 17, 18, 19, 20, 21, 22, 23, 24, 25, 26, 27, 28, 29, 32, 128, 255};
         static const uint8_t few[] = {0, 1, 2, 3, 4, 5, 8, 9, 10, 24};
         all_plans(0, 256, 0, 3), all_plans(kinds, sizeof kinds, 4, 4), all_plans(few, sizeof few, 5, 7), changed_plans(200, 0);
     } else if (!strcmp(what, "list-queries")) short_queries(much, 1);

@@ -9,7 +9,7 @@
 //   threads   The library has no state: any function may be called on any number of threads at once, as long as none writes what another reads.
 //   stack     STEWPEBBLE_QUERY_STACK is enough for every call with a query, or with a plan that was compiled from one, and STEWPEBBLE_PLAN_STACK for every
 //             call with any plan that plan check takes. The deepest calls found take 192 KiB and 384 KiB (docs/PERFORMANCE.md, "Stack").
-//   time      docs/EMBEDDING.md has what each operation costs. A run has no limit to its time: where strangers write the queries, run them where they can be ended.
+//   time      docs/EMBEDDING.md has what each operation costs, expressions of match and search among them. A run has no limit to its time: where strangers write the queries, run them where they can be ended.
 #ifndef STEWPEBBLE_H
 #define STEWPEBBLE_H
 
@@ -35,6 +35,7 @@ extern "C" {
 #define STEWPEBBLE_MAX_TEXT 16777216  // bytes of a table's text
 #define STEWPEBBLE_MAX_DEPTH 63       // depth of a node, 0 for the root
 #define STEWPEBBLE_MAX_MEMBERS 1024   // members of a map
+#define STEWPEBBLE_MAX_EXPRESSION 1024 // bytes of an expression of match or search; with a longer one they are false
 
 // Rooms that are enough for the plan and the pool of every query of n bytes. No query needs more, so compile never answers STEWPEBBLE_REFUSED_ROOM_TOO_SMALL.
 #define STEWPEBBLE_PLAN_ROOM(n) (13 * (n))
@@ -49,7 +50,7 @@ enum stewpebble_refusal {
     STEWPEBBLE_REFUSED_SYNTAX = 4,           // not in the grammar, or an index or a slice number is outside -(2^53-1)..2^53-1
     STEWPEBBLE_REFUSED_TYPE = 5,             // a function, a comparison or a test has operands of the wrong type or number; or ! stands before a value function
     STEWPEBBLE_REFUSED_UNKNOWN_FUNCTION = 6,
-    STEWPEBBLE_REFUSED_REGEX = 7,            // match or search is called
+    STEWPEBBLE_REFUSED_REGEX = 7,            // given to no input, and its number to no other refusal
     STEWPEBBLE_REFUSED_NUMBER_BEYOND = 8,    // a number literal has N of ten to the 19 or more, E outside -342..308, or is past the largest float
     STEWPEBBLE_REFUSED_TABLE_SIZE = 9,       // no whole number of records, none, or over 65,535; or over 16,777,216 bytes of text
     STEWPEBBLE_REFUSED_TABLE_RULE = 10,      // a rule of tables fails; the least such node is set
@@ -72,7 +73,7 @@ static inline const char *stewpebble_refusal_words(uint32_t refusal) {
     case STEWPEBBLE_REFUSED_SYNTAX: return "this is not a JSONPath query, or a number in it is out of range";
     case STEWPEBBLE_REFUSED_TYPE: return "a function, a comparison or a test in the query has operands of the wrong type or number; in place of !count(@.*) write !@.* or count(@.*) == 0";
     case STEWPEBBLE_REFUSED_UNKNOWN_FUNCTION: return "the query calls a function that does not exist";
-    case STEWPEBBLE_REFUSED_REGEX: return "the functions match and search are not supported";
+    case STEWPEBBLE_REFUSED_REGEX: return "this library is of an earlier version, without the functions match and search";
     case STEWPEBBLE_REFUSED_NUMBER_BEYOND: return "a number in the query has more than 19 digits, too large or small an exponent, or is too large for a float";
     case STEWPEBBLE_REFUSED_TABLE_SIZE: return "the table is empty, too large or cut off, or its texts are too large";
     case STEWPEBBLE_REFUSED_TABLE_RULE: return "a record of the table breaks a rule";
@@ -151,10 +152,12 @@ enum stewpebble_item {
     STEWPEBBLE_ITEM_TEST = 0x18,           // no body
     STEWPEBBLE_ITEM_COUNT = 0x19,          // the function count, no body
     STEWPEBBLE_ITEM_LENGTH = 0x1A,         // the function length, no body: of a text in Unicode scalar values
-    STEWPEBBLE_ITEM_VALUE = 0x1B           // the function value, no body
+    STEWPEBBLE_ITEM_VALUE = 0x1B,          // the function value, no body
+    STEWPEBBLE_ITEM_MATCH = 0x1C,          // the function match, no body: whether an expression describes the whole of a text
+    STEWPEBBLE_ITEM_SEARCH = 0x1D          // the function search, no body: whether it describes a part of the text
 };
 
-// Compile: 1 to 8, 12. The lengths of plan and pool are set, also with 12, and to 0 with every other refusal.
+// Compile: 1 to 6, 8, 12. The lengths of plan and pool are set, also with 12, and to 0 with every other refusal.
 uint32_t stewpebble_compile(const uint8_t *query, size_t query_length, uint8_t *plan, size_t plan_room, uint8_t *pool, size_t pool_room, uint64_t *plan_length, uint64_t *pool_length);
 
 // Plan check: 11.
@@ -173,7 +176,7 @@ uint32_t stewpebble_check_table(const uint8_t *table, size_t table_length, const
 // enough for every query; a table's number of nodes is enough for those that select no node twice.
 uint32_t stewpebble_run(const uint8_t *plan, size_t plan_length, const uint8_t *pool, size_t pool_length, const uint8_t *table, size_t table_length, const uint8_t *text, size_t text_length, uint32_t *list, size_t list_length, size_t start, uint64_t *count, uint64_t *node);
 
-// Select: compile and run in one, for a query that is asked once. 1 to 8 as for compile, then 9, 10, 14, 13, with the same numbers as run.
+// Select: compile and run in one, for a query that is asked once. 1 to 6 and 8 as for compile, then 9, 10, 14, 13, with the same numbers as run.
 uint32_t stewpebble_select(const uint8_t *query, size_t query_length, const uint8_t *table, size_t table_length, const uint8_t *text, size_t text_length, uint32_t *list, size_t list_length, size_t start, uint64_t *count, uint64_t *node);
 
 // Text of a node and key of a node: 9, 10, 15. Where the part of the text that holds it starts and its length are set, and 0 and 0 with every refusal. Each

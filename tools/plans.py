@@ -2,13 +2,14 @@
 
 A form is a tree of tuples. A query is (1 for `$` or 2 for `@`, segments); a segment (3 for child or 4 for descendant, selectors); a selector
 ("name", bytes), ("index", n), ("slice", start, stop, step), ("wildcard",) or ("filter", test); a test ("exists", query),
-("compare", 0 to 5, argument, argument), ("not", test), ("notvalue", function), ("and", test, test) or ("or", test, test); an argument
-("query", query), ("function", function), ("integer", n), ("float", bits), ("text", bytes) or ("constant", 0 to 2); a function (its kind, argument or
-query).
+("compare", 0 to 5, argument, argument), ("regex", its kind, argument, argument), ("not", test), ("notvalue", function), ("and", test, test) or
+("or", test, test); an argument ("query", query), ("function", function), ("integer", n), ("float", bits), ("text", bytes) or ("constant", 0 to 2); a
+function (its kind, argument or query).
 """
 import struct, sys
 
 MAX_PLAN, MAX_NESTING, MAX_INT = 65535, 128, 2**53 - 1
+MATCH, SEARCH = 0x1C, 0x1D
 sys.setrecursionlimit(10000)
 
 # ---- the translation of a form
@@ -51,6 +52,9 @@ def test(t, pool):
     if t[0] == "compare":
         left = argument(t[2], pool)
         return left + argument(t[3], pool) + bytes([0x14, t[1]])
+    if t[0] == "regex":
+        text = argument(t[2], pool)
+        return text + argument(t[3], pool) + bytes([t[1]])
     if t[0] == "not":
         return test(t[1], pool) + b"\x15"
     if t[0] == "notvalue":
@@ -128,6 +132,8 @@ def deep_test(t):
         return deep_query(t[1])
     if t[0] == "compare":
         return max(deep_argument(t[2]), deep_argument(t[3]))
+    if t[0] == "regex":
+        return 1 + max(deep_argument(t[2]), deep_argument(t[3]))
     if t[0] == "not":
         return 1 + deep_test(t[1])
     if t[0] == "notvalue":
@@ -228,6 +234,9 @@ class Reader:
             op = self.number("B")
             need(op <= 5 and stack and top[0] in operands and stack[-1][0] in operands)
             stack.append(("test", ("compare", op, stack.pop(), top)))
+        elif kind in (MATCH, SEARCH):
+            need(stack and top[0] in operands and stack[-1][0] in operands)
+            stack.append(("test", ("regex", kind, stack.pop(), top)))
         elif kind == 0x18:
             need(top[0] in ("query", "function"))
             stack.append(("test", ("exists", top[1])) if top[0] == "query" else ("tested", top[1]))

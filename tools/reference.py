@@ -1,10 +1,10 @@
-"""Document 01 in plain Python, apart from the definition and the code: compile, run and select over bytes.
+"""The rules in plain Python, apart from the definition and the code: compile, run and select over bytes.
 
-The grammar is read by its rules in RFC 9535; the walk follows document 01's "Query walk and typing"; evaluation goes over the table as a tree. It is
-written to be plain and not to be fast.
+The grammar is read by its rules in RFC 9535; the walk follows document 01's "Query walk and typing"; evaluation goes over the table as a tree,
+and regexps.py says what expressions describe. It is written to be plain and not to be fast.
 """
 import math, re, struct
-import plans, tables
+import plans, regexps, tables
 
 MAX_QUERY, MAX_BRACKETS, MAX_INT = 4096, 32, 2**53 - 1
 BLANKS = " \t\n\r"
@@ -20,7 +20,7 @@ HEX4 = re.compile(r"[0-9A-Fa-f]{4}")
 # each function's parameters, and whether it gives a value
 FUNCTIONS = {"count": (["nodes"], True), "length": (["value"], True), "value": (["nodes"], True),
              "match": (["value", "value"], False), "search": (["value", "value"], False)}
-KINDS = {"count": 0x19, "length": 0x1A, "value": 0x1B}
+KINDS = {"count": 0x19, "length": 0x1A, "value": 0x1B, "match": plans.MATCH, "search": plans.SEARCH}
 
 
 class Refused(Exception):
@@ -296,7 +296,7 @@ class Grammar:
 
 class Walk:
     def __init__(self, stored):
-        self.stored, self.calls_regex, self.floats = stored, False, []
+        self.stored, self.floats = stored, []
 
     def query(self, q):
         sigil, segments = q
@@ -372,7 +372,6 @@ class Walk:
         need(len(args) == len(parameters), 5)
         for parameter, e in zip(parameters, args):
             need(self.is_value(e) if parameter == "value" else e[0] == "query", 5)
-        self.calls_regex = self.calls_regex or name in ("match", "search")
         return ("call", name, args)
 
     def is_value(self, e):
@@ -402,8 +401,10 @@ def test_form(e):
         return ("exists", query_form(e[1]))
     if e[0] == "compare":
         return ("compare", CODES[e[1]], argument_form(e[2]), argument_form(e[3]))
+    if e[0] == "call":
+        return ("regex", KINDS[e[1]], argument_form(e[2][0]), argument_form(e[2][1]))
     if e[0] == "not":
-        return ("notvalue", function_form(e[1])) if e[1][0] == "call" else ("not", test_form(e[1]))
+        return ("notvalue", function_form(e[1])) if e[1][0] == "call" and FUNCTIONS[e[1][1]][1] else ("not", test_form(e[1]))
     return (e[0], test_form(e[1]), test_form(e[2]))
 
 
@@ -424,13 +425,12 @@ def function_form(e):
 
 
 def form(query, stored=False):
-    """The form of a query's bytes, or a refusal from 1 to 8; with stored, also the form that `!` before a value function had, which plans still hold."""
+    """The form of a query's bytes, or a refusal from 1 to 6 or 8; with stored, also the form that `!` before a value function had, which plans still hold."""
     need(len(query) <= MAX_QUERY, 1)
     need(tables.is_utf8(query), 2)
     need(not brackets_pass(query), 3)
     tree, walk = Grammar(query.decode()).whole(), Walk(stored)
     typed = walk.query(tree)
-    need(not walk.calls_regex, 7)
     need(all(map(inside, walk.floats)), 8)
     return query_form(typed)
 
@@ -519,6 +519,8 @@ def holds(t, root, current):
         return bool(evaluate(t[1], root, current))
     if t[0] == "compare":
         return compare(t[1], operand(t[2], root, current), operand(t[3], root, current))
+    if t[0] == "regex":
+        return matched(t[1], operand(t[2], root, current), operand(t[3], root, current))
     if t[0] == "not":
         return not holds(t[1], root, current)
     if t[0] == "notvalue":
@@ -549,6 +551,12 @@ def call(f, root, current):
     if f[0] == 0x19:
         return ("number", min(len(found), MAX_INT))
     return value(found[0]) if len(found) == 1 else ("null",)
+
+
+def matched(kind, text, expression):
+    if text is None or expression is None or text[0] != "text" or expression[0] != "text":
+        return False
+    return regexps.test(text[1], expression[1], kind == plans.SEARCH)
 
 
 def value(n):

@@ -7,13 +7,14 @@ EXAMPLES.json has a list `cases`. A case has an `id`, a `query`, mostly a `docum
 `expected_here`. An answer is {"nodes": [Normalized Path, ..]}, {"refused": number} or {"accept": true or false}. Where the order is `any-member` the
 RFC leaves the order of a map's members open: its list is then compared without order, repeats counted. This engine's list is always compared in order,
 since it walks members in table order. A case without a document only asks whether its query compiles: it is run on a table of one null.
+Where the data has refusal 7, which no query is given, this engine's answer is that of reference.py.
 
 The lines of stdin are described in crates/rfc_examples/src/main.rt. stdout is what the program writes if every answer is this engine's answer.
 """
 import json, os, struct, sys
 
 sys.dont_write_bytecode = True
-import tables
+import reference, tables
 
 ESCAPES = {"\b": "\\b", "\t": "\\t", "\n": "\\n", "\f": "\\f", "\r": "\\r", "'": "\\'", "\\": "\\\\"}
 
@@ -46,6 +47,15 @@ def answer(wanted, order, numbers):
     return ("accepted" if wanted["accept"] else "refused"), "-"
 
 
+def by_reference(case, table, text):
+    refusal, count, places = reference.select(case["query"].encode(), table, text, len(table), 0)
+    if refusal:
+        return "refused", "%02x" % refusal
+    if "document" not in case:
+        return "accepted", "-"
+    return "list", b"".join(struct.pack("<H", places[i]) for i in range(count)).hex() or "-"
+
+
 def agree(here, rfc):
     """Whether an answer that is this engine's is also the RFC's."""
     if rfc[0] == "members":
@@ -64,7 +74,7 @@ def main():
         document = case.get("document")
         table, text = tables.build(document)
         numbers = node_numbers(document)
-        here = answer(case["expected_here"], "fixed", numbers)
+        here = by_reference(case, table, text) if case["expected_here"] == {"refused": 7} else answer(case["expected_here"], "fixed", numbers)
         rfc = answer(case["rfc"], case.get("order"), numbers)
         words = [case["id"], case["query"].encode().hex(), table.hex(), text.hex() or "-", *here, *rfc]
         stdin.append(" ".join(words) + "\n")

@@ -123,6 +123,36 @@ code("18")
 code("02 0A 18 02 0A 18")
 code("02 0A 02 0A 02 0A 14 00")
 code("02 0A 14 00")
+# document 02, W4: match and search stand behind two operands of a value parameter, and are tests without an 18
+code("12 00 00 01 00 12 01 00 01 00 1C", True, b"ab")
+code("12 00 00 01 00 12 01 00 01 00 1D", True, b"ab")
+code("12 00 00 01 00 12 01 00 01 00 1C 15", True, b"ab")
+code("12 00 00 01 00 12 01 00 01 00 1C 18", False, b"ab")
+code("12 00 00 01 00 12 01 00 01 00 1C 18 15", False, b"ab")
+code("12 00 00 01 00 12 01 00 01 00 1E", False, b"ab")
+code("12 01 00 01 00 12 00 00 01 00 1C", False, b"ab")
+code("02 0A 02 0A 1C", True)
+code("02 0A 02 0A 1D 15 15", True)
+code("02 0A 19 13 02 1C", True)
+code("02 0A 1A 02 0A 1B 1D", True)
+code("02 0A 1C")
+code("1C")
+code("02 0A 02 0A 02 0A 1C")
+code("02 03 01 00 08 0A 13 01 1C")
+code("13 01 02 03 01 00 08 0A 1D")
+code("02 0A 18 13 01 1C")
+code("13 01 02 0A 18 1C")
+code("02 0A 02 0A 1C 02 0A 1D")
+code("02 0A 02 0A 1C 19")
+code("02 0A 02 0A 1C 1A 18 15")
+code("02 0A 02 0A 1C 13 01 14 00")
+code("02 0A 02 0A 1C 16 05 00 02 0A 02 0A 1D", True)
+code("02 0A 18 17 06 00 02 0A 02 0A 1D 15", True)
+code("02 0A 18 17 06 00 02 0A 02 0A 1D 18")
+# no expression is looked at
+code("12 00 00 01 00 12 01 00 01 00 1C", True, b"a(")
+code("12 00 00 00 00 12 00 00 07 D0 1D", False, b"a" * 2000)
+code("12 00 00 00 00 12 00 00 D0 07 1D", True, b"a" * 2000)
 # 30: grouping
 form(filtered(("and", ("and", A, B), C)))
 form(filtered(("and", A, ("and", B, C))))
@@ -146,6 +176,9 @@ for n, verdict in ((127, True), (128, True), (129, False)):
     form(filtered(("compare", 0, ("function", nested(n - 2, lambda f: (0x1A, ("function", f)), COUNT)), ONE)), verdict)
     form(filtered(("notvalue", nested(n - 3, lambda f: (0x1A, ("function", f)), COUNT))), verdict)
     form(filtered(nested(n - 2, lambda t: ("not", t), ("notvalue", COUNT))), n < 128)
+for n, verdict in ((128, True), (129, False)):
+    form(filtered(nested(n - 2, lambda t: ("not", t), ("regex", 0x1C, ONE, ONE))), verdict)
+    form(filtered(("regex", 0x1D, ONE, ("function", nested(n - 3, lambda f: (0x1A, ("function", f)), COUNT)))), verdict)
 form(filtered(nested(500, lambda t: ("and", t, A), B)))
 # `$[?@||@&&!@` 32 times over, closed, reaches 128
 THIRTY_TWO = root()
@@ -220,6 +253,8 @@ def some_selector(depth, single):
 
 def some_test(depth):
     kind = rng.randrange(6 if depth else 4)
+    if rng.randrange(6) == 0:
+        return ("regex", rng.choice((0x1C, 0x1D)), some_argument(depth), some_argument(depth))
     if kind == 0:
         return ("exists", some_query(depth, rng.choice((1, 2))))
     if kind == 1:
@@ -253,17 +288,17 @@ def changed(data):
     data, at = bytearray(data), rng.randrange(len(data))
     way = rng.randrange(4)
     if way == 0:
-        data[at] = rng.choice(tuple(range(0x1C)) + (255,))
+        data[at] = rng.choice(tuple(range(0x1F)) + (255,))
     elif way == 1:
         del data[at]
     elif way == 2:
-        data.insert(at, rng.randrange(0x1C))
+        data.insert(at, rng.randrange(0x1F))
     else:
         data[at] ^= 1 << rng.randrange(8)
     return bytes(data)
 
 
-for i in range(90):
+for i in range(68):
     plan, pool = translate(some_query(3, 1))
     if len(plan) < 160:
         ROWS.append((plan, pool, True))

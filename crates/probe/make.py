@@ -402,7 +402,7 @@ def changed(r, plan, pool):
         at = r.randrange(len(pool))
         return plan, r.choice([pool[:at] + bytes([r.randrange(256)]) + pool[at + 1:], pool[:at] + pool[at + 1:], pool + b"a"])
     at = r.randrange(len(plan))
-    new = bytes([r.choice([0, 1, 2, 3, 4, 5, 6, 8, 9, 10, 16, 19, 20, 21, 22, 24, 25, 255])])
+    new = bytes([r.choice([0, 1, 2, 3, 4, 5, 6, 8, 9, 10, 16, 19, 20, 21, 22, 24, 25, 28, 29, 255])])
     return r.choice([plan[:at] + new + plan[at + 1:], plan[:at] + plan[at + 1:], plan[:at] + new + plan[at:]]), pool
 
 

@@ -15,7 +15,7 @@ const QUERIES: [&str; 10] = [
     "$.rows[?@.price == null].name",
     "$.rows[?count(@.*) == 3].qty",
     "$.rows[?@.price >= 1 && @.qty].price",
-    "$.rows[?match(@.name, 'b.*')]",
+    "$.rows[?match(@.name, 'b.*')].name",
     "$.rows[*",
 ];
 

@@ -26,6 +26,8 @@ const TEST: u8 = 0x18;
 const COUNT: u8 = 0x19;
 const LENGTH: u8 = 0x1A;
 const VALUE: u8 = 0x1B;
+const MATCH: u8 = 0x1C;
+const SEARCH: u8 = 0x1D;
 
 /// The length of the body that a kind fixes.
 fn body_length(kind: u8) -> usize {
@@ -178,6 +180,8 @@ impl fmt::Display for Item<'_> {
             COUNT => f.write_str("count"),
             LENGTH => f.write_str("length"),
             VALUE => f.write_str("value"),
+            MATCH => f.write_str("match"),
+            SEARCH => f.write_str("search"),
             other => write!(f, "item of kind {other:#04x}"),
         }
     }

@@ -24,11 +24,43 @@
 //! In the repository, `docs/REFERENCE.md` has the exact rules, and `docs/RFC9535.md` every difference from RFC 9535,
 //! which defines JSONPath.
 //!
+//! # Expressions
+//!
+//! `match(text, expression)` holds where the expression describes the whole of the text, and `search(text, expression)`
+//! where it describes some part of it. An expression is of RFC 9485 (I-Regexp), up to 1,024 bytes: characters, `.`,
+//! `[a-z]`, `[^a-z]`, groups, `|`, `?`, `*`, `+`, `{2}`, `{2,}` and `{2,5}`, with counts up to 64.
+//!
+//! ```
+//! use stewpebble::{select, Table};
+//!
+//! let table: Table = r#"["b7", "b42", "ab7", "b", 7, "a.b"]"#.parse()?;
+//! assert_eq!(select("$[?match(@, 'b[0-9]+')]", &table)?.numbers(), [1, 2]);
+//! assert_eq!(select("$[?search(@, 'b[0-9]+')]", &table)?.numbers(), [1, 2, 3]);
+//! assert_eq!(select("$[?!search(@, 'b')]", &table)?.numbers(), [5]);
+//! // In the quotes of a query a backslash is written twice.
+//! assert_eq!(select(r"$[?search(@, '\\.')]", &table)?.numbers(), [6]);
+//! # Ok::<(), stewpebble::Error>(())
+//! ```
+//!
+//! For who comes from other engines: there are no anchors, since match is whole; `^` and `$` are characters like any other.
+//! There are no `\d`, `\w`, `\s` and `\b`, no flags, no back references, no lazy repeats and no groups that look ahead. An
+//! expression that has one is no error: the function is then false, as it is where the text or the expression is no text.
+//!
+//! ```
+//! use stewpebble::{select, Table};
+//!
+//! let table: Table = r#"["a1", "^a", 1]"#.parse()?;
+//! assert_eq!(select("$[?search(@, '^a')]", &table)?.numbers(), [2]);
+//! assert_eq!(select(r"$[?search(@, '\\d')]", &table)?.len(), 0);
+//! assert_eq!(select(r"$[?!search(@, '\\d')]", &table)?.len(), 3);
+//! # Ok::<(), stewpebble::Error>(())
+//! ```
+//!
 //! # Hostile queries and values
 //!
 //! No query, no JSON text and no stored plan or table makes safe code of this crate panic. A run hands out at most
 //! [`DEFAULT_LIMIT`] nodes, or as many as the caller says ([`Plan::run_up_to`]). The limit bounds memory and not time: a
-//! query may visit many nodes and select few. Threads of Rust have stack enough for every call; `include/stewpebble.h` in
+//! query may visit many nodes and select few, and an expression whose counts nest may take long. Threads of Rust have stack enough for every call; `include/stewpebble.h` in
 //! the repository says how much that is.
 //!
 //! # Features

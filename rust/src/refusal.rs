@@ -36,7 +36,8 @@ pub enum Refusal {
     Type,
     /// 6: no function has this name.
     UnknownFunction,
-    /// 7: the query calls match or search, which are not run.
+    /// 7: no operation gives it, and no other refusal has its number. An archive of an earlier version gave it to queries
+    /// that call match or search.
     Regex,
     /// 8: a number has over 19 digits, an exponent outside -342..308, or is past the largest float.
     NumberBeyond,
@@ -196,7 +197,7 @@ impl fmt::Display for Refusal {
             Refusal::Syntax => write!(f, "this is not a JSONPath query, or a number in it is out of range"),
             Refusal::Type => write!(f, "a function, a comparison or a test in the query has operands of the wrong type or number; in place of !count(@.*) write !@.* or count(@.*) == 0"),
             Refusal::UnknownFunction => write!(f, "the query calls a function that does not exist"),
-            Refusal::Regex => write!(f, "the functions match and search are not supported"),
+            Refusal::Regex => write!(f, "this library is of an earlier version, without the functions match and search"),
             Refusal::NumberBeyond => write!(f, "a number in the query has more than 19 digits, too large or small an exponent, or is too large for a float"),
             Refusal::TableSize { records, texts } => table_size(f, records, texts),
             Refusal::TableRule { node } => write!(f, "the table breaks a rule of tables, first at node {node}"),

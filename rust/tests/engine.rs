@@ -41,7 +41,7 @@ fn refusals_tell_why() {
         ("$[?count(1) == 1]", 5, "a function, a comparison or a test in the query has operands of the wrong type or number; in place of !count(@.*) write !@.* or count(@.*) == 0"),
         ("$[?!count(@.*)]", 5, "a function, a comparison or a test in the query has operands of the wrong type or number; in place of !count(@.*) write !@.* or count(@.*) == 0"),
         ("$[?f(@)]", 6, "the query calls a function that does not exist"),
-        ("$[?match(@.a, 'x')]", 7, "the functions match and search are not supported"),
+        ("$[?match(@, 'x') == true]", 5, "a function, a comparison or a test in the query has operands of the wrong type or number; in place of !count(@.*) write !@.* or count(@.*) == 0"),
         ("$[?@ == 1e999]", 8, "a number in the query has more than 19 digits, too large or small an exponent, or is too large for a float"),
     ] {
         let refusal = compile(query).unwrap_err();
@@ -211,6 +211,55 @@ fn stored_plans_run_as_before() {
     }
     assert_eq!(select("$[?!@.*]", &sample()).unwrap().into_numbers(), [2]);
     assert_eq!(select("$[?count(@.*) == 0]", &sample()).unwrap().into_numbers(), [2]);
+}
+
+#[test]
+fn expressions() {
+    let table: Table = r#"{"t":["bolt","nut","b","bo\nlt","é😀","a.b",4,null,["b"]],"e":["b.*","(",4,"[a-u]{3}"]}"#.parse().unwrap();
+    let names = select("$.t[*]", &table).unwrap().into_numbers();
+    for (test, selected) in [
+        ("match(@, 'b.*')", &[0, 2][..]),
+        ("search(@, 'b')", &[0, 2, 3, 5]),
+        ("!search(@, 'b')", &[1, 4, 6, 7, 8]),
+        ("match(@, '[a-u]{3}')", &[1]),
+        ("match(@, $.e[3])", &[1]),
+        ("match(@, $.e[0])", &[0, 2]),
+        ("search(@, $.e[1])", &[]),
+        ("search(@, $.e[2]) || match($.x, @)", &[]),
+        ("match(@, 'bo(\\\\n|x)?lt')", &[0, 3]),
+        ("match(@, '..')", &[4]),
+        ("match(@, '[é][😀-😂]')", &[4]),
+        ("search(@, '\\\\.')", &[5]),
+        ("search(@, '^b')", &[]),
+        ("search(@, '\\\\d')", &[]),
+        ("search(@, '')", &[0, 1, 2, 3, 4, 5]),
+        ("match(@, 'a{65}|b')", &[]),
+        ("match(@, 'a{64}|b')", &[2]),
+    ] {
+        let query = format!("$.t[?{test}]");
+        let wanted: Vec<u32> = selected.iter().map(|&i: &usize| names[i]).collect();
+        assert_eq!(select(&query, &table).unwrap().into_numbers(), wanted, "{query}");
+        assert_eq!(compile(&query).unwrap().run(&table).unwrap().into_numbers(), wanted, "{query}");
+    }
+}
+
+#[test]
+fn plans_of_match_and_search() {
+    let plan = compile("$[?match('a','b')]").unwrap();
+    assert_eq!(plan.bytes().0[7..], [0x12, 0, 0, 1, 0, 0x12, 1, 0, 1, 0, 0x1C, 0x0A]);
+    let words: Vec<String> = compile("$[?!search(@,'b')]").unwrap().items().map(|item| item.to_string()).collect();
+    assert_eq!(words[2..], ["filter, 9 bytes", "query from @", "end of the query", "text \"b\"", "search", "not", "end of the query"]);
+    // A test item behind one is the plan of no query.
+    let (bytes, pool) = plan.bytes();
+    let mut tested = bytes.to_vec();
+    tested[5] += 1;
+    tested.insert(18, 0x18);
+    assert_eq!(Plan::from_bytes(tested, pool.to_vec()).unwrap_err(), Refusal::Plan);
+    for query in ["$[?match('a')]", "$[?match(@.*, 'a')]", "$[?length(match('a','b')) == 1]", "$[?search('a','b') != 1]", "$[?match('a','b','c')]"] {
+        assert_eq!(compile(query).unwrap_err(), Refusal::Type, "{query}");
+    }
+    // No expression is looked at before it is used.
+    assert!(compile("$[?match('a', '(')]").is_ok());
 }
 
 #[test]

@@ -86,7 +86,7 @@ fn refusals_in_words() {
         ("$[?count(1) == 1]", 5, "wrong type or number", "count(..) and value(..) take a query"),
         ("$[?!count(@.*)]", 5, "write !@.* or count(@.*) == 0", "write !@.* to ask whether there is nothing"),
         ("$[?f(@)]", 6, "a function that does not exist", "in small letters"),
-        ("$[?match(@, 'a')]", 7, "match and search", "no regular expressions"),
+        ("$[?match(@, 'a') == true]", 5, "wrong type or number", "they are compared with nothing"),
         ("$[?@ == 1e999]", 8, "more than 19 digits", "-342 to 308"),
     ] {
         let (status, out, said) = on_sample(&[query]);

@@ -84,12 +84,17 @@ def function(deep):
     return name + "(" + (operand(0) if name == "length" else query(deep, "@", 3)) + ")"
 
 
+def expression_test():
+    name, text = pick.choice(["match", "search", "!match", "!search"]), pick.choice(["@", "@", single(), "value(@.*)", quoted()])
+    return name + "(" + text + ", " + pick.choice(["'a'", "'[ab]'", "'a*'", "'.'", "'(a|é)+'", "'^a'", "''", "'a{2}|b'", "'('", "'[^a]{1,}'", single()]) + ")"
+
+
 def test(deep):
     sort = pick.randrange(9)
     if sort < 4:
         return operand(deep) + pick.choice([" == ", "!=", "<", "<=", ">", ">="]) + operand(deep)
     if sort < 6:
-        return pick.choice([query(deep, "@", 3), query(deep, "@", 3), "match(@.a, 'a')"])
+        return pick.choice([query(deep, "@", 3), query(deep, "@", 3), expression_test()])
     if sort == 6:
         return "!" + pick.choice([query(deep, "@", 3), "(" + test(0) + ")", function(0)])
     return "(" + test(0) + ")" + pick.choice([" && ", " || "]) + test(0)

@@ -48,12 +48,14 @@ fn advice(refusal: &Refusal) -> &'static str {
         }
         Refusal::Type => {
             "count(..) and value(..) take a query; length(..) takes a literal, a query that selects at\n\
-             most one node, or a function. Only these can be compared: literals, queries that select at\n\
-             most one node (no * and .. and slice), and functions. A function alone is no test, and ! takes\n\
-             none: write !@.* to ask whether there is nothing, and count(@.*) == 0 to ask for a number."
+             most one node, or one of these three. Only these can be compared: literals, queries that select\n\
+             at most one node (no * and .. and slice), and these functions. None of them alone is a test, and\n\
+             ! takes none: write !@.* to ask whether there is nothing, and count(@.*) == 0 to ask for a number.\n\
+             match(..) and search(..) take a text and an expression, each as length takes its operand, and\n\
+             are tests: they are compared with nothing."
         }
-        Refusal::UnknownFunction => "The functions are count, length and value, in small letters.",
-        Refusal::Regex => "There are no regular expressions here. Select more, and look at the texts afterwards.",
+        Refusal::UnknownFunction => "The functions are count, length, value, match and search, in small letters.",
+        Refusal::Regex => "Make the library and the tool from one version.",
         Refusal::NumberBeyond => {
             "Whole numbers up to 9,223,372,036,854,775,807 are read as integers. Every other number is\n\
              read as the nearest float: it may have 19 digits, its exponent less the digits of its\n\

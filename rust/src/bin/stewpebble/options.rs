@@ -20,6 +20,7 @@ Each selected value is written as a line of JSON.
 Exit status: 0 if values were found, 1 if there were none, 2 if refused.
 
     stewpebble '$.rows[?@.qty > 5].name' order.json
+    stewpebble '$.rows[?match(@.name, \"b.*\")]' order.json
     echo '[1,2,3]' | stewpebble --paths '$[-1]'
 ";
 
