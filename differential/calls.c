@@ -40,7 +40,18 @@ int main(void) {
     table[24] = 9;
     expect("table check of a wrong kind", stewpebble_check_table(table, sizeof table, text, TEXT, &a), 10);
     expect("its node", a, 1);
+    expect("the records of a wrong kind", stewpebble_check_records(table, sizeof table, text, TEXT, &a), 10);
+    expect("their node", a, 1);
+    expect("the texts beside a wrong kind", stewpebble_check_texts(table, sizeof table, text, TEXT, &a), 0);
+    expect("their node", a, 0);
     table[24] = 6;
+    table[68] = 9;
+    expect("table check of a text past the end", stewpebble_check_table(table, sizeof table, text, TEXT, &a), 17);
+    expect("its node", a, 2);
+    expect("the records beside a text past the end", stewpebble_check_records(table, sizeof table, text, TEXT, &a), 0);
+    expect("the texts", stewpebble_check_texts(table, sizeof table, text, TEXT, &a), 17);
+    expect("their node", a, 2);
+    table[68] = 2;
 
     static const uint8_t sample[] = {1, 3, 1, 0, 5, 0, 0, 1, 0, 3, 1, 0, 6, 1, 0, 0, 0, 0, 0, 0, 0, 10};
     expect("compile", stewpebble_compile(BYTES("$.a[1]"), plan, sizeof plan, pool, sizeof pool, &a, &b), 0);

@@ -1,4 +1,4 @@
-"""Compares what the fuzzer lists with tools/reference.py, tools/plans.py and tools/tables.py, which say the rules apart from the engine;
+"""Compares what the fuzzer lists with tools/reference.py, tools/plans.py and tools/tables.py, which say documents 01 and 02 apart from the engine;
 regexps.py, which the first of them uses, has the expressions of match and search. Refusal 7, which no input has, is none of their answers.
 
     fuzz list-queries 5 | python3 fuzz/compare.py
@@ -22,6 +22,9 @@ def compare(what, words):
         return got, reference.compile(octets(words[0]), 1 << 20, 1 << 20)
     if what == "plan":
         return int(words[2]), 11 if plans.form_of(octets(words[0]), octets(words[1])) is None else 0
+    if what in ("records", "texts", "table"):
+        wrong = {"records": tables.check_records, "texts": tables.check_texts, "table": tables.check}[what](octets(words[0]), octets(words[1]))
+        return tuple(map(int, words[2:])), (0, 0) if wrong is None else (9, 0) if wrong == 9 else wrong
     if what in ("text", "key"):
         table, text = octets(words[0]), octets(words[1])
         node, refusal, start, length = map(int, words[2:])
@@ -32,7 +35,7 @@ def compare(what, words):
         return (refusal, needed + wrong, octets(words[7])), tables.path(table, text, node, length)
     inputs = 3 if what == "select" else 4
     length, start, refusal, count, node = map(int, words[inputs:inputs + 5])
-    got = refusal, node if refusal == 10 else count, dict(enumerate(map(int, words[inputs + 5:]), start))
+    got = refusal, node if refusal in (10, 17) else count, dict(enumerate(map(int, words[inputs + 5:]), start))
     return got, getattr(reference, what)(*map(octets, words[:inputs]), length, start)
 
 

@@ -33,6 +33,7 @@ uint32_t WRAP(check_table)(const uint8_t *table, size_t n, const uint8_t *text, 
     case 10: if (r == 0) *node = 1; break;                           // a node with no refusal
     case 11: if (m == 5) sink = text[m + 100]; break;                // reads far behind the text
     case 12: node[1] = 3; break;                                     // writes behind a lent number
+    case 22: if (r == 10) r = 17; break;                             // 17 for a wrong record
     }
     return r;
 }

@@ -23,8 +23,8 @@
 
 typedef const uint8_t *Bytes;
 enum { GUARD = 1 << 20, SLACK = 64, STACK = STEWPEBBLE_QUERY_STACK, MOST_NODES = 65535, MOST_TEXT = 16777216, PLACES = 4096 };
-enum { COMPILE, PLAN, TALLY, TABLE, RUN, SELECT, TEXT, KEY, PATH, OPERATIONS };
-static const char *names[] = {"compile", "plan check", "tally", "table check", "run", "select", "text of a node", "key of a node", "path of a node"};
+enum { COMPILE, PLAN, TALLY, RECORDS, TEXTS, TABLE, RUN, SELECT, TEXT, KEY, PATH, OPERATIONS };
+static const char *names[] = {"compile", "plan check", "tally", "record check", "text check", "table check", "run", "select", "text of a node", "key of a node", "path of a node"};
 static unsigned long long counts[OPERATIONS][22], round_number, wrongs;
 static uint64_t seed = 1;
 
@@ -241,20 +241,35 @@ static uint32_t check_plan(Bytes p, size_t n, Bytes o, size_t m) {
     return was;
 }
 
-static Answer check_table(Bytes t, size_t n, Bytes x, size_t m) {
+// A check of a table: its records alone, its texts and keys alone, or both.
+static Answer check_by(int operation, Bytes t, size_t n, Bytes x, size_t m) {
     Answer was = {0, 0, 0};
     for (int pass = 0; pass < 2; pass++) {
-        begin(TABLE, pass, 0, 0, 0);
+        begin(operation, pass, 0, 0, 0);
         Bytes table = lend(&table_in, "table", t, n, pass), text = lend(&text_in, "text", x, m, pass);
         uint64_t *a = number(&first_out, pass);
         room(&second_out, 8, pass);
-        Answer r = answered(stewpebble_check_table(table, n, text, m, a), a, 0, pass);
+        uint32_t refusal = operation == RECORDS ? stewpebble_check_records(table, n, text, m, a)
+                           : operation == TEXTS ? stewpebble_check_texts(table, n, text, m, a) : stewpebble_check_table(table, n, text, m, a);
+        Answer r = answered(refusal, a, 0, pass);
         if (pass) CHECK(same(r, was));
         was = r;
     }
-    CHECK((was.refusal == 9) == sizes_wrong(n, m) && (was.refusal == 0 || was.refusal == 9 || was.refusal == 10));
-    CHECK(was.refusal == 10 ? was.first < n / 24 : was.first == 0);
+    uint32_t r = was.refusal;
+    CHECK((r == 9) == sizes_wrong(n, m) && (r == 0 || r == 9 || (r == 10 && operation != TEXTS) || (r == 17 && operation != RECORDS)));
+    CHECK(r == 10 || r == 17 ? was.first < n / 24 : was.first == 0);
+    if (printing) {
+        printf(operation == RECORDS ? "records" : operation == TEXTS ? "texts" : "table");
+        hex(t, n), hex(x, m), printf(" %u %llu\n", r, (unsigned long long)was.first);
+    }
     return was;
+}
+
+// The pair, beside both checks alone: it is the first, and where that accepts the second.
+static Answer check_table(Bytes t, size_t n, Bytes x, size_t m) {
+    Answer both = check_by(TABLE, t, n, x, m), records = check_by(RECORDS, t, n, x, m), texts = check_by(TEXTS, t, n, x, m);
+    CHECK(same(both, records.refusal ? records : texts));
+    return both;
 }
 
 // Run of a plan, or select where `q` is given. The places written go to `listed`, and their number to `places`.
@@ -283,9 +298,9 @@ static Answer run(Bytes q, size_t qn, Bytes p, size_t pn, Bytes o, size_t on, By
         was = r;
     }
     uint32_t r = was.refusal;
-    CHECK(r == 0 || r == 9 || r == 10 || r == 13 || r == 14 || (q ? r <= 8 && r != 7 : r == 11));
+    CHECK(r == 0 || r == 9 || r == 10 || r == 17 || r == 13 || r == 14 || (q ? r <= 8 && r != 7 : r == 11));
     if (r) CHECK(was.first == 0);
-    if (r != 10) CHECK(was.second == 0);
+    if (r != 10 && r != 17) CHECK(was.second == 0);
     for (size_t i = 0; i < places; i++) CHECK(listed[i] < n / 24);
     if (printing) {
         printf(q ? "select" : "run");
@@ -691,7 +706,7 @@ static void lists(Bytes q, size_t qn, Bytes p, size_t pn, Bytes o, size_t on, ui
     memcpy(all, listed, 4 * many);
     uint32_t first = refused ? refused : checked.refusal;
     if (first) {
-        CHECK(r.refusal == first && r.second == (first == 10 ? checked.first : 0));
+        CHECK(r.refusal == first && r.second == (first == 10 || first == 17 ? checked.first : 0));
         Answer s = run(q, qn, p, pn, o, on, t, n, x, m, 2, 3);
         CHECK(same(r, s));
         return;

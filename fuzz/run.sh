@@ -43,7 +43,7 @@ fi
 
 echo "== faults that must be found"
 cc $flags -c -o target/fuzz/fuzz.o fuzz/fuzz.c
-for fault in $(seq 0 21); do
+for fault in $(seq 0 22); do
     cc -O1 -Wall -Wextra -DFAULT="$fault" -c -o target/fuzz/faults.o fuzz/faults.c
     cc -pthread -o $fuzz-faults target/fuzz/fuzz.o target/fuzz/faults.o "$archive" \
         -Wl,--wrap=stewpebble_compile,--wrap=stewpebble_check_table,--wrap=stewpebble_select,--wrap=stewpebble_path_of_node
@@ -55,4 +55,4 @@ for fault in $(seq 0 21); do
         exit 1
     fi
 done
-echo "21 faults found"
+echo "22 faults found"

@@ -53,13 +53,14 @@ enum stewpebble_refusal {
     STEWPEBBLE_REFUSED_REGEX = 7,            // given to no input, and its number to no other refusal
     STEWPEBBLE_REFUSED_NUMBER_BEYOND = 8,    // a number literal has N of ten to the 19 or more, E outside -342..308, or is past the largest float
     STEWPEBBLE_REFUSED_TABLE_SIZE = 9,       // no whole number of records, none, or over 65,535; or over 16,777,216 bytes of text
-    STEWPEBBLE_REFUSED_TABLE_RULE = 10,      // a rule of tables fails; the least such node is set
+    STEWPEBBLE_REFUSED_TABLE_RULE = 10,      // a rule on records fails; the least such node is set
     STEWPEBBLE_REFUSED_PLAN = 11,            // the plan and the pool are those of no query
     STEWPEBBLE_REFUSED_ROOM_TOO_SMALL = 12,  // of the plan or the pool; both lengths that are needed are set
     STEWPEBBLE_REFUSED_LIST_FULL = 13,       // more nodes are selected than there are places from the start position
     STEWPEBBLE_REFUSED_START_BEYOND = 14,    // the start position is beyond the list's end
     STEWPEBBLE_REFUSED_NO_SUCH_TEXT = 15,    // no such node, or it has no text or no key
     STEWPEBBLE_REFUSED_PATH_ROOM = 16,       // the room for a path is too small; the length that is needed is set
+    STEWPEBBLE_REFUSED_TEXT_RULE = 17,       // a text or a key is outside the text or not UTF-8, or a key is there twice; the least such node is set
     STEWPEBBLE_REFUSED_COUNT_FULL = 21       // a count, or the number of plans, would pass 2^53-1
 };
 
@@ -83,6 +84,7 @@ static inline const char *stewpebble_refusal_words(uint32_t refusal) {
     case STEWPEBBLE_REFUSED_START_BEYOND: return "the start position is beyond the end of the list";
     case STEWPEBBLE_REFUSED_NO_SUCH_TEXT: return "there is no such node, or it has no such text";
     case STEWPEBBLE_REFUSED_PATH_ROOM: return "the room for the path is too small";
+    case STEWPEBBLE_REFUSED_TEXT_RULE: return "a text or a key of the table breaks a rule";
     case STEWPEBBLE_REFUSED_COUNT_FULL: return "a count would pass 9,007,199,254,740,991";
     default: return "there is no such refusal";
     }
@@ -167,25 +169,34 @@ uint32_t stewpebble_check_plan(const uint8_t *plan, size_t plan_length, const ui
 // With a refusal nothing is counted. The counts are 256 numbers, which begin as 0.
 uint32_t stewpebble_tally(const uint8_t *plan, size_t plan_length, const uint8_t *pool, size_t pool_length, uint64_t counts[256], uint64_t *plans);
 
-// Table check: 9, 10. The least wrong node is set with 10, and 0 otherwise. A wrong first child, a range past the end and too many members count against the
-// container, a key that an earlier member has against the later member, all else against the node itself. Lengths are in bytes, 24 for each record.
+// The check of the records: 9, 10. It reads no byte of the text. The least wrong node is set with 10, and 0 otherwise. A wrong first child, a range past the end
+// and too many members count against the container, all else against the node itself. Lengths are in bytes, 24 for each record.
+uint32_t stewpebble_check_records(const uint8_t *table, size_t table_length, const uint8_t *text, size_t text_length, uint64_t *node);
+
+// The check of the texts and keys: 9, 17. Texts and the keys of members lie inside the text and are UTF-8, and the keys of a map are pairwise different; an equal
+// key counts against the later member. The least wrong node is set with 17, and 0 otherwise. The records may be wrong: the members of a map are the nodes of the
+// range that its record writes, as far as the table reaches. Its time is that of both checks where the records are right, and else up to n * n for n nodes.
+uint32_t stewpebble_check_texts(const uint8_t *table, size_t table_length, const uint8_t *text, size_t text_length, uint64_t *node);
+
+// Both, in one pass: 9, 10, 17. The first over all nodes, then the second; this is what run, select, text, key and path ask of a table. The least wrong node is set
+// with 10 and with 17, and 0 otherwise.
 uint32_t stewpebble_check_table(const uint8_t *table, size_t table_length, const uint8_t *text, size_t text_length, uint64_t *node);
 
-// Run: 11, 9, 10, 14, 13. The nodes selected are written into the list from the start position on, in the order of the query, repeats kept. Their number is
-// set, and 0 with every refusal; the least wrong node is set with 10, and 0 otherwise. The list's length is in places. Since repeats are kept, no length is
+// Run: 11, 9, 10, 17, 14, 13. The nodes selected are written into the list from the start position on, in the order of the query, repeats kept. Their number is
+// set, and 0 with every refusal; the least wrong node is set with 10 and 17, and 0 otherwise. The list's length is in places. Since repeats are kept, no length is
 // enough for every query; a table's number of nodes is enough for those that select no node twice.
 uint32_t stewpebble_run(const uint8_t *plan, size_t plan_length, const uint8_t *pool, size_t pool_length, const uint8_t *table, size_t table_length, const uint8_t *text, size_t text_length, uint32_t *list, size_t list_length, size_t start, uint64_t *count, uint64_t *node);
 
-// Select: compile and run in one, for a query that is asked once. 1 to 6 and 8 as for compile, then 9, 10, 14, 13, with the same numbers as run.
+// Select: compile and run in one, for a query that is asked once. 1 to 6 and 8 as for compile, then 9, 10, 17, 14, 13, with the same numbers as run.
 uint32_t stewpebble_select(const uint8_t *query, size_t query_length, const uint8_t *table, size_t table_length, const uint8_t *text, size_t text_length, uint32_t *list, size_t list_length, size_t start, uint64_t *count, uint64_t *node);
 
-// Text of a node and key of a node: 9, 10, 15. Where the part of the text that holds it starts and its length are set, and 0 and 0 with every refusal. Each
+// Text of a node and key of a node: 9, 10, 17, 15. Where the part of the text that holds it starts and its length are set, and 0 and 0 with every refusal. Each
 // call checks the whole table; of a table that was accepted and has not changed, the record tells the same.
 uint32_t stewpebble_text_of_node(const uint8_t *table, size_t table_length, const uint8_t *text, size_t text_length, size_t node, uint64_t *start, uint64_t *length);
 uint32_t stewpebble_key_of_node(const uint8_t *table, size_t table_length, const uint8_t *text, size_t text_length, size_t node, uint64_t *start, uint64_t *length);
 
-// Path of a node: 9, 10, 15, 16. The Normalized Path of the node (RFC 9535, section 2.7), as $['a'][0], is written into the first bytes of the room, without a 0
-// behind it. Its length is set, also with 16, and 0 with every other refusal; the least wrong node is set with 10, and 0 otherwise. A path of at most 4,096
+// Path of a node: 9, 10, 17, 15, 16. The Normalized Path of the node (RFC 9535, section 2.7), as $['a'][0], is written into the first bytes of the room, without a 0
+// behind it. Its length is set, also with 16, and 0 with every other refusal; the least wrong node is set with 10 and 17, and 0 otherwise. A path of at most 4,096
 // bytes, compiled and run on the same table, selects that node alone. A length may pass 32 bits, since keys may share their bytes of the text.
 uint32_t stewpebble_path_of_node(const uint8_t *table, size_t table_length, const uint8_t *text, size_t text_length, size_t node, uint8_t *room, size_t room_length, uint64_t *length, uint64_t *wrong);
 

@@ -596,7 +596,7 @@ def listed(q, table, text, length, start):
     """The refusal or 0, the count or the node, and the places that are written, by their numbers."""
     wrong = tables.check(table, text)
     if wrong is not None:
-        return (9, 0, {}) if wrong == 9 else (10, wrong[1], {})
+        return (9, 0, {}) if wrong == 9 else (*wrong, {})
     if start > length:
         return 14, 0, {}
     root = tree(table, text)

@@ -4,7 +4,7 @@ import struct
 NULL, FALSE, TRUE, INTEGER, FLOAT, STRING, LIST, MAP = range(8)
 
 
-# ---- document 01's rules
+# ---- the rules of documents 01 and 02
 
 def is_utf8(s):
     try:
@@ -18,20 +18,26 @@ def is_part(text, start, size):
     return start + size <= len(text) and is_utf8(text[start:start + size])
 
 
-def check(table, text):
-    """None if the table is accepted, 9, or (10, node)."""
-    if not table or len(table) % 24 or len(table) // 24 > 65535 or len(text) > 16777216:
+def wrong_size(table, text):
+    return not table or len(table) % 24 != 0 or len(table) // 24 > 65535 or len(text) > 16777216
+
+
+def records_of(table):
+    return [struct.unpack_from("<BBHIIIII", table, at) for at in range(0, len(table), 24)]
+
+
+def check_records(table, text):
+    """None if the records are right, 9, or (10, node)."""
+    if wrong_size(table, text):
         return 9
-    nodes = [struct.unpack_from("<BBHIIIII", table, at) for at in range(0, len(table), 24)]
-    parent, keys, begin = {}, {}, 1
+    nodes = records_of(table)
+    parent, begin = {}, 1
     for i, (kind, depth, zero, start, size, above, low, high) in enumerate(nodes):
         if kind > 7 or depth > 63 or zero:
             return 10, i
         if kind in (NULL, FALSE, TRUE) and (low or high):
             return 10, i
         if kind == FLOAT and high >> 20 & 2047 == 2047:
-            return 10, i
-        if kind == STRING and not is_part(text, low, high):
             return 10, i
         if kind in (LIST, MAP):
             if high == 0 and low != 0:
@@ -49,19 +55,36 @@ def check(table, text):
             up = parent[i]
             if above != up or depth != nodes[up][1] + 1:
                 return 10, i
-            if nodes[up][0] == MAP:
-                key = text[start:start + size]
-                if not is_part(text, start, size) or key in keys[up]:
-                    return 10, i
-                keys[up].add(key)
-            elif start or size:
+            if nodes[up][0] != MAP and (start or size):
                 return 10, i
         if kind in (LIST, MAP):
-            keys[i] = set()
             for child in range(begin, begin + high):
                 parent[child] = i
             begin += high
     return None
+
+
+def check_texts(table, text):
+    """None if the texts and keys are right, whatever else the records hold, 9, or (17, node)."""
+    if wrong_size(table, text):
+        return 9
+    nodes = records_of(table)
+    ranges = [(low, low + high) for kind, *_, low, high in nodes if kind == MAP]
+    last = {}
+    for i, (kind, _, _, start, size, _, low, high) in enumerate(nodes):
+        if kind == STRING and not is_part(text, low, high):
+            return 17, i
+        key = text[start:start + size]
+        begins = [begin for begin, end in ranges if begin <= i < end]
+        if begins and (not is_part(text, start, size) or last.get(key, -1) >= min(begins)):
+            return 17, i
+        last[key] = i
+    return None
+
+
+def check(table, text):
+    """The pair: None if the table is accepted, 9, (10, node) or (17, node)."""
+    return check_records(table, text) or check_texts(table, text)
 
 
 def parents(table):
@@ -80,7 +103,7 @@ def named(table, text, node, key):
     """(0, part) or (refusal, empty)."""
     wrong = check(table, text)
     if wrong is not None:
-        return (wrong if wrong == 9 else 10), b""
+        return (wrong if wrong == 9 else wrong[0]), b""
     if node >= len(table) // 24:
         return 15, b""
     if key:
@@ -119,10 +142,10 @@ def steps(table, text, node):
 
 
 def path(table, text, node, room):
-    """(refusal, number, what is written): the number is the length needed with 0 and 16, and the node with 10."""
+    """(refusal, number, what is written): the number is the length needed with 0 and 16, and the node with 10 and 17."""
     wrong = check(table, text)
     if wrong is not None:
-        return (9, 0, b"") if wrong == 9 else (10, wrong[1], b"")
+        return (9, 0, b"") if wrong == 9 else (*wrong, b"")
     if node >= len(table) // 24:
         return 15, 0, b""
     s = steps(table, text, node)

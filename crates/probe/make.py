@@ -10,7 +10,7 @@ HERE = os.path.dirname(os.path.abspath(__file__))
 sys.dont_write_bytecode = True
 sys.path[:0] = [HERE, os.path.join(HERE, "..", "..", "tools")]
 import plans, queries, reference
-from tables import FLOAT, INTEGER, LIST, MAP, STRING, build, check, named, parents, path
+from tables import FLOAT, INTEGER, LIST, MAP, STRING, build, check, check_records, check_texts, named, parents, path
 
 NODES, TEXT, LINE, QUERY, PLAN, PLACES = 8192, 65536, 524800, 8192, 65536, 65535
 TABLE = 24 * NODES
@@ -70,6 +70,8 @@ def answer(line):
 # the room of each word of a call, None for a number
 ROOMS = {
     b"table": [TABLE, TEXT],
+    b"records": [TABLE, TEXT],
+    b"texts": [TABLE, TEXT],
     b"text": [TABLE, TEXT, None],
     b"key": [TABLE, TEXT, None],
     b"path": [TABLE, TEXT, None, None],
@@ -85,9 +87,20 @@ def shown(data):
     return data.hex() or "-"
 
 
+def checked(wrong):
+    return "ok" if wrong is None else "refused 9" if wrong == 9 else "refused %d %d" % wrong
+
+
 def answer_table(table, text):
-    wrong = check(table, text)
-    return "ok" if wrong is None else "refused 9" if wrong == 9 else "refused 10 %d" % wrong[1]
+    return checked(check(table, text))
+
+
+def answer_records(table, text):
+    return checked(check_records(table, text))
+
+
+def answer_texts(table, text):
+    return checked(check_texts(table, text))
 
 
 def answer_part(table, text, node, key):
@@ -181,6 +194,12 @@ def hexed(s):
 
 def table_line(table, text):
     say(b"table", hexed(table), hexed(text))
+
+
+def check_lines(table, text):
+    """Both checks by themselves, and the pair."""
+    for name in (b"records", b"texts", b"table"):
+        say(name, hexed(table), hexed(text))
 
 
 def broken(table, text):
@@ -280,7 +299,7 @@ def write_lines():
     for value in (EVERY, MEMBERS):
         table, text = build(value)
         for wrong in dict.fromkeys(broken(table, text)):
-            table_line(wrong, text)
+            check_lines(wrong, text)
     # a part that is not UTF-8, texts that overlap, other bytes of any kind
     table, text = build({b"kk": b"tt"})
     for new in (b"\xffktt", b"kk\xc3t", b"k\xc3tt", b"\xc3\xa9\xc3\xa9", b"\xed\xa0tt", b"kk\xc0\x80", b"k", b"kktt\xff", b""):
@@ -322,7 +341,7 @@ def write_lines():
             node = r.randrange(len(table) // 24)
             at = r.choice([0, 1, 1, 2, 4, 8, 12, 16, 16, 20, 20])
             table = put(table, node, at, bytes([r.choice([0, 1, 2, 3, 5, 6, 7, 8, 64, 255])]))
-        table_line(table, text)
+        check_lines(table, text)
         node = r.randrange(len(table) // 24 + 1)
         say(b"key" if r.randrange(2) else b"text", hexed(table), hexed(text), node)
     # the words of a line
@@ -464,6 +483,29 @@ def order_lines():
         say(b"select", hexed(many), small, empty, length, start)
 
 
+def range_lines():
+    """The texts and keys of records that are wrong: ranges as they are written, as far as the table reaches."""
+    def record(kind, depth=0, start=0, size=0, low=0, high=0, above=0):
+        return struct.pack("<BBHIIIII", kind, depth, 0, start, size, above, low, high)
+
+    text = "abé".encode()
+    a, b, past = record(0, 1, 0, 1), record(0, 1, 1, 1), record(0, 1, 3, 2)
+    whole = 0xffffffff
+    for low, high in ((1, 2), (1, 1), (2, 1), (2, 2), (0, 1), (0, 3), (0, whole), (1, whole), (2, whole), (3, 1), (9, 2), (whole, whole), (whole, 2), (1, 0)):
+        for members in ((a, a), (a, b), (b, a), (a, past), (past, a), (past, past)):
+            for kind in (MAP, LIST, 8):
+                check_lines(record(kind, 0, 0, 0, low, high) + b"".join(members), text)
+    # maps before and behind their members, and ranges that overlap
+    r = random.Random(20261117)
+    for _ in range(300):
+        n = r.randrange(1, 7)
+        check_lines(b"".join(record(r.choice([0, 3, STRING, MAP, MAP, 8]), r.randrange(2), r.randrange(4), r.randrange(3), r.choice([0, 1, 2, 3, whole]), r.choice([0, 1, 2, 3, 9, whole]), r.randrange(2)) for _ in range(n)), r.choice([text, b"aaaa", b"abab"]))
+    # a bad key at node 1 and a bad depth at node 2
+    check_lines(record(MAP, 0, 0, 0, 1, 2) + record(0, 1, 0, 9) + record(0, 5, 0, 1), text)
+    for name in (b"records", b"texts"):
+        lines.extend([name, name + b" - -", name + b" 00", name + b" 00 - 0", name + b" zz -", name + b" - z"])
+
+
 def take_lines():
     """A series of plans, accepted and refused ones mixed, the limits of a count and of the number of plans, and the words of the call."""
     counts, taken, most = [0] * KINDS, 0, reference.MAX_INT
@@ -515,6 +557,7 @@ plan_lines()
 select_lines()
 order_lines()
 word_lines()
+range_lines()
 take_lines()
 path_lines()
 with open(os.path.join(HERE, "stdin"), "wb") as f:

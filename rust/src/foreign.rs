@@ -11,6 +11,8 @@ extern "C" {
     fn stewpebble_compile(query: *const u8, query_length: usize, plan: *mut u8, plan_room: usize, pool: *mut u8, pool_room: usize, plan_length: *mut u64, pool_length: *mut u64) -> u32;
     fn stewpebble_check_plan(plan: *const u8, plan_length: usize, pool: *const u8, pool_length: usize) -> u32;
     fn stewpebble_tally(plan: *const u8, plan_length: usize, pool: *const u8, pool_length: usize, counts: *mut u64, plans: *mut u64) -> u32;
+    fn stewpebble_check_records(table: *const u8, table_length: usize, text: *const u8, text_length: usize, node: *mut u64) -> u32;
+    fn stewpebble_check_texts(table: *const u8, table_length: usize, text: *const u8, text_length: usize, node: *mut u64) -> u32;
     fn stewpebble_check_table(table: *const u8, table_length: usize, text: *const u8, text_length: usize, node: *mut u64) -> u32;
     fn stewpebble_run(plan: *const u8, plan_length: usize, pool: *const u8, pool_length: usize, table: *const u8, table_length: usize, text: *const u8, text_length: usize, list: *mut u32, list_length: usize, start: usize, count: *mut u64, node: *mut u64) -> u32;
     fn stewpebble_select(query: *const u8, query_length: usize, table: *const u8, table_length: usize, text: *const u8, text_length: usize, list: *mut u32, list_length: usize, start: usize, count: *mut u64, node: *mut u64) -> u32;
@@ -50,6 +52,20 @@ pub fn check_plan(plan: &[u8], pool: &[u8]) -> Result<(), Refused> {
 pub fn tally(plan: &[u8], pool: &[u8], counts: &mut [u64; 256], plans: &mut u64) -> Result<(), Refused> {
     // SAFETY: the slices, the 256 counts and the number of plans are borrowed for the call, as the module says.
     answer(unsafe { stewpebble_tally(plan.as_ptr(), plan.len(), pool.as_ptr(), pool.len(), counts.as_mut_ptr(), plans) }, 0, 0, ())
+}
+
+pub fn check_records(table: &[u8], text: &[u8]) -> Result<(), Refused> {
+    let mut node = 0;
+    // SAFETY: the slices and the number are borrowed for the call, as the module says.
+    let number = unsafe { stewpebble_check_records(table.as_ptr(), table.len(), text.as_ptr(), text.len(), &mut node) };
+    answer(number, node, 0, ())
+}
+
+pub fn check_texts(table: &[u8], text: &[u8]) -> Result<(), Refused> {
+    let mut node = 0;
+    // SAFETY: the slices and the number are borrowed for the call, as the module says.
+    let number = unsafe { stewpebble_check_texts(table.as_ptr(), table.len(), text.as_ptr(), text.len(), &mut node) };
+    answer(number, node, 0, ())
 }
 
 pub fn check_table(table: &[u8], text: &[u8]) -> Result<(), Refused> {
@@ -100,6 +116,6 @@ pub fn path_of_node(table: &[u8], text: &[u8], node: u32, room: &mut [u8]) -> Re
     let (mut length, mut wrong) = (0, 0);
     // SAFETY: the slices and the two numbers are borrowed for the call, as the module says.
     let number = unsafe { stewpebble_path_of_node(table.as_ptr(), table.len(), text.as_ptr(), text.len(), node as usize, room.as_mut_ptr(), room.len(), &mut length, &mut wrong) };
-    // Only 10 sets the node, and only 16 the length.
+    // Only 10 and 17 set the node, and only 16 the length.
     answer(number, length + wrong, 0, length as usize)
 }

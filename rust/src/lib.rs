@@ -104,7 +104,7 @@ pub use node::{Kind, Node, Nodes};
 pub use path::Path;
 pub use plan::{compile, compile_bytes, select, select_into, select_up_to, Plan, DEFAULT_LIMIT};
 pub use refusal::Refusal;
-pub use table::{check_table, key_of_node, path_of_node, text_of_node, Table};
+pub use table::{check_records, check_table, check_texts, key_of_node, path_of_node, text_of_node, Table};
 pub use tally::Tally;
 pub use value::Value;
 

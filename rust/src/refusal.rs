@@ -48,9 +48,14 @@ pub enum Refusal {
         /// The bytes of the texts.
         texts: usize,
     },
-    /// 10: a rule of tables fails.
+    /// 10: a rule on records fails.
     TableRule {
         /// The least node at which a rule fails.
+        node: u32,
+    },
+    /// 17: a text or a key lies outside the texts or is not UTF-8, or two members of a map have one key.
+    TextRule {
+        /// The least node at which a rule fails; of two equal keys that of the later member.
         node: u32,
     },
     /// 11: the plan and the pool are those of no query.
@@ -140,6 +145,7 @@ impl Refusal {
             12 => Refusal::RoomTooSmall { plan: refused.first as usize, pool: refused.second as usize },
             13 => Refusal::ListFull { places: given.places.saturating_sub(given.start) },
             14 => Refusal::StartBeyond { start: given.start, places: given.places },
+            17 => Refusal::TextRule { node: refused.first as u32 },
             21 => Refusal::CountFull,
             number => Refusal::Unknown { number },
         }
@@ -169,6 +175,7 @@ impl Refusal {
             Refusal::StartBeyond { .. } => 14,
             Refusal::NoSuchNode { .. } | Refusal::NoText { .. } | Refusal::NoKey { .. } => 15,
             Refusal::PathRoom { .. } => 16,
+            Refusal::TextRule { .. } => 17,
             Refusal::CountFull => 21,
             Refusal::Unknown { number } => *number,
         }
@@ -201,6 +208,7 @@ impl fmt::Display for Refusal {
             Refusal::NumberBeyond => write!(f, "a number in the query has more than 19 digits, too large or small an exponent, or is too large for a float"),
             Refusal::TableSize { records, texts } => table_size(f, records, texts),
             Refusal::TableRule { node } => write!(f, "the table breaks a rule of tables, first at node {node}"),
+            Refusal::TextRule { node } => write!(f, "a text or a key of the table breaks a rule of tables, first at node {node}"),
             Refusal::Plan => write!(f, "the plan is damaged"),
             Refusal::RoomTooSmall { plan, pool } => write!(f, "the plan needs {} bytes and its pool {}", grouped(plan), grouped(pool)),
             Refusal::ListFull { places } => write!(f, "more nodes are selected than the {} places that the list has for them", grouped(places)),

@@ -29,7 +29,38 @@ pub struct Table {
     pub(crate) texts: Vec<u8>,
 }
 
-/// Checks a table of values: records of 24 bytes, and their texts.
+/// Checks the records of a table alone: kinds, depths, parents, ranges of children and numbers. No text is read, so this is
+/// the check to make where numbers changed and texts did not.
+///
+/// ```
+/// use stewpebble::{check_records, check_texts, Refusal, Table};
+///
+/// let table: Table = r#"["x"]"#.parse()?;
+/// assert_eq!(check_records(table.records(), table.texts()), Ok(()));
+/// assert_eq!(check_records(table.records(), b""), Ok(()));
+/// assert_eq!(check_texts(table.records(), b""), Err(Refusal::TextRule { node: 1 }));
+/// # Ok::<(), stewpebble::Error>(())
+/// ```
+pub fn check_records(records: &[u8], texts: &[u8]) -> Result<(), Refusal> {
+    foreign::check_records(records, texts).map_err(|refused| Refusal::new(refused, given(records, texts)))
+}
+
+/// Checks the texts and keys of a table alone: they lie inside the texts, are UTF-8, and the keys of a map are pairwise
+/// different. The members of a map are those of the range that its record writes, as far as the table reaches, whatever
+/// else is wrong with the records. With wrong records it takes time by the square of the number of nodes.
+///
+/// ```
+/// use stewpebble::check_texts;
+///
+/// let wrong_kind = [9; 24];
+/// assert_eq!(check_texts(&wrong_kind, &[]), Ok(()));
+/// ```
+pub fn check_texts(records: &[u8], texts: &[u8]) -> Result<(), Refusal> {
+    foreign::check_texts(records, texts).map_err(|refused| Refusal::new(refused, given(records, texts)))
+}
+
+/// Checks a table of values: records of 24 bytes, and their texts. This is [`check_records`] over all nodes, and then
+/// [`check_texts`], in one pass.
 ///
 /// ```
 /// use stewpebble::{check_table, Refusal};

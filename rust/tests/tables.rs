@@ -2,7 +2,7 @@
 //! in place, and values that have no table.
 mod common;
 use common::Random;
-use stewpebble::{check_table, compile, key_of_node, path_of_node, select, text_of_node, EditError, Kind, Number, Refusal, Table, TableError, Value};
+use stewpebble::{check_records, check_table, check_texts, compile, key_of_node, path_of_node, select, text_of_node, EditError, Kind, Number, Refusal, Table, TableError, Value};
 
 /// Every text and key of a table is what the library's operation gives, also beyond its end.
 fn parts_agree(table: &Table) {
@@ -61,6 +61,8 @@ fn parts_of_tables_of_bytes() {
                 assert_eq!(path_of_node(&records, &texts, 0, &mut [0; 9]), Err(refusal));
             }
         }
+        // The pair is the check of the records, and where that accepts the one of the texts.
+        assert_eq!(check_records(&records, &texts).and_then(|()| check_texts(&records, &texts)), check_table(&records, &texts));
     }
     assert!(accepted > 2000 && refused > 500, "{accepted} accepted, {refused} refused");
 }
@@ -233,4 +235,24 @@ fn bytes_without_a_table() {
     assert_eq!(words(24, 16_777_217), "the texts have 16,777,217 bytes, and 16,777,216 are the most");
     assert_eq!(words(48, 0), "the table breaks a rule of tables, first at node 1");
     assert_eq!(Table::from_bytes(vec![9; 24], vec![]), Err(Refusal::TableRule { node: 0 }));
+}
+
+#[test]
+fn each_check_alone() {
+    let table: Table = r#"{"a":[10,20.0,30],"b":"é"}"#.parse().unwrap();
+    let changed = |at: usize, byte: u8| {
+        let mut records = table.records().to_vec();
+        records[at] = byte;
+        (check_records(&records, table.texts()), check_texts(&records, table.texts()), check_table(&records, table.texts()))
+    };
+    let (record, text) = (|node| Err(Refusal::TableRule { node }), |node| Err(Refusal::TextRule { node }));
+    // A depth, which is no matter of texts; a text past the end; two equal keys, by the length of the second and its start.
+    assert_eq!(changed(97, 1), (record(4), Ok(()), record(4)));
+    assert_eq!(changed(68, 9), (Ok(()), text(2), text(2)));
+    assert_eq!(text(2).unwrap_err().to_string(), "a text or a key of the table breaks a rule of tables, first at node 2");
+    assert_eq!(text(2).unwrap_err().number(), 17);
+    // A map that claims members behind its own: both take its range, and the text check goes on where the record check stops.
+    assert_eq!(changed(20, 6).0, record(0));
+    // Bytes that are no table are refused alike by all three.
+    assert_eq!(check_records(&[], &[]), check_texts(&[], &[]));
 }

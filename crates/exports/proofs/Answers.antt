@@ -7,7 +7,7 @@ use mathlib.Core.Bool.{Bool, true, false, cond}
 use borrow.Author.Tests.{ne-eqb}
 use Rattle.definition.specs.Bytes.{part}
 use Rattle.definition.specs.Tables.{Checked}
-use Rattle.definition.specs.Tables.Checked.{accepted, sized, wrongAt}
+use Rattle.definition.specs.Tables.Checked.{accepted, sized, wrongAt, textAt}
 use Rattle.definition.specs.TableOutcomes.{PartOutcome, partBy, foundPart, refusedPart}
 use Rattle.definition.specs.Paths.{PathOutcome}
 use Rattle.demands.specs.Promises.{Settled, ChecksPlanOnly}
@@ -18,7 +18,8 @@ use Rattle.run.specs.declared.Ran.{Ran}
 use Rattle.run.specs.Outcomes.{ran}
 use Rattle.select.specs.declared.Selection.{Selection}
 use Rattle.select.specs.Selections.{selected}
-use Rattle.table.specs.Outcomes.{answered}
+use Rattle.table.specs.declared.TableChecked.{TableChecked}
+use Rattle.table.specs.Outcomes.{reported, answered}
 use Rattle.exports.specs.Outcomes.{Placed}
 
 -- ---- parts of the text
@@ -35,6 +36,7 @@ module _ (t s : List ℕ) (k : ℕ) where
   found-part accepted false e h = let m = number-of e in absurd (omega (arith, m, h))
   found-part sized b e h = let m = number-of e in absurd (omega (arith, m, h))
   found-part (wrongAt i) b e h = let m = number-of e in absurd (omega (arith, m, h))
+  found-part (textAt i) b e h = let m = number-of e in absurd (omega (arith, m, h))
 
   pub has-part : (c : Checked) (b : Bool) → answered s k ≡ partBy c b t → k ≡ 0 → b ≡ true
   has-part c b e h = found-part c b e h .0
@@ -46,6 +48,7 @@ module _ (t s : List ℕ) (k : ℕ) where
   refused-part accepted false e h = ap (answered []) (number-of e)
   refused-part sized b e h = ap (answered []) (number-of e)
   refused-part (wrongAt i) b e h = ap (answered []) (number-of e)
+  refused-part (textAt i) b e h = ap (answered []) (number-of e)
 
 module _ (c : Checked) (b : Bool) (X s : List ℕ) (at n k : ℕ) (e : answered s k ≡ partBy c b (part X at n)) where
   -- the start and the length that the record names are handed out
@@ -76,6 +79,12 @@ settled-as {F = F} a e = subst (Settled F) (sym e) a
 -- what a selection comes to, from the case that it is
 pub selects-told : {r r' : Selection} → r ≡ r' → (L : List ℕ) → selected r' L ≡ selected r L
 selects-told e L = ap (λ (x : Selection). selected x L) (sym e)
+
+-- ---- the checks of a table
+
+-- an answer's numbers, from the case that it is
+pub check-told : {r r' : TableChecked} → r ≡ r' → reported r' ≡ reported r
+check-told e = ap reported (sym e)
 
 -- ---- path of a node
 

@@ -1,7 +1,8 @@
 // The operations as functions that a C or Rust engine links: plain numbers and slices, each thin over the operation of `promises`, with its statement carried over.
 // include/stewpebble.h declares them for C.
-ghost use Rattle.demands.specs.Promises.{CompilesOnly, SelectsOnly, RunsOnly, ChecksPlanOnly, ChecksTableOnly, TextOnly, KeyOnly, PathOnly, TalliesOnly};
-ghost use Rattle.table.specs.Outcomes.{answered};
+ghost use Rattle.demands.specs.Promises.{CompilesOnly, SelectsOnly, RunsOnly, ChecksPlanOnly, ChecksRecordsOnly, ChecksTextsOnly, ChecksTableOnly, TextOnly, KeyOnly, PathOnly, TalliesOnly};
+ghost use mathlib.Core.Path.{_≡_};
+ghost use Rattle.table.specs.Outcomes.{reported, answered};
 ghost use Rattle.tally.specs.Counts.{tallied};
 ghost use Rattle.definition.specs.Bytes.{part};
 ghost use Rattle.definition.specs.Tables.{lowWord, highWord, keyStart, keyLength};
@@ -12,25 +13,47 @@ use select::Selection;
 use table::TableChecked;
 use table::records;
 
-// Table check: the refusal, 0 for none; the node of refusal 10 is set, and 0 otherwise.
-#[no_mangle]
-pub extern "C" fn stewpebble_check_table(table: &[u8], text: &[u8], node: &mut u64) -> u32
-    ensures { λ r. ⌜ ChecksTableOnly (now (table .entry)) (now (text .entry)) (told r (now (node .exit))) ⌝ }
+// The numbers of a check's answer: the refusal, 0 for none; the node of refusals 10 and 17, and 0 otherwise.
+fn tell_check(checked: TableChecked, node: &mut u64) -> u32
+    ensures { λ r. ⌜ told r (now (node .exit)) ≡ reported checked ⌝ }
 {
-    match promises::check_table(table, text) {
-        TableChecked::Accepted => {
-            *node = 0;
-            0
-        }
-        TableChecked::WrongSize => {
-            *node = 0;
-            9
-        }
+    *node = 0;
+    match checked {
+        TableChecked::Accepted => 0,
+        TableChecked::WrongSize => 9,
         TableChecked::WrongNode(i) => {
             *node = i as u64;
             10
         }
+        TableChecked::WrongText(i) => {
+            *node = i as u64;
+            17
+        }
     }
+}
+
+// The check of the records alone: the refusal, 0 for none; the node of refusal 10 is set, and 0 otherwise.
+#[no_mangle]
+pub extern "C" fn stewpebble_check_records(table: &[u8], text: &[u8], node: &mut u64) -> u32
+    ensures { λ r. ⌜ ChecksRecordsOnly (now (table .entry)) (now (text .entry)) (told r (now (node .exit))) ⌝ }
+{
+    tell_check(promises::check_records(table, text), node)
+}
+
+// The check of the texts and keys alone: the refusal, 0 for none; the node of refusal 17 is set, and 0 otherwise.
+#[no_mangle]
+pub extern "C" fn stewpebble_check_texts(table: &[u8], text: &[u8], node: &mut u64) -> u32
+    ensures { λ r. ⌜ ChecksTextsOnly (now (table .entry)) (now (text .entry)) (told r (now (node .exit))) ⌝ }
+{
+    tell_check(promises::check_texts(table, text), node)
+}
+
+// The pair of checks: the refusal, 0 for none; the node of refusals 10 and 17 is set, and 0 otherwise.
+#[no_mangle]
+pub extern "C" fn stewpebble_check_table(table: &[u8], text: &[u8], node: &mut u64) -> u32
+    ensures { λ r. ⌜ ChecksTableOnly (now (table .entry)) (now (text .entry)) (told r (now (node .exit))) ⌝ }
+{
+    tell_check(promises::check_table(table, text), node)
 }
 
 // Text of a node: the refusal, 0 for none; where the part of the lent text that holds it starts and its length are set, and 0 and 0 with every refusal.
@@ -81,7 +104,7 @@ pub extern "C" fn stewpebble_key_of_node(
     0
 }
 
-// Path of a node: the refusal, 0 for none; the path's length is set, also where refusal 16 names it, and 0 otherwise; the node of refusal 10 is set, and 0 otherwise.
+// Path of a node: the refusal, 0 for none; the path's length is set, also where refusal 16 names it, and 0 otherwise; the node of refusals 10 and 17 is set, and 0 otherwise.
 #[no_mangle]
 pub extern "C" fn stewpebble_path_of_node(
     table: &[u8],
@@ -105,6 +128,10 @@ pub extern "C" fn stewpebble_path_of_node(
         PathWritten::WrongNode(i) => {
             *wrong = i as u64;
             10
+        }
+        PathWritten::WrongText(i) => {
+            *wrong = i as u64;
+            17
         }
         PathWritten::NoNode => 15,
         PathWritten::SmallRoom(n) => {
@@ -155,7 +182,7 @@ pub extern "C" fn stewpebble_tally(
     promises::tally(plan, pool, counts, plans) as u32
 }
 
-// The numbers of a run's answer: the refusal, 0 for none; the number of nodes selected, and 0 with every refusal; the node of refusal 10, and 0 otherwise.
+// The numbers of a run's answer: the refusal, 0 for none; the number of nodes selected, and 0 with every refusal; the node of refusals 10 and 17, and 0 otherwise.
 fn tell(ran: Ran, count: &mut u64, node: &mut u64) -> u32
     ensures { λ r. ⌜ Tells ran r (now (count .exit)) (now (node .exit)) ⌝ }
 {
@@ -172,12 +199,16 @@ fn tell(ran: Ran, count: &mut u64, node: &mut u64) -> u32
             *node = i as u64;
             10
         }
+        Ran::WrongText(i) => {
+            *node = i as u64;
+            17
+        }
         Ran::WrongStart => 14,
         Ran::NoRoom => 13,
     }
 }
 
-// Run: the refusal, 0 for none; the number of nodes selected is set, and 0 with every refusal; the node of refusal 10 is set, and 0 otherwise.
+// Run: the refusal, 0 for none; the number of nodes selected is set, and 0 with every refusal; the node of refusals 10 and 17 is set, and 0 otherwise.
 #[no_mangle]
 pub extern "C" fn stewpebble_run<'a>(
     plan: &'a [u8],

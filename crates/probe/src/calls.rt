@@ -17,6 +17,8 @@ const TABLE_ROOM: usize = 196608;
 // What a line calls.
 pub enum Call {
     Table,
+    Records,
+    Texts,
     Text,
     Key,
     Path,
@@ -39,6 +41,8 @@ pub fn too_long() {
 pub fn start(line: &[u8], from: usize, call: Call) {
     match call {
         Call::Table => with_table(line, from, b"", b"", call),
+        Call::Records => with_table(line, from, b"", b"", call),
+        Call::Texts => with_table(line, from, b"", b"", call),
         Call::Text => with_table(line, from, b"", b"", call),
         Call::Key => with_table(line, from, b"", b"", call),
         Call::Path => with_table(line, from, b"", b"", call),
@@ -139,7 +143,9 @@ fn finish<'a>(
     call: Call,
 ) {
     match call {
-        Call::Table => table_calls::check(table, text),
+        Call::Table => table_calls::show(table::check_table(table, text)),
+        Call::Records => table_calls::show(table::check_records(table, text)),
+        Call::Texts => table_calls::show(table::check_texts(table, text)),
         Call::Text => table_calls::node(line, from, table, text, false),
         Call::Key => table_calls::node(line, from, table, text, true),
         Call::Path => path_calls::answer(line, from, table, text),

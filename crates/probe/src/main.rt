@@ -1,7 +1,9 @@
 // A program over the library's operations, driven by lines on standard input: one call and one answer for each line.
 // A byte string is hexadecimal, and a dash if it is empty. A number is decimal. One blank stands between words.
 //
-//     table TABLE TEXT                         ok | refused 9 | refused 10 NODE
+//     records TABLE TEXT                       ok | refused 9 | refused 10 NODE
+//     texts TABLE TEXT                         ok | refused 9 | refused 17 NODE
+//     table TABLE TEXT                         ok | refused 9 | refused 10 NODE | refused 17 NODE
 //     text TABLE TEXT NODE                     ok PART | refused N
 //     key TABLE TEXT NODE                      ok PART | refused N
 //     path TABLE TEXT NODE ROOM                ok PATH | refused N NUMBER
@@ -22,7 +24,7 @@
 //     list_calls    run and select
 //     path_calls    path
 //     plan_calls    compile and plan
-//     table_calls   table, text and key
+//     table_calls   records, texts, table, text and key
 //     tally_calls   take
 mod calls;
 mod list_calls;
@@ -49,7 +51,7 @@ fn call(line: &[u8], from: usize, call: Call, many: usize) {
     calls::start(line, from, call);
 }
 
-// Answers a line whose first word is none of table, text, key and path.
+// Answers a line whose first word is none of table, text, key, path, records and texts.
 fn answer_more(line: &[u8], name: &[u8], from: usize) {
     if parts::same_bytes(name, b"compile") {
         call(line, from, Call::Compile, 4);
@@ -93,6 +95,14 @@ fn answer(line: &[u8]) {
     }
     if parts::same_bytes(name, b"path") {
         call(line, from, Call::Path, 5);
+        return;
+    }
+    if parts::same_bytes(name, b"records") {
+        call(line, from, Call::Records, 3);
+        return;
+    }
+    if parts::same_bytes(name, b"texts") {
+        call(line, from, Call::Texts, 3);
         return;
     }
     answer_more(line, name, from);

@@ -34,6 +34,7 @@ fn show(table: &[u8], text: &[u8], node: usize, room: &mut [u8]) {
         }
         PathWritten::WrongSize => refused(9, 0, room),
         PathWritten::WrongNode(wrong) => refused(10, wrong, room),
+        PathWritten::WrongText(wrong) => refused(17, wrong, room),
         PathWritten::NoNode => refused(15, 0, room),
         PathWritten::SmallRoom(n) => refused(16, n, room),
     }

@@ -1,4 +1,4 @@
-// The calls table, text and key.
+// The calls records, texts, table, text and key.
 use crate::calls;
 use console::output;
 use lines::words;
@@ -8,17 +8,21 @@ use table::TableChecked;
 // What the lent number holds before a call.
 const NOT_SET: u8 = 255;
 
-// Answers table.
-pub fn check(table: &[u8], text: &[u8]) {
-    match table::check_table(table, text) {
+// Writes what a check found.
+pub fn show(checked: TableChecked) {
+    match checked {
         TableChecked::Accepted => output::text(b"ok\n"),
         TableChecked::WrongSize => output::text(b"refused 9\n"),
-        TableChecked::WrongNode(node) => {
-            output::text(b"refused 10");
-            output::next_number(node);
-            output::newline();
-        }
+        TableChecked::WrongNode(node) => show_node(b"refused 10", node),
+        TableChecked::WrongText(node) => show_node(b"refused 17", node),
     }
+}
+
+// Writes a refusal and its node.
+fn show_node(refusal: &[u8], node: usize) {
+    output::text(refusal);
+    output::next_number(node);
+    output::newline();
 }
 
 // Answers text and key, whose node begins at a place.

@@ -1,6 +1,6 @@
 // The public operations, each with the very statement that is promised of it: `demands` has the types (Promises.antt) and what follows from them (Demands.antt).
 // Each is thin over the operation of its name below, requires nothing, and leaves one outcome for each input. A contract below that said less would not prove this crate.
-ghost use Rattle.demands.specs.Promises.{CompilesOnly, SelectsOnly, RunsOnly, ChecksPlanOnly, ChecksTableOnly, TextOnly, TextBegins, KeyOnly, KeyBegins, PathOnly, TalliesOnly};
+ghost use Rattle.demands.specs.Promises.{CompilesOnly, SelectsOnly, RunsOnly, ChecksPlanOnly, ChecksRecordsOnly, ChecksTextsOnly, ChecksTableOnly, TextOnly, TextBegins, KeyOnly, KeyBegins, PathOnly, TalliesOnly};
 ghost use Rattle.compile.specs.Steps.{outcome};
 ghost use Rattle.select.specs.Selections.{selected};
 ghost use Rattle.run.specs.Outcomes.{ran};
@@ -23,7 +23,7 @@ pub fn compile(query: &[u8], plan: &mut [u8], pool: &mut [u8]) -> Compiled
     compile::compile(query, plan, pool)
 }
 
-// The nodes of a table that a query selects, into the lent list from a start position on, or a refusal: 1 to 8, 9, 10, 13 or 14.
+// The nodes of a table that a query selects, into the lent list from a start position on, or a refusal: 1 to 8, 9, 10, 13, 14 or 17.
 pub fn select<'a>(
     query: &[u8],
     table: &'a [u8],
@@ -36,7 +36,7 @@ pub fn select<'a>(
     select::select(query, table, text, list, start)
 }
 
-// The nodes of a table that a plan selects, into the lent list from a start position on, or a refusal: 9, 10, 11, 13 or 14.
+// The nodes of a table that a plan selects, into the lent list from a start position on, or a refusal: 9, 10, 11, 13, 14 or 17.
 pub fn run<'a>(
     plan: &'a [u8],
     pool: &'a [u8],
@@ -57,14 +57,28 @@ pub fn check_plan(plan: &[u8], pool: &[u8]) -> bool
     plan::check_plan(plan, pool)
 }
 
-// Whether a table and its text keep to the rules, or refusal 9 or 10.
+// Whether the records of a table keep to the rules that read no text, or refusal 9 or 10.
+pub fn check_records(table: &[u8], text: &[u8]) -> TableChecked
+    ensures { λ r. ⌜ ChecksRecordsOnly (now (table .entry)) (now (text .entry)) (reported r) ⌝ }
+{
+    table::check_records(table, text)
+}
+
+// Whether the texts and keys of a table keep to the rules, whatever else its records hold, or refusal 9 or 17.
+pub fn check_texts(table: &[u8], text: &[u8]) -> TableChecked
+    ensures { λ r. ⌜ ChecksTextsOnly (now (table .entry)) (now (text .entry)) (reported r) ⌝ }
+{
+    table::check_texts(table, text)
+}
+
+// The pair: whether a table and its text keep to all rules, or refusal 9, 10 or 17.
 pub fn check_table(table: &[u8], text: &[u8]) -> TableChecked
     ensures { λ r. ⌜ ChecksTableOnly (now (table .entry)) (now (text .entry)) (reported r) ⌝ }
 {
     table::check_table(table, text)
 }
 
-// The text of a node as a part of the lent text, and 0 in the lent number; or an empty part, and 9, 10 or 15 in the number. The part lies where the node's record says.
+// The text of a node as a part of the lent text, and 0 in the lent number; or an empty part, and 9, 10, 15 or 17 in the number. The part lies where the node's record says.
 pub fn text_of_node<'a>(table: &[u8], text: &'a [u8], node: usize, number: &mut u8) -> &'a [u8]
     ensures answers { λ r. ⌜ TextOnly (now (table .entry)) (now (text .entry)) node (answered (now r) (now (number .exit))) ⌝ }
     ensures place { λ r. ⌜ TextBegins (now (table .entry)) node (now (number .exit)) (ptr (text .entry)) (ptr r) ⌝ }
@@ -72,7 +86,7 @@ pub fn text_of_node<'a>(table: &[u8], text: &'a [u8], node: usize, number: &mut 
     table::text_of_node(table, text, node, number)
 }
 
-// The key of a node as a part of the lent text, and 0 in the lent number; or an empty part, and 9, 10 or 15 in the number. The part lies where the node's record says.
+// The key of a node as a part of the lent text, and 0 in the lent number; or an empty part, and 9, 10, 15 or 17 in the number. The part lies where the node's record says.
 pub fn key_of_node<'a>(table: &[u8], text: &'a [u8], node: usize, number: &mut u8) -> &'a [u8]
     ensures answers { λ r. ⌜ KeyOnly (now (table .entry)) (now (text .entry)) node (answered (now r) (now (number .exit))) ⌝ }
     ensures place { λ r. ⌜ KeyBegins (now (table .entry)) node (now (number .exit)) (ptr (text .entry)) (ptr r) ⌝ }
@@ -80,7 +94,7 @@ pub fn key_of_node<'a>(table: &[u8], text: &'a [u8], node: usize, number: &mut u
     table::key_of_node(table, text, node, number)
 }
 
-// The Normalized Path of a node, in the first bytes of the lent room, or a refusal: 9, 10, 15 or 16, and then the room is as it was.
+// The Normalized Path of a node, in the first bytes of the lent room, or a refusal: 9, 10, 15, 16 or 17, and then the room is as it was.
 pub fn path_of_node(table: &[u8], text: &[u8], node: usize, room: &mut [u8]) -> PathWritten
     ensures { λ r. ⌜ PathOnly (now (table .entry)) (now (text .entry)) node (now (room .entry)) (told r (now (room .exit))) ⌝ }
 {

@@ -1,7 +1,7 @@
 -- The number of each refusal and the fields that its row names, from document 01, "Refusal numbers". Assumes nothing: these are definitions.
 use Prim.Native.Nat.{ℕ}
 use Rattle.run.specs.declared.Ran.{Ran}
-use Rattle.run.specs.declared.Ran.the-variants.{Selected, WrongPlan, WrongSize, WrongNode, WrongStart, NoRoom}
+use Rattle.run.specs.declared.Ran.the-variants.{Selected, WrongPlan, WrongSize, WrongNode, WrongText, WrongStart, NoRoom}
 use Rattle.select.specs.declared.Selection.{Selection}
 use Rattle.select.specs.declared.Selection.the-variants as selection
 
@@ -11,6 +11,7 @@ ranNumber (Selected n) = 0
 ranNumber WrongPlan = 11
 ranNumber WrongSize = 9
 ranNumber (WrongNode n) = 10
+ranNumber (WrongText n) = 17
 ranNumber WrongStart = 14
 ranNumber NoRoom = 13
 
@@ -20,6 +21,7 @@ ranCount (Selected n) = n
 ranCount WrongPlan = 0
 ranCount WrongSize = 0
 ranCount (WrongNode n) = 0
+ranCount (WrongText n) = 0
 ranCount WrongStart = 0
 ranCount NoRoom = 0
 
@@ -29,6 +31,7 @@ ranNode (Selected n) = 0
 ranNode WrongPlan = 0
 ranNode WrongSize = 0
 ranNode (WrongNode n) = n
+ranNode (WrongText n) = n
 ranNode WrongStart = 0
 ranNode NoRoom = 0
 

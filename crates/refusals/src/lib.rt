@@ -40,6 +40,11 @@ pub fn of_run(ran: Ran) -> Outcome
             count: 0,
             node: n,
         },
+        Ran::WrongText(n) => Outcome {
+            refusal: 17,
+            count: 0,
+            node: n,
+        },
         Ran::WrongStart => refused(14),
         Ran::NoRoom => refused(13),
     }

@@ -7,7 +7,7 @@ use lib.Dec.{eqb}
 use Rattle.definition.specs.Outcomes.{RunOutcome, Runs}
 use Rattle.spelled.specs.One.{runs-one}
 use Rattle.run.specs.declared.Ran.{Ran}
-use Rattle.run.specs.declared.Ran.the-variants.{Selected, WrongPlan, WrongSize, WrongNode, WrongStart, NoRoom}
+use Rattle.run.specs.declared.Ran.the-variants.{Selected, WrongPlan, WrongSize, WrongNode, WrongText, WrongStart, NoRoom}
 use Rattle.run.specs.Outcomes.{ran}
 
 -- the answer that is reported so
@@ -17,7 +17,8 @@ answerOf o =
     (cond (eqb (o .refusal) 11) WrongPlan
     (cond (eqb (o .refusal) 9) WrongSize
     (cond (eqb (o .refusal) 10) (WrongNode (o .node))
-    (cond (eqb (o .refusal) 14) WrongStart NoRoom))))
+    (cond (eqb (o .refusal) 17) (WrongText (o .node))
+    (cond (eqb (o .refusal) 14) WrongStart NoRoom)))))
 
 answer-back : (r : Ran) (L : List ℕ) → answerOf (ran r L) ≡ r
 unfolding answerOf ran
@@ -25,6 +26,7 @@ answer-back (Selected n) L = refl
 answer-back WrongPlan L = refl
 answer-back WrongSize L = refl
 answer-back (WrongNode i) L = refl
+answer-back (WrongText i) L = refl
 answer-back WrongStart L = refl
 answer-back NoRoom L = refl
 
@@ -34,6 +36,7 @@ list-back (Selected n) L = refl
 list-back WrongPlan L = refl
 list-back WrongSize L = refl
 list-back (WrongNode i) L = refl
+list-back (WrongText i) L = refl
 list-back WrongStart L = refl
 list-back NoRoom L = refl
 

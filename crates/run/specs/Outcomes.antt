@@ -11,14 +11,15 @@ use Rattle.definition.specs.Evaluation.{selected}
 use Rattle.definition.specs.Outcomes.{Translates, RunOutcome, placeFrom, runBy}
 use Rattle.definition.specs.Outcomes.Reading.{form}
 use Rattle.run.specs.declared.Ran.{Ran}
-use Rattle.run.specs.declared.Ran.the-variants.{Selected, WrongPlan, WrongSize, WrongNode, WrongStart, NoRoom}
+use Rattle.run.specs.declared.Ran.the-variants.{Selected, WrongPlan, WrongSize, WrongNode, WrongText, WrongStart, NoRoom}
 
--- "Run: 11, 9, 10, 14, 13", with 0 for none; "Number fields that a row doesn't name are 0"
+-- "Run: 11, 9, 10, 14, 13", with 17 behind 10, and 0 for none; "Number fields that a row doesn't name are 0"
 unfoldable pub ran : Ran → List ℕ → RunOutcome
 ran (Selected n) L = record { refusal = 0; count = n; node = 0; places = L }
 ran WrongPlan L = record { refusal = 11; count = 0; node = 0; places = L }
 ran WrongSize L = record { refusal = 9; count = 0; node = 0; places = L }
 ran (WrongNode i) L = record { refusal = 10; count = 0; node = i; places = L }
+ran (WrongText i) L = record { refusal = 17; count = 0; node = i; places = L }
 ran WrongStart L = record { refusal = 14; count = 0; node = 0; places = L }
 ran NoRoom L = record { refusal = 13; count = 0; node = 0; places = L }
 

@@ -14,7 +14,7 @@ use Rattle.definition.specs.Forms.Query.{query}
 use Rattle.definition.specs.QueryForms.{isForm, startsAtRoot, queryRight, segmentsRight, nesting}
 use Rattle.definition.specs.Plans.{startKind, planOf, poolOf, codeQuery, poolQuery, codeSegments, poolSegments}
 use Rattle.definition.specs.Tables.{Checked, checkTable, nodeAt, tree}
-use Rattle.definition.specs.Tables.Checked.{accepted, sized, wrongAt}
+use Rattle.definition.specs.Tables.Checked.{accepted, sized, wrongAt, textAt}
 use Rattle.definition.specs.Evaluation.{evalQuery, evalSegments, selected}
 use Rattle.definition.specs.TableOutcomes.{TableOutcome, reportTable, tableOutcome}
 use Rattle.definition.specs.Outcomes.{Translates, spelled, notSpelled, RunOutcome, refuseRun, place, placeFrom, runTable, runBy, Runs}
@@ -22,14 +22,14 @@ use Rattle.definition.specs.Outcomes.Reading.{form, refused}
 use Rattle.tables.specs.Bools.{and-left, and-right}
 use Rattle.table.specs.Outcomes.{reported}
 use Rattle.table.specs.declared.TableChecked.{TableChecked}
-use Rattle.table.specs.declared.TableChecked.the-variants.{Accepted as Right, WrongSize as Sized, WrongNode as Wrong}
+use Rattle.table.specs.declared.TableChecked.the-variants.{Accepted as Right, WrongSize as Sized, WrongNode as Wrong, WrongText as Text}
 use Rattle.walks.specs.Bytes.{holds-whole, holds-tail}
 use Rattle.walks.specs.States.{st, emit, emit-whole}
 use Rattle.walks.specs.Segments.{ids}
 use Rattle.walks.specs.Emits.{go}
 use Rattle.walks.specs.Items.{SegmentsAt}
 use Rattle.plan.specs.Checks.{Accepts}
-use Rattle.run.specs.declared.Ran.the-variants.{Selected, WrongPlan, WrongSize, WrongNode, WrongStart, NoRoom}
+use Rattle.run.specs.declared.Ran.the-variants.{Selected, WrongPlan, WrongSize, WrongNode, WrongText, WrongStart, NoRoom}
 use Rattle.run.specs.Outcomes.{ran, Planned, RunsForm, DonePlacing}
 
 -- ---- the plan behind its first byte
@@ -127,18 +127,28 @@ unfolding reported reportTable
 accepted-by accepted e = refl
 accepted-by sized e = let z : _≡_ {A = ℕ} 0 9 = ap (λ (o : TableOutcome). o .refusal) e in absurd (omega arith)
 accepted-by (wrongAt i) e = let z : _≡_ {A = ℕ} 0 10 = ap (λ (o : TableOutcome). o .refusal) e in absurd (omega arith)
+accepted-by (textAt i) e = let z : _≡_ {A = ℕ} 0 17 = ap (λ (o : TableOutcome). o .refusal) e in absurd (omega arith)
 
 sized-by : (c : Checked) → reported Sized ≡ reportTable c → c ≡ sized
 unfolding reported reportTable
 sized-by accepted e = let z : _≡_ {A = ℕ} 9 0 = ap (λ (o : TableOutcome). o .refusal) e in absurd (omega arith)
 sized-by sized e = refl
 sized-by (wrongAt i) e = let z : _≡_ {A = ℕ} 9 10 = ap (λ (o : TableOutcome). o .refusal) e in absurd (omega arith)
+sized-by (textAt i) e = let z : _≡_ {A = ℕ} 9 17 = ap (λ (o : TableOutcome). o .refusal) e in absurd (omega arith)
 
 wrong-by : (i : ℕ) (c : Checked) → reported (Wrong i) ≡ reportTable c → c ≡ wrongAt i
 unfolding reported reportTable
 wrong-by i accepted e = let z : _≡_ {A = ℕ} 10 0 = ap (λ (o : TableOutcome). o .refusal) e in absurd (omega arith)
 wrong-by i sized e = let z : _≡_ {A = ℕ} 10 9 = ap (λ (o : TableOutcome). o .refusal) e in absurd (omega arith)
 wrong-by i (wrongAt j) e = ap wrongAt (sym (ap (λ (o : TableOutcome). o .node) e))
+wrong-by i (textAt j) e = let z : _≡_ {A = ℕ} 10 17 = ap (λ (o : TableOutcome). o .refusal) e in absurd (omega arith)
+
+text-by : (i : ℕ) (c : Checked) → reported (Text i) ≡ reportTable c → c ≡ textAt i
+unfolding reported reportTable
+text-by i accepted e = let z : _≡_ {A = ℕ} 17 0 = ap (λ (o : TableOutcome). o .refusal) e in absurd (omega arith)
+text-by i sized e = let z : _≡_ {A = ℕ} 17 9 = ap (λ (o : TableOutcome). o .refusal) e in absurd (omega arith)
+text-by i (wrongAt j) e = let z : _≡_ {A = ℕ} 17 10 = ap (λ (o : TableOutcome). o .refusal) e in absurd (omega arith)
+text-by i (textAt j) e = ap textAt (sym (ap (λ (o : TableOutcome). o .node) e))
 
 pub table-accepted : (T X : List ℕ) (c : TableChecked) → reported c ≡ tableOutcome T X → c ≡ Right → checkTable T X ≡ accepted
 unfolding tableOutcome
@@ -156,6 +166,10 @@ module _ (P L T X l : List ℕ) (start : ℕ) (c : TableChecked) (e : reported c
   pub form-wrong : (m : ℕ) → c ≡ Wrong m → RunsForm P L T X l start (ran (WrongNode m) l)
   unfolding runBy runTable tableOutcome ran refuseRun
   form-wrong m i q t = ap (λ (k : Checked). runTable k q T X l start) (sym (wrong-by m (checkTable T X) (ap reported (sym i) ∙ e)))
+
+  pub form-text : (m : ℕ) → c ≡ Text m → RunsForm P L T X l start (ran (WrongText m) l)
+  unfolding runBy runTable tableOutcome ran refuseRun
+  form-text m i q t = ap (λ (k : Checked). runTable k q T X l start) (sym (text-by m (checkTable T X) (ap reported (sym i) ∙ e)))
 
 -- ---- behind the check of the plan
 

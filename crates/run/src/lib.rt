@@ -11,8 +11,10 @@ pub enum Ran {
     WrongPlan,
     // Refusal 9: the table's size or the text's is wrong.
     WrongSize,
-    // Refusal 10: the least node at which a rule fails.
+    // Refusal 10: the least node at which a rule on records fails.
     WrongNode(usize),
+    // Refusal 17: the least node at which a rule on texts and keys fails.
+    WrongText(usize),
     // Refusal 14: the start position is beyond the list's length.
     WrongStart,
     // Refusal 13: more nodes are selected than there are places from the start position on, and the first of them stand there.
@@ -70,6 +72,7 @@ pub fn run_form<'a>(
         TableChecked::Accepted => place_nodes(plan, pool, table, text, list, start),
         TableChecked::WrongSize => Ran::WrongSize,
         TableChecked::WrongNode(i) => Ran::WrongNode(i),
+        TableChecked::WrongText(i) => Ran::WrongText(i),
     }
 }
 

@@ -23,6 +23,9 @@ enum-told-2 c = search needs
 enum-known-answer-3 : tie.Need-enum-known-answer-3
 enum-known-answer-3 c = search needs
 
+enum-known-answer-4 : tie.Need-enum-known-answer-4
+enum-known-answer-4 c = search needs
+
 same-length : tie.Need-same-length
 same-length c = search needs
 
@@ -49,14 +52,21 @@ same-length-4 c = search needs
 
 returns-4 : tie.Need-returns-4
 unfolding told
-returns-4 c = path-told _ (c .enum-told2 .given .1) (c .before .before .before .before .path-of-node .ensures)
+returns-4 c = path-told _ (c .before .answer3 .given .1) (c .before .before .before .before .before .path-of-node .ensures)
 
 same-length-5 : tie.Need-same-length-5
 same-length-5 c = search needs
 
 returns-5 : tie.Need-returns-5
 unfolding told
-returns-5 c = path-told _ (c .before .answer3 .given .1) (c .before .before .before .before .before .path-of-node .ensures)
+returns-5 c = path-told _ (c .enum-told2 .given .1) (c .before .before .before .before .path-of-node .ensures)
+
+same-length-6 : tie.Need-same-length-6
+same-length-6 c = search needs
+
+returns-6 : tie.Need-returns-6
+unfolding told
+returns-6 c = path-told _ (c .before .answer4 .given .1) (c .before .before .before .before .before .path-of-node .ensures)
 
 pub stewpebble-path-of-node-spec : {M : Type 1} → statement M
 stewpebble-path-of-node-spec =
@@ -66,8 +76,9 @@ stewpebble-path-of-node-spec =
     enum-known-answer
     enum-told
     enum-known-answer-2
-    enum-told-2
     enum-known-answer-3
+    enum-told-2
+    enum-known-answer-4
     same-length
     returns
     same-length-2
@@ -77,4 +88,6 @@ stewpebble-path-of-node-spec =
     same-length-4
     returns-4
     same-length-5
-    returns-5)
+    returns-5
+    same-length-6
+    returns-6)

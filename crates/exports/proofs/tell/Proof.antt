@@ -17,6 +17,9 @@ enum-told-2 c = search needs
 enum-known-ran-2 : tie.Need-enum-known-ran-2
 enum-known-ran-2 c = search needs
 
+enum-known-ran-3 : tie.Need-enum-known-ran-3
+enum-known-ran-3 c = search needs
+
 enum-told-3 : tie.Need-enum-told-3
 enum-told-3 c = search needs
 
@@ -41,11 +44,15 @@ returns-4 c = tells (c .before .ran2 .given .1)
 
 returns-5 : tie.Need-returns-5
 unfolding ran
-returns-5 c = tells (c .enum-told3 .given .1)
+returns-5 c = tells (c .before .ran3 .given .1)
 
 returns-6 : tie.Need-returns-6
 unfolding ran
-returns-6 c = tells (c .enum-told4 .given .1)
+returns-6 c = tells (c .enum-told3 .given .1)
+
+returns-7 : tie.Need-returns-7
+unfolding ran
+returns-7 c = tells (c .enum-told4 .given .1)
 
 pub tell-spec : {M : Type 1} → statement M
 tell-spec =
@@ -55,6 +62,7 @@ tell-spec =
     enum-told
     enum-told-2
     enum-known-ran-2
+    enum-known-ran-3
     enum-told-3
     enum-told-4
     returns
@@ -62,4 +70,5 @@ tell-spec =
     returns-3
     returns-4
     returns-5
-    returns-6)
+    returns-6
+    returns-7)
