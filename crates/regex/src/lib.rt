@@ -14,6 +14,9 @@ ghost use Rattle.regex.specs.Tested.{Tested, Missed};
 // More marks than this are not weighed.
 const MAX_ROOM: usize = 65535;
 
+// The marks take no more words of code; an expression has 8,205 at most.
+const MAX_CODE: usize = 65535;
+
 // A most number of bytes that bounds nothing.
 const NO_BOUND: usize = 2147483648;
 
@@ -48,11 +51,14 @@ pub fn test(code: &[u32], text: &[u8], marks: &mut [u8]) -> bool
     if missed(code, text.len()) {
         return false;
     }
+    let end = text.len();
+    if MAX_CODE < code.len() {
+        return matches(code, 0, text, 0, end);
+    }
     let room = lesser(marks.len(), MAX_ROOM);
     let w = weigh(code, 0, room);
     let n = w.size;
     if room < n {
-        let end = text.len();
         return matches(code, 0, text, 0, end);
     }
     let o = open_ended(code);

@@ -1,9 +1,10 @@
 -- `regex::test` meets its contract. Assumes nothing.
 use borrow.Author.Needs.{needs}
-use Rattle.regex.proofs.Laws.{by-plain, by-length, by-total, by-marks, taken, grows}
 use native.Mathlib.Omega.{arith}
+use Rattle.regex.proofs.Laws.{by-plain, by-length, by-total, by-marks, taken, grows, fits}
 use Rattle.regex.proofs.test.Statement.{statement}
 use Rattle.regex.proofs.test.Tie as tie
+use Rattle.regex.proofs.test.Reads as reads
 
 ask-requires : tie.Need-ask-requires
 ask-requires c κs = search needs
@@ -17,17 +18,23 @@ missed-requires c κs = search needs
 returns-2 : tie.Need-returns-2
 returns-2 c = by-length _ _ (c .before .missed .ensures (c .if2 .taken))
 
+matches-requires : tie.Need-matches-requires
+matches-requires c κs = search needs
+
+returns-3 : tie.Need-returns-3
+returns-3 c = by-total _ _ _ (c .matches .ensures)
+
 lesser-requires : tie.Need-lesser-requires
 lesser-requires c κs = search needs
 
 weigh-requires : tie.Need-weigh-requires
 weigh-requires c κs = search needs
 
-matches-requires : tie.Need-matches-requires
-matches-requires c κs = search needs
+matches-requires-2 : tie.Need-matches-requires-2
+matches-requires-2 c κs = search needs
 
-returns-3 : tie.Need-returns-3
-returns-3 c = by-total _ _ _ (c .matches .ensures)
+returns-4 : tie.Need-returns-4
+returns-4 c = by-total _ _ _ (c .matches2 .ensures)
 
 open-ended-requires : tie.Need-open-ended-requires
 open-ended-requires c κs = search needs
@@ -42,13 +49,13 @@ part-run-end : tie.Need-part-run-end
 part-run-end c = search needs
 
 run-requires : tie.Need-run-requires
-run-requires c κs = λ e. grows _ (c .before .open-ended .ensures e)
+run-requires c κs = (fits _ _ _ _ (c .before .before .before .before .before .if3 .left) (c .before .before .if4 .left) (c .before .before .before .before .lesser .ensures) (omega (arith, c .before .before .if4 .left, c .before .before .before .before .lesser .ensures)), λ e. grows _ (c .before .open-ended .ensures e))
 
 same-length : tie.Need-same-length
 same-length c = search needs
 
-returns-4 : tie.Need-returns-4
-returns-4 c = by-marks _ _ _ _ (c .before .before .before .before .before .before .weigh .ensures) (c .before .before .before .before .before .if3 .left) (c .before .before .run .ensures) (taken _ _ (omega (arith, c .before .before .before .before .before .if3 .left, c .before .before .before .before .before .before .before .lesser .ensures)))
+returns-5 : tie.Need-returns-5
+returns-5 c = by-marks _ _ _ _ (c .before .before .before .before .before .before .weigh .ensures) (c .before .before .before .before .before .if4 .left) (c .before .before .run .ensures) (taken _ _ (omega (arith, c .before .before .before .before .before .if4 .left, c .before .before .before .before .before .before .before .lesser .ensures)))
 
 pub test-spec : {M : Type 1} → statement M
 test-spec =
@@ -58,14 +65,16 @@ test-spec =
     returns
     missed-requires
     returns-2
-    lesser-requires
-    weigh-requires
     matches-requires
     returns-3
+    lesser-requires
+    weigh-requires
+    matches-requires-2
+    returns-4
     open-ended-requires
     sub-run
     part-run-start
     part-run-end
     run-requires
     same-length
-    returns-4)
+    returns-5)
