@@ -12,6 +12,8 @@ use Rattle.regex_marks.specs.declared.Step.{Step}
 use Rattle.regex_marks.specs.Steps.{flagOf, stepOf, enterOf, chainOf, forkOf, secondOf, joinedOf}
 use Rattle.regex_marks.specs.Moves.{Fits, Word, Shifted, Copied, Endless, ShiftedBy, CopiedBy, EndlessBy}
 use Rattle.regex_marks.proofs.Laws.{shift-then, shift-or}
+use Rattle.regex_marks.specs.Runs.{Weighs, Capped}
+use Rattle.regex_marks.proofs.Runs.{weigh-then, weigh-or}
 
 flag-few : (b : Bool) → flagOf b ≤ 1
 flag-few true = omega arith
@@ -122,3 +124,15 @@ shift-two {s} {m} {c} {b} {ms} {at} {k} {ms1} {ms2} {m2} {t} {u} f d h p q e = g
         let z : k ≡ 3 = omega (arith, eqb-false k 2 o) in
         subst (λ i. ShiftedBy s at m c b ms ms2 (cond i (chainOf t u) (forkOf t u))) (sym o)
         (shift-or s m c b ms (f .room) at (d .here) (d .is ∙ z) p q (e ∙ ap (λ i. cond i (enterOf m t) m) o))
+
+-- the same of their weights
+pub weigh-two :
+    {s : List ℕ} {at k cap n1 n2 z1 z2 n : ℕ} → Word s at k → (2 ≤ k) × (k ≤ 3) → Weighs s (at + 1) cap n1 z1 → Weighs s n1 cap n2 z2
+    → Capped (z1 + z2) cap n → Weighs s at cap n2 n
+weigh-two {s} {at} {k} {cap} {n1} {n2} {z1} {z2} {n} d h p q c = go (eqb k 2) refl
+  where
+    go : (i : Bool) → eqb k 2 ≡ i → Weighs s at cap n2 n
+    go true o = weigh-then s cap at (d .here) p q c (d .is ∙ eqb-true k 2 o)
+    go false o =
+        let z : k ≡ 3 = omega (arith, eqb-false k 2 o) in
+        weigh-or s cap at (d .here) p q c (d .is ∙ z)

@@ -1,15 +1,12 @@
 -- What is said of two parts from what is said of each. Assumes nothing: these are definitions.
 use mathlib.Core.Bool.{Bool, true, false, _&&_, _||_, cond}
-use Prim.Native.Nat.{ℕ, _+_, _*_, _/_, _%_}
+use Prim.Native.Nat.{ℕ, _+_, _/_, _%_}
 use lib.Dec.{eqb, leb}
 use Rattle.regex_marks.specs.declared.Step.{Step}
 
 -- a step in one word
 abbrev pub flagOf : Bool → ℕ
 flagOf b = cond b 1 0
-
-abbrev pub wordOf : Step → ℕ
-wordOf s = (s .next * 65536 + s .size) * 8 + flagOf (s .empty) * 4 + flagOf (s .was) * 2 + flagOf (s .now)
 
 abbrev pub stepOf : ℕ → Step
 stepOf w =

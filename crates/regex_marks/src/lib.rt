@@ -4,6 +4,7 @@ use regex_chars::char_at;
 use regex_chars::class_has;
 use regex_code::skip;
 use regex_code::skip_class;
+use regex_code::small;
 use regex_code::wide;
 ghost use mathlib.Core.Path.{_≡_};
 ghost use mathlib.Core.Bool.{true, _&&_, _||_};
@@ -288,15 +289,7 @@ pub fn shift(code: &[u32], at: usize, marks: &mut [u8], base: usize, enter: bool
 }
 
 // Two parts: in a row behind the word 2, one of them behind the word 3.
-fn two(
-    code: &[u32],
-    at: usize,
-    k: u32,
-    marks: &mut [u8],
-    base: usize,
-    enter: bool,
-    c: u32,
-) -> usize
+fn two(code: &[u32], at: usize, k: u32, marks: &mut [u8], base: usize, enter: bool, c: u32) -> usize
     requires { ⌜ Fits (now code) at (now marks) base ⌝ ∗ ⌜ Word (now code) at k ⌝ ∗ ⌜ (2 ≤ k) × (k ≤ 3) ⌝ }
     ensures { λ r. ⌜ ShiftedBy (now (code .entry)) at enter c base (now (marks .entry)) (now (marks .exit)) (stepOf r) ⌝ }
 {
@@ -449,57 +442,72 @@ pub fn weigh(code: &[u32], at: usize, cap: usize) -> Weight
             size: capped(1, cap),
         };
     }
-    if k == 2 {
-        let a = weigh(code, at + 1, cap);
-        let n = a.next;
-        let b = weigh(code, n, cap);
-        return Weight {
-            next: b.next,
-            size: capped(a.size + b.size, cap),
-        };
+    if k <= 3 {
+        return weigh_two(code, at, k, cap);
     }
-    if k == 3 {
-        let a = weigh(code, at + 1, cap);
-        let n = a.next;
-        let b = weigh(code, n, cap);
-        return Weight {
-            next: b.next,
-            size: capped(a.size + b.size, cap),
-        };
+    if k == 4 {
+        return weigh_counted(code, at, cap);
     }
+    if k == 5 {
+        return weigh_least(code, at, cap);
+    }
+    Weight { next: at, size: 0 }
+}
+
+fn weigh_two(code: &[u32], at: usize, k: u32, cap: usize) -> Weight
+    requires { ⌜ cap < 2 ^ 31 ⌝ ∗ ⌜ Word (now code) at k ⌝ ∗ ⌜ (2 ≤ k) × (k ≤ 3) ⌝ }
+    ensures { λ r. ⌜ Weighs (now (code .entry)) at cap (r .next) (r .size) ⌝ }
+{
+    let a = weigh(code, at + 1, cap);
+    let n = a.next;
+    let b = weigh(code, n, cap);
+    Weight {
+        next: b.next,
+        size: capped(a.size + b.size, cap),
+    }
+}
+
+fn weigh_counted(code: &[u32], at: usize, cap: usize) -> Weight
+    requires { ⌜ cap < 2 ^ 31 ⌝ ∗ ⌜ Word (now code) at 4 ⌝ }
+    ensures { λ r. ⌜ Weighs (now (code .entry)) at cap (r .next) (r .size) ⌝ }
+{
     if code.len() - at < 3 {
         return Weight { next: at, size: 0 };
     }
-    if k == 4 {
-        let hi = wide(code[at + 2]);
-        let a = weigh(code, at + 3, cap);
-        if cap < a.size {
-            return Weight {
-                next: a.next,
-                size: cap + 1,
-            };
-        }
+    let hi = small(code[at + 2]);
+    let a = weigh(code, at + 3, cap);
+    if cap < a.size {
         return Weight {
             next: a.next,
-            size: capped(a.size * hi, cap),
+            size: cap + 1,
         };
     }
-    if k == 5 {
-        let lo = wide(code[at + 1]);
-        let a = weigh(code, at + 2, cap);
-        if cap < a.size {
-            return Weight {
-                next: a.next,
-                size: cap + 1,
-            };
-        }
-        let l = less(lo);
+    Weight {
+        next: a.next,
+        size: capped(a.size * hi, cap),
+    }
+}
+
+fn weigh_least(code: &[u32], at: usize, cap: usize) -> Weight
+    requires { ⌜ cap < 2 ^ 31 ⌝ ∗ ⌜ Word (now code) at 5 ⌝ }
+    ensures { λ r. ⌜ Weighs (now (code .entry)) at cap (r .next) (r .size) ⌝ }
+{
+    if code.len() - at < 3 {
+        return Weight { next: at, size: 0 };
+    }
+    let lo = small(code[at + 1]);
+    let a = weigh(code, at + 2, cap);
+    if cap < a.size {
         return Weight {
             next: a.next,
-            size: capped(a.size * l + 1 + a.size, cap),
+            size: cap + 1,
         };
     }
-    Weight { next: at, size: 0 }
+    let l = less(lo);
+    Weight {
+        next: a.next,
+        size: capped(a.size * l + 1 + a.size, cap),
+    }
 }
 
 fn clear(marks: &mut [u8])
@@ -527,7 +535,14 @@ fn dead(marks: &mut [u8]) -> bool
 }
 
 // The rest of the text, from a place on to which the marks have read it; `told` says whether what was read is described.
-pub fn read(code: &[u32], text: &[u8], marks: &mut [u8], from: usize, told: bool, grows: bool) -> bool
+pub fn read(
+    code: &[u32],
+    text: &[u8],
+    marks: &mut [u8],
+    from: usize,
+    told: bool,
+    grows: bool,
+) -> bool
     requires { ⌜ Fits (now code) 0 (now marks) 0 ⌝ ∗ ⌜ (from ≤ length (now text)) × Read (now code) (now text) from (now marks) told ⌝ ∗ ⌜ (grows ≡ true → Grows (now code)) ⌝ }
     ensures { λ r. ⌜ Ran (now (code .entry)) (now (text .entry)) (length (now (marks .entry))) r ⌝ }
 {
