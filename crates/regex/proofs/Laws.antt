@@ -2,7 +2,7 @@
 use mathlib.Core.Path.{_≡_, ap, sym, _∙_}
 use mathlib.Core.Bool.{Bool, true, false}
 use mathlib.Core.List.{List, []}
-use Prim.Native.Nat.{ℕ, _-_, _≤_, _<_, _^_}
+use Prim.Native.Nat.{ℕ, _-_, _≤_, _<_, _^_, min}
 use native.Mathlib.Omega.{arith}
 use lib.ListN.{length, take}
 use lib.Seq.{length-take-le}
@@ -16,6 +16,7 @@ use Rattle.regexps.specs.Agree.{agree, told-same}
 use Rattle.regex_code.specs.Flat.{flat}
 use Rattle.regex_chars.specs.Laws.{slice-end}
 use Rattle.regex_total.specs.Answers.{Matched, Widths}
+use Rattle.regex_marks.specs.Moves.{Fits}
 use Rattle.regex_marks.specs.Runs.{Ran, Weighs, Grows}
 use Rattle.regex_plain.specs.Rows.{Known, Open}
 use Rattle.regex.specs.Tested.{Tested, Missed}
@@ -61,3 +62,10 @@ taken n ms h = let e = length-take-le (n - 0) ms (omega arith) in omega arith
 
 pub grows : (s : List ℕ) → Open s → Grows s
 grows s o = record { of = o .of }
+
+-- what the marks ask of the code and of their number
+pub fits :
+    (s ms : List ℕ) (n m : ℕ) {room : ℕ} → length s ≤ 65535 → n ≤ room → room ≡ min m 65535 → n ≤ length ms → Fits s 0 (take (n - 0) ms) 0
+fits s ms n m h k e l =
+    let q = length-take-le (n - 0) ms (omega arith) in
+    record { place = omega arith; words = omega arith; room = omega arith; few = omega arith }

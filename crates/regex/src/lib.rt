@@ -8,11 +8,14 @@ use regex_total::matches;
 use regex_total::measure;
 ghost use mathlib.Core.Path.{_≡_};
 ghost use mathlib.Core.Bool.{true};
-ghost use Prim.Native.Nat.{min};
+ghost use Prim.Native.Nat.{_≤_, min};
 ghost use Rattle.regex.specs.Tested.{Tested, Missed};
 
 // More marks than this are not weighed.
 const MAX_ROOM: usize = 65535;
+
+// The marks take no more words of code; an expression has 8,205 at most.
+const MAX_CODE: usize = 65535;
 
 // A most number of bytes that bounds nothing.
 const NO_BOUND: usize = 2147483648;
@@ -37,6 +40,16 @@ fn missed(code: &[u32], n: usize) -> bool
     w.most < n
 }
 
+// Whether n marks go into the room, for a code of so many words.
+fn has_room(words: usize, n: usize, room: usize) -> bool
+    ensures { λ r. ⌜ (r ≡ true → (words ≤ 65535) × (n ≤ room)) ⌝ }
+{
+    if MAX_CODE < words {
+        return false;
+    }
+    n <= room
+}
+
 // Whether the text is described by the expression that the code is of. The marks are room: what stands in them does not matter.
 pub fn test(code: &[u32], text: &[u8], marks: &mut [u8]) -> bool
     ensures { λ r. ⌜ Tested (now (code .entry)) (now (text .entry)) r ⌝ }
@@ -51,10 +64,10 @@ pub fn test(code: &[u32], text: &[u8], marks: &mut [u8]) -> bool
     let room = lesser(marks.len(), MAX_ROOM);
     let w = weigh(code, 0, room);
     let n = w.size;
-    if room < n {
-        let end = text.len();
-        return matches(code, 0, text, 0, end);
+    if has_room(code.len(), n, room) {
+        let o = open_ended(code);
+        return run(code, text, &mut marks[0..n], o);
     }
-    let o = open_ended(code);
-    run(code, text, &mut marks[0..n], o)
+    let end = text.len();
+    matches(code, 0, text, 0, end)
 }

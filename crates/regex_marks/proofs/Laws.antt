@@ -203,11 +203,12 @@ Asked s b ms ms' m c next n e v w x r =
     b + size x ≤ length ms → Good x b ms → (drop next s ≡ r) × Moved x b ms ms' m c n e v w
 
 module _ (s : List ℕ) (m : Bool) (c b : ℕ) (ms : List ℕ) (room : b ≤ length ms) where
-  pub stop-nothing : (at : ℕ) → length s ≤ at → Shifted s at m c b ms ms at 0 false false false
+  pub stop-nothing : (at : ℕ) → at ≤ length s → length s ≤ at → Shifted s at m c b ms ms at 0 false false false
   unfolding Asked
-  stop-nothing at h =
+  stop-nothing at i h =
       record {
         from = omega arith;
+        to = i;
         fits = omega arith;
         long = refl;
         of = λ x r e. of-nothing (Asked s b ms ms m c at 0 false false false) x r (sym (drop-of-length-le s h) ∙ e);
@@ -219,6 +220,7 @@ module _ (s : List ℕ) (m : Bool) (c b : ℕ) (ms : List ℕ) (room : b ≤ len
     shift-empty h =
         record {
           from = omega arith;
+          to = omega arith;
           fits = omega arith;
           long = refl;
           of =
@@ -241,6 +243,7 @@ module _ (s : List ℕ) (m : Bool) (c b : ℕ) (ms : List ℕ) (room : b ≤ len
       spot-room h =
           record {
             from = omega arith;
+            to = omega arith;
             fits = omega arith;
             long = refl;
             of =
@@ -249,12 +252,13 @@ module _ (s : List ℕ) (m : Bool) (c b : ℕ) (ms : List ℕ) (room : b ≤ len
           }
 
       pub spot-hit :
-          b < length ms → (k : ℕ) {n : Bool} {next : ℕ} → eqb k 1 ≡ n → Entered s at m c n → SkipsClass s at next
+          b < length ms → (k : ℕ) {n : Bool} {next : ℕ} → eqb k 1 ≡ n → Entered s at m c n → SkipsClass s at next → next ≤ length s
           → Shifted s at m c b ms (set ms b k) next 1 false (eqb (getD ms b 0) 1) n
       unfolding Asked
-      spot-hit h k {n} {next} k-is q j =
+      spot-hit h k {n} {next} k-is q j i =
           record {
             from = j .from;
+            to = i;
             fits = omega arith;
             long = length-set ms b k;
             of =
@@ -289,6 +293,7 @@ module _ (s : List ℕ) (m : Bool) (c b : ℕ) (ms : List ℕ) (room : b ≤ len
       shift-then h p1 p2 q =
           record {
             from = omega (arith, p1 .from, p2 .from);
+            to = p2 .to;
             fits = omega (arith, p2 .fits, p1 .long);
             long = p2 .long ∙ p1 .long;
             of =
@@ -307,6 +312,7 @@ module _ (s : List ℕ) (m : Bool) (c b : ℕ) (ms : List ℕ) (room : b ≤ len
       shift-or h p1 p2 q =
           record {
             from = omega (arith, p1 .from, p2 .from);
+            to = p2 .to;
             fits = omega (arith, p2 .fits, p1 .long);
             long = p2 .long ∙ p1 .long;
             of =
@@ -324,6 +330,7 @@ module _ (s : List ℕ) (m : Bool) (c b : ℕ) (ms : List ℕ) (room : b ≤ len
       stop-short h =
           record {
             from = omega arith;
+            to = omega arith;
             fits = omega arith;
             long = refl;
             of = λ x r e. go x r (sym (word s at p) ∙ e) (sym (length-drop at s) ∙ ap length e);
@@ -344,6 +351,7 @@ module _ (s : List ℕ) (m : Bool) (c b : ℕ) (ms : List ℕ) (room : b ≤ len
       stop-other n4 n5 =
           record {
             from = omega arith;
+            to = omega arith;
             fits = omega arith;
             long = refl;
             of = λ x r e. of-other (Asked s b ms ms m c at 0 false false false) _ _ (omega arith) x r (sym (word s at p) ∙ e);
@@ -351,11 +359,12 @@ module _ (s : List ℕ) (m : Bool) (c b : ℕ) (ms : List ℕ) (room : b ≤ len
 
     pub shift-none :
         getD s at 0 ≡ 4 → {lo hi n : ℕ} → lo ≡ getD s (at + 1) 0 → hi ≡ getD s (at + 2) 0 → hi ≡ 0 → Skips s (at + 3) n
-        → Shifted s at m c b ms ms n 0 (eqb lo 0) false false
+        → n ≤ length s → Shifted s at m c b ms ms n 0 (eqb lo 0) false false
     unfolding Asked
-    shift-none h {lo} {hi} {n} el eh ez k =
+    shift-none h {lo} {hi} {n} el eh ez k i' =
         record {
           from = omega (arith, k .from);
+          to = i';
           fits = omega arith;
           long = refl;
           of =
@@ -382,6 +391,7 @@ module _ (s : List ℕ) (m : Bool) (c b : ℕ) (ms : List ℕ) (room : b ≤ len
       shift-upto h {lo} {hi} el eh k =
           record {
             from = omega (arith, k .from);
+            to = k .to;
             fits = k .fits;
             long = k .long;
             of =
@@ -406,6 +416,7 @@ module _ (s : List ℕ) (m : Bool) (c b : ℕ) (ms : List ℕ) (room : b ≤ len
       shift-any h {lo} el k =
           record {
             from = omega (arith, k .from);
+            to = k .to;
             fits = k .fits;
             long = k .long;
             of =
@@ -427,6 +438,7 @@ module _ (s : List ℕ) (m : Bool) (c b : ℕ) (ms : List ℕ) (room : b ≤ len
         subst (λ i. Copied s at m c b lo i ms ms1 n (z + 0) (eqb lo 0 || (e && leb lo 1)) ((v && leb lo 1) || false) ((w && leb lo 1) || false)) (sym h)
         (record {
           from = p .from;
+          to = p .to;
           fits = omega (arith, p .fits);
           long = p .long;
           of =
@@ -441,6 +453,7 @@ module _ (s : List ℕ) (m : Bool) (c b : ℕ) (ms : List ℕ) (room : b ≤ len
     copied-bare lo hi k h =
         record {
           from = p .from;
+          to = p .to;
           fits = omega (arith, p .fits);
           long = p .long;
           of =
@@ -471,6 +484,7 @@ module _ (s : List ℕ) (m : Bool) (c b : ℕ) (ms : List ℕ) (room : b ≤ len
         go h k =
             record {
               from = k .from;
+              to = k .to;
               fits = omega (arith, k .fits, p .long);
               long = k .long ∙ p .long;
               of =
@@ -498,6 +512,7 @@ module _ (s : List ℕ) (m : Bool) (c b : ℕ) (ms : List ℕ) (room : b ≤ len
         go l k =
             record {
               from = k .from;
+              to = k .to;
               fits = omega (arith, k .fits, p .long);
               long = k .long ∙ p .long;
               of =
@@ -508,10 +523,11 @@ module _ (s : List ℕ) (m : Bool) (c b : ℕ) (ms : List ℕ) (room : b ≤ len
             }
 
   -- ENDLESS, no room
-  pub endless-room : (at lo : ℕ) → length ms ≤ b → Endless s at m c b lo ms ms at 0 false false false
-  endless-room at lo l =
+  pub endless-room : (at lo : ℕ) → at ≤ length s → length ms ≤ b → Endless s at m c b lo ms ms at 0 false false false
+  endless-room at lo i l =
       record {
         from = omega arith;
+        to = i;
         fits = omega arith;
         long = refl;
         of = λ x r e y g. let k = endless-some (size x) lo in absurd (omega arith);
@@ -524,6 +540,7 @@ module _ (s : List ℕ) (m : Bool) (c b : ℕ) (ms : List ℕ) (room : b ≤ len
   endless-hollow at {ms1} {n} {z} {e} p lo h q k =
       record {
         from = p .from;
+        to = p .to;
         fits = omega arith;
         long = p .long;
         of =
@@ -548,6 +565,7 @@ module _ (s : List ℕ) (m : Bool) (c b : ℕ) (ms : List ℕ) (room : b ≤ len
     endless-loop lo h l k k-is f q g =
         record {
           from = p .from;
+          to = p .to;
           fits = omega (arith, p .fits);
           long = length-set ms1 b k ∙ p .long;
           of =

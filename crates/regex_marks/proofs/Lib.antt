@@ -3,3 +3,4 @@ pub mod Frames
 pub mod Hollow
 pub mod Laws
 pub mod Runs
+pub mod Words

@@ -4,15 +4,16 @@ use regex_chars::char_at;
 use regex_chars::class_has;
 use regex_code::skip;
 use regex_code::skip_class;
+use regex_code::small;
 use regex_code::wide;
 ghost use mathlib.Core.Path.{_≡_};
 ghost use mathlib.Core.Bool.{true, _&&_, _||_};
-ghost use Prim.Native.Nat.{_+_, _-_, _≤_, _<_, _^_, pred};
+ghost use Prim.Native.Nat.{_+_, _-_, _≤_, _<_, _^_, pred, min};
 ghost use lib.Dec.{eqb, leb};
 ghost use lib.ListN.{length, getD};
-ghost use Rattle.regex_marks.specs.Moves.{Shifted, Copied, Endless};
+ghost use Rattle.regex_marks.specs.Moves.{Fits, Word, ShiftedBy, CopiedBy, EndlessBy};
 ghost use Rattle.regex_marks.specs.Runs.{Read, Ran, Clear, Dead, Grows, Weighs, Capped, Entered};
-ghost use Rattle.regex_marks.specs.Steps.{chainOf, forkOf, linkOf, loopOf, lastOf, enterOf, stopOf, bareOf, bareLoopOf};
+ghost use Rattle.regex_marks.specs.Steps.{flagOf, stepOf, emptyOf, secondOf, joinedOf, chainOf, forkOf, linkOf, loopOf, lastOf, enterOf, stopOf, bareOf, bareLoopOf};
 
 // What a pass over a part says: the place behind its code, the number of its marks, whether it describes the empty word, and
 // whether a word of it may end here, before the character and after it.
@@ -172,10 +173,73 @@ fn looped(lo: usize, s: Step) -> Step
     }
 }
 
+// A step in one word: the place behind the code, 16 bits for the number of marks, and a bit for each of the three. A word comes back in a register, and a
+// struct takes room in every frame of the recursion.
+fn flag(b: bool) -> usize
+    ensures { λ r. ⌜ (r ≡ flagOf b) × (r ≤ 1) ⌝ }
+{
+    if b { 1 } else { 0 }
+}
+
+fn pack(s: Step) -> usize
+    requires { ⌜ (s .next < 2 ^ 33) × (s .size < 2 ^ 16) ⌝ }
+    ensures { λ r. ⌜ stepOf r ≡ s ⌝ }
+{
+    let empty = flag(s.empty);
+    let was = flag(s.was);
+    let now = flag(s.now);
+    (s.next * 65536 + s.size) * 8 + empty * 4 + was * 2 + now
+}
+
+fn unpack(w: usize) -> Step
+    ensures { λ r. ⌜ r ≡ stepOf w ⌝ }
+{
+    Step {
+        next: w / 524288,
+        size: w / 8 % 65536,
+        empty: w / 4 % 2 == 1,
+        was: w / 2 % 2 == 1,
+        now: w % 2 == 1,
+    }
+}
+
+fn lesser(a: usize, b: usize) -> usize
+    ensures { λ r. ⌜ r ≡ min a b ⌝ }
+{
+    if a <= b { a } else { b }
+}
+
+// A part with no marks.
+fn unmarked(at: usize, empty: bool) -> Step
+    ensures { λ r. ⌜ r ≡ emptyOf at empty ⌝ }
+{
+    Step {
+        next: at,
+        size: 0,
+        empty: empty,
+        was: false,
+        now: false,
+    }
+}
+
+// Whether the second of two parts is entered: in a row, or one of the two.
+fn second(k: u32, enter: bool, s: Step) -> bool
+    ensures { λ r. ⌜ r ≡ secondOf k enter s ⌝ }
+{
+    if k == 2 { enters(enter, s) } else { enter }
+}
+
+fn joined(k: u32, s: Step, t: Step) -> Step
+    requires { ⌜ s .size + t .size < 2 ^ 64 ⌝ }
+    ensures { λ r. ⌜ r ≡ joinedOf k s t ⌝ }
+{
+    if k == 2 { chain(s, t) } else { fork(s, t) }
+}
+
 // One character of the class at `at`.
 fn spot(code: &[u32], at: usize, marks: &mut [u8], base: usize, enter: bool, c: u32) -> Step
-    requires { ⌜ at < length (now code) ⌝ ∗ ⌜ getD (now code) at 0 ≡ 1 ⌝ ∗ ⌜ base ≤ length (now marks) ⌝ }
-    ensures { λ r. ⌜ Shifted (now (code .entry)) at enter c base (now (marks .entry)) (now (marks .exit)) (r .next) (r .size) (r .empty) (r .was) (r .now) ⌝ }
+    requires { ⌜ Word (now code) at 1 ⌝ ∗ ⌜ base ≤ length (now marks) ⌝ }
+    ensures { λ r. ⌜ ShiftedBy (now (code .entry)) at enter c base (now (marks .entry)) (now (marks .exit)) r ⌝ }
 {
     if marks.len() <= base {
         return stop(at);
@@ -183,8 +247,9 @@ fn spot(code: &[u32], at: usize, marks: &mut [u8], base: usize, enter: bool, c: 
     let was = marks[base] == 1;
     let hit = hits(code, at, enter, c);
     marks[base] = bit(hit);
+    let n = skip_class(code, at);
     Step {
-        next: skip_class(code, at),
+        next: lesser(n, code.len()),
         size: 1,
         empty: false,
         was: was,
@@ -193,65 +258,82 @@ fn spot(code: &[u32], at: usize, marks: &mut [u8], base: usize, enter: bool, c: 
 }
 
 // The marks of the part at `at`, from `base` on, read c.
-pub fn shift(code: &[u32], at: usize, marks: &mut [u8], base: usize, enter: bool, c: u32) -> Step
-    requires { ⌜ base ≤ length (now marks) ⌝ }
-    ensures { λ r. ⌜ Shifted (now (code .entry)) at enter c base (now (marks .entry)) (now (marks .exit)) (r .next) (r .size) (r .empty) (r .was) (r .now) ⌝ }
+pub fn shift(code: &[u32], at: usize, marks: &mut [u8], base: usize, enter: bool, c: u32) -> usize
+    requires { ⌜ Fits (now code) at (now marks) base ⌝ }
+    ensures { λ r. ⌜ ShiftedBy (now (code .entry)) at enter c base (now (marks .entry)) (now (marks .exit)) (stepOf r) ⌝ }
 {
     if code.len() <= at {
-        return stop(at);
+        let s = stop(at);
+        return pack(s);
     }
     let k = code[at];
     if k == 0 {
-        return Step {
-            next: at + 1,
-            size: 0,
-            empty: true,
-            was: false,
-            now: false,
-        };
+        let s = unmarked(at + 1, true);
+        return pack(s);
     }
     if k == 1 {
-        return spot(code, at, marks, base, enter, c);
+        let s = spot(code, at, marks, base, enter, c);
+        return pack(s);
     }
-    if k == 2 {
-        let s = shift(code, at + 1, marks, base, enter, c);
-        let m = enters(enter, s);
-        let n = s.next;
-        let b = base + s.size;
-        let t = shift(code, n, marks, b, m, c);
-        return chain(s, t);
-    }
-    if k == 3 {
-        let s = shift(code, at + 1, marks, base, enter, c);
-        let n = s.next;
-        let b = base + s.size;
-        let t = shift(code, n, marks, b, enter, c);
-        return fork(s, t);
-    }
-    if code.len() - at < 3 {
-        return stop(at);
+    if k <= 3 {
+        return two(code, at, k, marks, base, enter, c);
     }
     if k == 4 {
-        let lo = wide(code[at + 1]);
-        let hi = wide(code[at + 2]);
-        if hi == 0 {
-            let n = skip(code, at + 3);
-            let none = lo == 0;
-            return Step {
-                next: n,
-                size: 0,
-                empty: none,
-                was: false,
-                now: false,
-            };
-        }
-        return copies(code, at + 3, marks, base, lo, hi, enter, c);
+        return counted(code, at, marks, base, enter, c);
     }
     if k == 5 {
-        let lo = wide(code[at + 1]);
-        return endless(code, at + 2, marks, base, lo, enter, c);
+        return least(code, at, marks, base, enter, c);
     }
-    stop(at)
+    let s = stop(at);
+    pack(s)
+}
+
+// Two parts: in a row behind the word 2, one of them behind the word 3.
+fn two(code: &[u32], at: usize, k: u32, marks: &mut [u8], base: usize, enter: bool, c: u32) -> usize
+    requires { ⌜ Fits (now code) at (now marks) base ⌝ ∗ ⌜ Word (now code) at k ⌝ ∗ ⌜ (2 ≤ k) × (k ≤ 3) ⌝ }
+    ensures { λ r. ⌜ ShiftedBy (now (code .entry)) at enter c base (now (marks .entry)) (now (marks .exit)) (stepOf r) ⌝ }
+{
+    let p = shift(code, at + 1, marks, base, enter, c);
+    let s = unpack(p);
+    let m = second(k, enter, s);
+    let n = s.next;
+    let b = base + s.size;
+    let q = shift(code, n, marks, b, m, c);
+    let t = unpack(q);
+    let u = joined(k, s, t);
+    pack(u)
+}
+
+// A part that is repeated from one number to another.
+fn counted(code: &[u32], at: usize, marks: &mut [u8], base: usize, enter: bool, c: u32) -> usize
+    requires { ⌜ Fits (now code) at (now marks) base ⌝ ∗ ⌜ Word (now code) at 4 ⌝ }
+    ensures { λ r. ⌜ ShiftedBy (now (code .entry)) at enter c base (now (marks .entry)) (now (marks .exit)) (stepOf r) ⌝ }
+{
+    if code.len() - at < 3 {
+        let s = stop(at);
+        return pack(s);
+    }
+    let lo = wide(code[at + 1]);
+    let hi = wide(code[at + 2]);
+    if hi == 0 {
+        let n = skip(code, at + 3);
+        let s = unmarked(lesser(n, code.len()), lo == 0);
+        return pack(s);
+    }
+    copies(code, at + 3, marks, base, lo, hi, enter, c)
+}
+
+// A part that is repeated from one number on.
+fn least(code: &[u32], at: usize, marks: &mut [u8], base: usize, enter: bool, c: u32) -> usize
+    requires { ⌜ Fits (now code) at (now marks) base ⌝ ∗ ⌜ Word (now code) at 5 ⌝ }
+    ensures { λ r. ⌜ ShiftedBy (now (code .entry)) at enter c base (now (marks .entry)) (now (marks .exit)) (stepOf r) ⌝ }
+{
+    if code.len() - at < 3 {
+        let s = stop(at);
+        return pack(s);
+    }
+    let lo = wide(code[at + 1]);
+    endless(code, at + 2, marks, base, lo, enter, c)
 }
 
 fn copies(
@@ -263,23 +345,28 @@ fn copies(
     hi: usize,
     enter: bool,
     c: u32,
-) -> Step
-    requires { ⌜ base ≤ length (now marks) ⌝ ∗ ⌜ 1 ≤ hi ⌝ }
-    ensures { λ r. ⌜ Copied (now (code .entry)) at enter c base lo hi (now (marks .entry)) (now (marks .exit)) (r .next) (r .size) (r .empty) (r .was) (r .now) ⌝ }
+) -> usize
+    requires { ⌜ Fits (now code) at (now marks) base ⌝ ∗ ⌜ 1 ≤ hi ⌝ }
+    ensures { λ r. ⌜ CopiedBy (now (code .entry)) at enter c base lo hi (now (marks .entry)) (now (marks .exit)) (stepOf r) ⌝ }
 {
-    let s = shift(code, at, marks, base, enter, c);
+    let p = shift(code, at, marks, base, enter, c);
+    let s = unpack(p);
     if s.size == 0 {
-        return bare(lo, hi, s);
+        let u = bare(lo, hi, s);
+        return pack(u);
     }
     if hi == 1 {
         let t = last(lo, s);
-        return link(lo, s, t);
+        let u = link(lo, s, t);
+        return pack(u);
     }
     let m = enters(enter, s);
     let b = base + s.size;
     let l = less(lo);
-    let t = copies(code, at, marks, b, l, hi - 1, m, c);
-    link(lo, s, t)
+    let q = copies(code, at, marks, b, l, hi - 1, m, c);
+    let t = unpack(q);
+    let u = link(lo, s, t);
+    pack(u)
 }
 
 fn endless(
@@ -290,28 +377,35 @@ fn endless(
     lo: usize,
     enter: bool,
     c: u32,
-) -> Step
-    requires { ⌜ base ≤ length (now marks) ⌝ }
-    ensures { λ r. ⌜ Endless (now (code .entry)) at enter c base lo (now (marks .entry)) (now (marks .exit)) (r .next) (r .size) (r .empty) (r .was) (r .now) ⌝ }
+) -> usize
+    requires { ⌜ Fits (now code) at (now marks) base ⌝ }
+    ensures { λ r. ⌜ EndlessBy (now (code .entry)) at enter c base lo (now (marks .entry)) (now (marks .exit)) (stepOf r) ⌝ }
 {
     if marks.len() <= base {
-        return stop(at);
+        let s = stop(at);
+        return pack(s);
     }
     if lo <= 1 {
         let f = marks[base] == 1;
         let m = either(enter, f);
-        let s = shift(code, at, marks, base + 1, m, c);
+        let p = shift(code, at, marks, base + 1, m, c);
+        let s = unpack(p);
         marks[base] = bit(s.now);
-        return looped(lo, s);
+        let u = looped(lo, s);
+        return pack(u);
     }
-    let s = shift(code, at, marks, base, enter, c);
+    let p = shift(code, at, marks, base, enter, c);
+    let s = unpack(p);
     if s.size == 0 {
-        return bare_loop(s);
+        let u = bare_loop(s);
+        return pack(u);
     }
     let m = enters(enter, s);
     let b = base + s.size;
-    let t = endless(code, at, marks, b, lo - 1, m, c);
-    chain(s, t)
+    let q = endless(code, at, marks, b, lo - 1, m, c);
+    let t = unpack(q);
+    let u = chain(s, t);
+    pack(u)
 }
 
 pub struct Weight {
@@ -348,57 +442,72 @@ pub fn weigh(code: &[u32], at: usize, cap: usize) -> Weight
             size: capped(1, cap),
         };
     }
-    if k == 2 {
-        let a = weigh(code, at + 1, cap);
-        let n = a.next;
-        let b = weigh(code, n, cap);
-        return Weight {
-            next: b.next,
-            size: capped(a.size + b.size, cap),
-        };
+    if k <= 3 {
+        return weigh_two(code, at, k, cap);
     }
-    if k == 3 {
-        let a = weigh(code, at + 1, cap);
-        let n = a.next;
-        let b = weigh(code, n, cap);
-        return Weight {
-            next: b.next,
-            size: capped(a.size + b.size, cap),
-        };
+    if k == 4 {
+        return weigh_counted(code, at, cap);
     }
+    if k == 5 {
+        return weigh_least(code, at, cap);
+    }
+    Weight { next: at, size: 0 }
+}
+
+fn weigh_two(code: &[u32], at: usize, k: u32, cap: usize) -> Weight
+    requires { ⌜ cap < 2 ^ 31 ⌝ ∗ ⌜ Word (now code) at k ⌝ ∗ ⌜ (2 ≤ k) × (k ≤ 3) ⌝ }
+    ensures { λ r. ⌜ Weighs (now (code .entry)) at cap (r .next) (r .size) ⌝ }
+{
+    let a = weigh(code, at + 1, cap);
+    let n = a.next;
+    let b = weigh(code, n, cap);
+    Weight {
+        next: b.next,
+        size: capped(a.size + b.size, cap),
+    }
+}
+
+fn weigh_counted(code: &[u32], at: usize, cap: usize) -> Weight
+    requires { ⌜ cap < 2 ^ 31 ⌝ ∗ ⌜ Word (now code) at 4 ⌝ }
+    ensures { λ r. ⌜ Weighs (now (code .entry)) at cap (r .next) (r .size) ⌝ }
+{
     if code.len() - at < 3 {
         return Weight { next: at, size: 0 };
     }
-    if k == 4 {
-        let hi = wide(code[at + 2]);
-        let a = weigh(code, at + 3, cap);
-        if cap < a.size {
-            return Weight {
-                next: a.next,
-                size: cap + 1,
-            };
-        }
+    let hi = small(code[at + 2]);
+    let a = weigh(code, at + 3, cap);
+    if cap < a.size {
         return Weight {
             next: a.next,
-            size: capped(a.size * hi, cap),
+            size: cap + 1,
         };
     }
-    if k == 5 {
-        let lo = wide(code[at + 1]);
-        let a = weigh(code, at + 2, cap);
-        if cap < a.size {
-            return Weight {
-                next: a.next,
-                size: cap + 1,
-            };
-        }
-        let l = less(lo);
+    Weight {
+        next: a.next,
+        size: capped(a.size * hi, cap),
+    }
+}
+
+fn weigh_least(code: &[u32], at: usize, cap: usize) -> Weight
+    requires { ⌜ cap < 2 ^ 31 ⌝ ∗ ⌜ Word (now code) at 5 ⌝ }
+    ensures { λ r. ⌜ Weighs (now (code .entry)) at cap (r .next) (r .size) ⌝ }
+{
+    if code.len() - at < 3 {
+        return Weight { next: at, size: 0 };
+    }
+    let lo = small(code[at + 1]);
+    let a = weigh(code, at + 2, cap);
+    if cap < a.size {
         return Weight {
             next: a.next,
-            size: capped(a.size * l + 1 + a.size, cap),
+            size: cap + 1,
         };
     }
-    Weight { next: at, size: 0 }
+    let l = less(lo);
+    Weight {
+        next: a.next,
+        size: capped(a.size * l + 1 + a.size, cap),
+    }
 }
 
 fn clear(marks: &mut [u8])
@@ -425,17 +534,26 @@ fn dead(marks: &mut [u8]) -> bool
     true
 }
 
-fn read(code: &[u32], text: &[u8], marks: &mut [u8], empty: bool, grows: bool) -> bool
-    requires { ⌜ Read (now code) (now text) 0 (now marks) empty ⌝ ∗ ⌜ (grows ≡ true → Grows (now code)) ⌝ }
+// The rest of the text, from a place on to which the marks have read it; `told` says whether what was read is described.
+pub fn read(
+    code: &[u32],
+    text: &[u8],
+    marks: &mut [u8],
+    from: usize,
+    told: bool,
+    grows: bool,
+) -> bool
+    requires { ⌜ Fits (now code) 0 (now marks) 0 ⌝ ∗ ⌜ (from ≤ length (now text)) × Read (now code) (now text) from (now marks) told ⌝ ∗ ⌜ (grows ≡ true → Grows (now code)) ⌝ }
     ensures { λ r. ⌜ Ran (now (code .entry)) (now (text .entry)) (length (now (marks .entry))) r ⌝ }
 {
     let end = text.len();
-    let mut last = empty;
-    let mut i = 0;
+    let mut last = told;
+    let mut i = from;
     while i < end {
         let first = i == 0;
         let c = char_at(text, i, end);
-        let s = shift(code, 0, marks, 0, first, c.value);
+        let p = shift(code, 0, marks, 0, first, c.value);
+        let s = unpack(p);
         last = s.now;
         if grows {
             if last {
@@ -453,11 +571,12 @@ fn read(code: &[u32], text: &[u8], marks: &mut [u8], empty: bool, grows: bool) -
 // Whether the text is described by the expression that the code is of. Where that grows, and what was read is described, so is the
 // text.
 pub fn run(code: &[u32], text: &[u8], marks: &mut [u8], grows: bool) -> bool
-    requires { ⌜ (grows ≡ true → Grows (now code)) ⌝ }
+    requires { ⌜ Fits (now code) 0 (now marks) 0 ⌝ ∗ ⌜ (grows ≡ true → Grows (now code)) ⌝ }
     ensures { λ r. ⌜ Ran (now (code .entry)) (now (text .entry)) (length (now (marks .entry))) r ⌝ }
 {
     clear(marks);
-    let s = shift(code, 0, marks, 0, false, 0);
+    let p = shift(code, 0, marks, 0, false, 0);
+    let s = unpack(p);
     let e = s.empty;
-    read(code, text, marks, e, grows)
+    read(code, text, marks, 0, e, grows)
 }

@@ -11,6 +11,7 @@ use Rattle.definition.specs.Utf8.{encode, encodeAll}
 use Rattle.regexps.specs.Words.{Join, Times, upto, Told}
 use Rattle.regexps.specs.Regexp.{Regexp, Range, hits, Describes}
 use Rattle.regex_code.specs.Flat.{flat, flag, flatRanges}
+use Rattle.regex_total.specs.declared.Width.{Width}
 
 pub record Inside (t : List ℕ) (from to : ℕ) : Type 0 where
   pub order : from ≤ to
@@ -75,3 +76,7 @@ pub record Reaches (s : List ℕ) (at n : ℕ) : Type 0 where
   pub of :
       (comp : Bool) (gs : List Range) (r : List ℕ) → drop (at + 1) s ≡ flag comp ∷ length gs ∷ flatRanges gs r → (c : ℕ)
       → hits comp gs c ≡ true → length (encode c) ≤ n
+
+-- of nothing
+abbrev pub noWidth : ℕ → Width
+noWidth at = record { next = at; least = 0; most = 0 }

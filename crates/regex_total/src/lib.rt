@@ -5,12 +5,13 @@ use regex_chars::char_at;
 use regex_chars::class_has;
 use regex_code::skip;
 use regex_code::skip_class;
+use regex_code::small;
 use regex_code::wide;
 ghost use mathlib.Core.Path.{_≡_};
 ghost use Prim.Native.Nat.{_+_, _≤_, _<_, _^_, min, max};
 ghost use mathlib.Core.Bool.{true};
 ghost use lib.ListN.{length, getD};
-ghost use Rattle.regex_total.specs.Answers.{Inside, Matched, Repeated, Paired, Joined, Items, Widths, Capped, Apart, Reaches};
+ghost use Rattle.regex_total.specs.Answers.{noWidth, Inside, Matched, Repeated, Paired, Joined, Items, Widths, Capped, Apart, Reaches};
 
 // One character of the class at `at`.
 fn one(code: &[u32], at: usize, text: &[u8], from: usize, to: usize) -> bool
@@ -113,23 +114,25 @@ fn reach(code: &[u32], at: usize) -> usize
     4
 }
 
+fn no_width(at: usize) -> Width
+    ensures { λ r. ⌜ r ≡ noWidth at ⌝ }
+{
+    Width {
+        next: at,
+        least: 0,
+        most: 0,
+    }
+}
+
 pub fn measure(code: &[u32], at: usize) -> Width
     ensures { λ r. ⌜ Widths (now (code .entry)) at (r .next) (r .least) (r .most) ⌝ }
 {
     if code.len() <= at {
-        return Width {
-            next: at,
-            least: 0,
-            most: 0,
-        };
+        return no_width(at);
     }
     let k = code[at];
     if k == 0 {
-        return Width {
-            next: at + 1,
-            least: 0,
-            most: 0,
-        };
+        return no_width(at + 1);
     }
     if k == 1 {
         return Width {
@@ -139,62 +142,86 @@ pub fn measure(code: &[u32], at: usize) -> Width
         };
     }
     if k == 2 {
-        let a = measure(code, at + 1);
-        let n = a.next;
-        let b = measure(code, n);
-        return Width {
-            next: b.next,
-            least: capped(a.least + b.least),
-            most: capped(a.most + b.most),
-        };
+        return in_a_row(code, at);
     }
     if k == 3 {
-        let a = measure(code, at + 1);
-        let n = a.next;
-        let b = measure(code, n);
-        return Width {
-            next: b.next,
-            least: lesser(a.least, b.least),
-            most: greater(a.most, b.most),
-        };
-    }
-    if code.len() - at < 3 {
-        return Width {
-            next: at,
-            least: 0,
-            most: 0,
-        };
+        return one_of(code, at);
     }
     if k == 4 {
-        let lo = wide(code[at + 1]);
-        let hi = wide(code[at + 2]);
-        let a = measure(code, at + 3);
-        if a.most < 2147483648 {
-            return Width {
-                next: a.next,
-                least: capped(a.least * lo),
-                most: capped(a.most * hi),
-            };
-        }
-        return Width {
-            next: a.next,
-            least: capped(a.least * lo),
-            most: 2147483648,
-        };
+        return copied(code, at);
     }
     if k == 5 {
-        let lo = wide(code[at + 1]);
-        let a = measure(code, at + 2);
+        return looped(code, at);
+    }
+    no_width(at)
+}
+
+// One function for each operator, so that a call of `measure` has no more on the stack than one of them needs.
+fn in_a_row(code: &[u32], at: usize) -> Width
+    requires { ⌜ at < length (now code) ⌝ ∗ ⌜ getD (now code) at 0 ≡ 2 ⌝ }
+    ensures { λ r. ⌜ Widths (now (code .entry)) at (r .next) (r .least) (r .most) ⌝ }
+{
+    let a = measure(code, at + 1);
+    let n = a.next;
+    let b = measure(code, n);
+    Width {
+        next: b.next,
+        least: capped(a.least + b.least),
+        most: capped(a.most + b.most),
+    }
+}
+
+fn one_of(code: &[u32], at: usize) -> Width
+    requires { ⌜ at < length (now code) ⌝ ∗ ⌜ getD (now code) at 0 ≡ 3 ⌝ }
+    ensures { λ r. ⌜ Widths (now (code .entry)) at (r .next) (r .least) (r .most) ⌝ }
+{
+    let a = measure(code, at + 1);
+    let n = a.next;
+    let b = measure(code, n);
+    Width {
+        next: b.next,
+        least: lesser(a.least, b.least),
+        most: greater(a.most, b.most),
+    }
+}
+
+fn copied(code: &[u32], at: usize) -> Width
+    requires { ⌜ at < length (now code) ⌝ ∗ ⌜ getD (now code) at 0 ≡ 4 ⌝ }
+    ensures { λ r. ⌜ Widths (now (code .entry)) at (r .next) (r .least) (r .most) ⌝ }
+{
+    if code.len() - at < 3 {
+        return no_width(at);
+    }
+    let lo = small(code[at + 1]);
+    let hi = small(code[at + 2]);
+    let a = measure(code, at + 3);
+    if a.most < 2147483648 {
         return Width {
             next: a.next,
             least: capped(a.least * lo),
-            most: 2147483648,
+            most: capped(a.most * hi),
         };
     }
     Width {
-        next: at,
-        least: 0,
-        most: 0,
+        next: a.next,
+        least: capped(a.least * lo),
+        most: 2147483648,
+    }
+}
+
+fn looped(code: &[u32], at: usize) -> Width
+    requires { ⌜ at < length (now code) ⌝ ∗ ⌜ getD (now code) at 0 ≡ 5 ⌝ }
+    ensures { λ r. ⌜ Widths (now (code .entry)) at (r .next) (r .least) (r .most) ⌝ }
+{
+    if code.len() - at < 3 {
+        return no_width(at);
+    }
+    let lo = small(code[at + 1]);
+    let a = measure(code, at + 2);
+    Width {
+        next: a.next,
+        least: capped(a.least * lo),
+        most: 2147483648,
     }
 }
 

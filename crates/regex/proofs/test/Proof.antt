@@ -1,9 +1,10 @@
 -- `regex::test` meets its contract. Assumes nothing.
 use borrow.Author.Needs.{needs}
-use Rattle.regex.proofs.Laws.{by-plain, by-length, by-total, by-marks, taken, grows}
 use native.Mathlib.Omega.{arith}
+use Rattle.regex.proofs.Laws.{by-plain, by-length, by-total, by-marks, taken, grows, fits}
 use Rattle.regex.proofs.test.Statement.{statement}
 use Rattle.regex.proofs.test.Tie as tie
+use Rattle.regex.proofs.test.Reads as reads
 
 ask-requires : tie.Need-ask-requires
 ask-requires c κs = search needs
@@ -23,11 +24,8 @@ lesser-requires c κs = search needs
 weigh-requires : tie.Need-weigh-requires
 weigh-requires c κs = search needs
 
-matches-requires : tie.Need-matches-requires
-matches-requires c κs = search needs
-
-returns-3 : tie.Need-returns-3
-returns-3 c = by-total _ _ _ (c .matches .ensures)
+has-room-requires : tie.Need-has-room-requires
+has-room-requires c κs = search needs
 
 open-ended-requires : tie.Need-open-ended-requires
 open-ended-requires c κs = search needs
@@ -39,16 +37,22 @@ part-run-start : tie.Need-part-run-start
 part-run-start c = search needs
 
 part-run-end : tie.Need-part-run-end
-part-run-end c = search needs
+part-run-end c = omega (arith, c .before .before .has-room .ensures (c .before .if3 .taken) .1, c .before .before .before .before .lesser .ensures)
 
 run-requires : tie.Need-run-requires
-run-requires c κs = λ e. grows _ (c .before .open-ended .ensures e)
+run-requires c κs = let h = c .before .before .before .has-room .ensures (c .before .before .if3 .taken) in (fits _ _ _ _ (h .0) (h .1) (c .before .before .before .before .before .lesser .ensures) (omega (arith, h .1, c .before .before .before .before .before .lesser .ensures)), λ e. grows _ (c .before .open-ended .ensures e))
 
 same-length : tie.Need-same-length
 same-length c = search needs
 
+returns-3 : tie.Need-returns-3
+returns-3 c = let h = c .before .before .before .before .before .before .has-room .ensures (c .before .before .before .before .before .if3 .taken) in by-marks _ _ _ _ (c .before .before .before .before .before .before .before .weigh .ensures) (h .1) (c .before .before .run .ensures) (taken _ _ (omega (arith, h .1, c .before .before .before .before .before .before .before .before .lesser .ensures)))
+
+matches-requires : tie.Need-matches-requires
+matches-requires c κs = search needs
+
 returns-4 : tie.Need-returns-4
-returns-4 c = by-marks _ _ _ _ (c .before .before .before .before .before .before .weigh .ensures) (c .before .before .before .before .before .if3 .left) (c .before .before .run .ensures) (taken _ _ (omega (arith, c .before .before .before .before .before .if3 .left, c .before .before .before .before .before .before .before .lesser .ensures)))
+returns-4 c = by-total _ _ _ (c .matches .ensures)
 
 pub test-spec : {M : Type 1} → statement M
 test-spec =
@@ -60,12 +64,13 @@ test-spec =
     returns-2
     lesser-requires
     weigh-requires
-    matches-requires
-    returns-3
+    has-room-requires
     open-ended-requires
     sub-run
     part-run-start
     part-run-end
     run-requires
     same-length
+    returns-3
+    matches-requires
     returns-4)
