@@ -260,7 +260,8 @@ fn expected(parser: &JSONPathParser, query: &[u8]) -> Option<Expected> {
     if joined {
         return say(0, "S1, S2");
     }
-    Some(Expected { refusal: 0, row: ALIKE, tree: Some(tree) })
+    let row = if calls_in_segment(&tree.segments) { "as the Rust text, with match or search" } else { ALIKE };
+    Some(Expected { refusal: 0, row, tree: Some(tree) })
 }
 
 // ---- the plan of the Rust text's tree

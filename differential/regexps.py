@@ -62,13 +62,15 @@ def compiled(expression):
 
 
 def by_re(pattern, text):
-    signal.setitimer(signal.ITIMER_REAL, SECONDS)
+    # The alarm may come as it is taken back, so that both are inside the outer `try`.
     try:
-        return "%d%d" % (pattern.fullmatch(text) is not None, pattern.search(text) is not None)
+        signal.setitimer(signal.ITIMER_REAL, SECONDS)
+        try:
+            return "%d%d" % (pattern.fullmatch(text) is not None, pattern.search(text) is not None)
+        finally:
+            signal.setitimer(signal.ITIMER_REAL, 0)
     except Slow:
         return None
-    finally:
-        signal.setitimer(signal.ITIMER_REAL, 0)
 
 
 def pairs(count, pick):

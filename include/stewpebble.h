@@ -8,7 +8,7 @@
 //             STEWPEBBLE_REFUSED_LIST_FULL fills every place of the list from the start position.
 //   threads   The library has no state: any function may be called on any number of threads at once, as long as none writes what another reads.
 //   stack     STEWPEBBLE_QUERY_STACK is enough for every call with a query, or with a plan that was compiled from one, and STEWPEBBLE_PLAN_STACK for every
-//             call with any plan that plan check takes. The deepest calls found take 192 KiB and 384 KiB (docs/PERFORMANCE.md, "Stack").
+//             call with any plan that plan check takes. The deepest calls found take 256 KiB and 1,600 KiB (docs/PERFORMANCE.md, "Stack").
 //   time      docs/EMBEDDING.md has what each operation costs, expressions of match and search among them. A run has no limit to its time: where strangers write the queries, run them where they can be ended.
 #ifndef STEWPEBBLE_H
 #define STEWPEBBLE_H
