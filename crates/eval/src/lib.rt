@@ -522,8 +522,12 @@ fn eval_filter_expr(lent: &[&[u8]; 4], root: usize, node: usize, p: usize, e: us
     while q < e {
         let plan = lent[PLAN];
         let k = plan[q];
-        if k <= CURRENT {
-            let t = filters::short_test(
+        if filters::is_logic(k) {
+            let t = filters::logic_expr(plan, acc, q);
+            acc = t.acc;
+            q = t.q;
+        } else {
+            let t = filters::plain_test(
                 plan,
                 lent[POOL],
                 lent[TABLE],
@@ -536,13 +540,6 @@ fn eval_filter_expr(lent: &[&[u8]; 4], root: usize, node: usize, p: usize, e: us
             if !t.some {
                 return eval_rest(lent, root, node, acc, q, e);
             }
-            acc = t.acc;
-            q = t.q;
-        } else {
-            if !filters::is_logic(k) {
-                return eval_rest(lent, root, node, acc, q, e);
-            }
-            let t = filters::logic_expr(plan, acc, q);
             acc = t.acc;
             q = t.q;
         }

@@ -3,6 +3,7 @@ pub mod Numbers
 pub mod Tests
 pub mod Kinds
 pub mod Pairs
+pub mod Values
 pub mod Kept
 pub mod Atoms
 pub mod Keeps

@@ -1,8 +1,10 @@
-// What a filter's code says of a node, told without registers: a test of a query of names and indices, its comparison with a literal or with another, the number of all children
-// of its node compared with a literal, and the operators between such tests. Everything else is left to the code's registers.
+// What a filter's code says of a node, told without registers: a test of a query of names and indices; the comparison of such a query, of `count` or `value` of it,
+// of `length` of any of these or of a literal with another; the number of all children of a node compared with a literal; and the operators between such tests.
+// What needs a walk of its own is left to the code's registers.
 //
 //   kinds      a node and a literal by their kinds
 //   pairs      two queries of names and indices, compared with each other
+//   values     comparisons of other values
 //   atoms      a test of one member, read from the plan once
 //   kept       the nodes of a range that a filter keeps whose test is read once
 use compare::Order;
@@ -21,12 +23,14 @@ ghost use Rattle.definition.specs.Tables.{kindAt};
 ghost use Rattle.equal.specs.Alike.{Compares};
 ghost use Rattle.visits.specs.Visits.{AskReach};
 ghost use Rattle.filters.specs.Numbers.{saysOf};
+ghost use Rattle.filters.specs.Values.{AskLeft};
 ghost use Rattle.filters.specs.Tests.{literalKind, logicKind, AskNode, DoneNode, AskAgainst, DoneAgainst, DonePlain, AskChildren, DoneChildren, AskCount, DoneCount, AskCounted, DoneCounted, AskCounting, AskShort, DoneShort, AskLogic, DoneLogic};
 
 pub mod atoms;
 pub mod kept;
 pub mod kinds;
 pub mod pairs;
+pub mod values;
 
 const CURRENT: u8 = 0x02;
 
@@ -409,8 +413,8 @@ fn count_test(
     count_against(plan, pool, table, text, n, c + 6, e)
 }
 
-// The query at q that is tested, or compared with a literal or with another query, in code that ends at e.
-pub fn short_test(
+// The query at q that is tested, or compared with a literal or with another query, in code that ends at e. Where nothing is told, `acc` says whether values may tell it.
+fn short_test(
     plan: &[u8],
     pool: &[u8],
     table: &[u8],
@@ -443,12 +447,38 @@ pub fn short_test(
     }
     if !is_literal(mode) {
         return Told {
-            acc: false,
+            acc: true,
             q,
             some: false,
         };
     }
     against(plan, pool, table, text, n, v.first, z, e)
+}
+
+// The test at q that no operator stands before, in code that ends at e.
+pub fn plain_test(
+    plan: &[u8],
+    pool: &[u8],
+    table: &[u8],
+    text: &[u8],
+    root: usize,
+    node: usize,
+    q: usize,
+    e: usize,
+) -> Told
+    requires { ⌜ AskLeft (now plan) (now pool) (now table) (now text) root node q e ⌝ }
+    ensures { λ r. ⌜ DoneShort (now (plan .entry)) (now (pool .entry)) (now (table .entry)) (now (text .entry)) root node q e r ⌝ }
+{
+    if plan[q] <= CURRENT {
+        let t = short_test(plan, pool, table, text, root, node, q, e);
+        if t.some {
+            return t;
+        }
+        if !t.acc {
+            return t;
+        }
+    }
+    values::value_test(plan, pool, table, text, root, node, q, e)
 }
 
 // Whether a byte is that of `!`, `&&` or `||`.

@@ -98,7 +98,7 @@ fn compare_first(
 }
 
 // Nothing is told.
-fn untold(q: usize) -> Told
+pub fn untold(q: usize) -> Told
     ensures { λ r. ⌜ r .some ≡ false ⌝ }
 {
     Told {

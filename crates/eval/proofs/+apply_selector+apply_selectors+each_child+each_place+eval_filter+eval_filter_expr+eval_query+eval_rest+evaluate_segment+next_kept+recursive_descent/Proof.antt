@@ -95,12 +95,7 @@ pub +apply-selector+apply-selectors+each-child+each-place+eval-filter+eval-filte
     (λ t. eval-filter-expr-lts.spec (EvalFilterExpr.calls t) (eval-filter-expr-at t) eval-filter-expr.Post
     EvalFilterExpr.Inv-loop EvalFilterExpr.μ-loop (EvalFilterExpr.loop-holds t)
     (EvalFilterExpr.element-copy-out-plan t) (EvalFilterExpr.shared-slice-read-k t)
-    (EvalFilterExpr.element-copy-out-short-test t) (EvalFilterExpr.element-copy-out-short-test-2 t)
-    (EvalFilterExpr.element-copy-out-short-test-3 t) (EvalFilterExpr.short-test-requires t)
-    (EvalFilterExpr.eval-rest-requires t) (EvalFilterExpr.returns t) (EvalFilterExpr.loop-less t)
-    (EvalFilterExpr.loop-again t) (EvalFilterExpr.is-logic-requires t) (EvalFilterExpr.eval-rest-requires-2 t)
-    (EvalFilterExpr.returns-2 t) (EvalFilterExpr.logic-expr-requires t) (EvalFilterExpr.loop-less-2 t)
-    (EvalFilterExpr.loop-again-2 t) (EvalFilterExpr.returns-3 t))
+    (EvalFilterExpr.is-logic-requires t) (EvalFilterExpr.logic-expr-requires t) (EvalFilterExpr.loop-less t) (EvalFilterExpr.loop-again t) (EvalFilterExpr.element-copy-out-plain-test t) (EvalFilterExpr.element-copy-out-plain-test-2 t) (EvalFilterExpr.element-copy-out-plain-test-3 t) (EvalFilterExpr.plain-test-requires t) (EvalFilterExpr.eval-rest-requires t) (EvalFilterExpr.returns t) (EvalFilterExpr.loop-less-2 t) (EvalFilterExpr.loop-again-2 t) (EvalFilterExpr.returns-2 t))
     (λ t. eval-query-lts.spec (EvalQuery.calls t) (eval-query-at t) eval-query.Post
     (EvalQuery.element-copy-out-plan t) (EvalQuery.element-copy-out-table t)
     (EvalQuery.element-copy-out-text t) (EvalQuery.shared-slice-read-begins t) (EvalQuery.begins-requires t)

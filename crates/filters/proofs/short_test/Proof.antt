@@ -1,6 +1,7 @@
 -- `short_test` meets its contract. Assumes nothing.
-use Rattle.filters.specs.Tests.{literal-kind, short-in, short-query, short-mode, short-tested, short-asked, short-compared, short-none}
+use Rattle.filters.specs.Tests.{literal-kind, short-in, short-query, short-mode, short-tested, short-asked, short-compared}
 use Rattle.filters.specs.Pairs.{short-beside, beside-short}
+use Rattle.filters.specs.Values.{test-none}
 use Rattle.filters.specs.Queries.{begins-in}
 use lib.ListN.{getD}
 use borrow.Author.Tests.{not-true, not-false}
@@ -46,7 +47,7 @@ is-literal-requires : tie.Need-is-literal-requires
 is-literal-requires c κs = search needs
 
 returns-4 : tie.Need-returns-4
-returns-4 c = short-none _ _ _ _ _ _ _ _ _
+returns-4 c = test-none refl
 
 against-requires : tie.Need-against-requires
 against-requires c κs = let k = literal-kind _ (sym (c .before .is-literal .ensures) ∙ not-false _ (c .if4 .left)) in short-asked (c .before .before .before .before .before .before .before .before .before .before .before .before .before .before .pre) _ (c .before .before .before .before .before .before .before .before .begins .ensures) _ (c .before .before .before .before .before .before .before .plain-nodes .ensures) (not-false _ (c .before .before .before .before .before .if1 .left)) (k .0) (k .1)
