@@ -6,19 +6,21 @@ use mathlib.Core.List.{List, [], _∷_, _++_, append-nil, append-assoc}
 use mathlib.Core.Bool.{Bool, true, false, not, _&&_, _||_, cond}
 use lib.ListN.{length, getD, length-append}
 use native.Mathlib.Omega.{arith}
+use Rattle.regexps.specs.Scope.{Scope}
 use Rattle.definition.specs.Values.{Json}
 use Rattle.definition.specs.Compare.{Value, compareValues}
 use Rattle.definition.specs.Compare.Value.{nothing}
+use Rattle.definition.specs.Regexps.{regexValues}
 use Rattle.definition.specs.Forms.{Literal, Operator, Query, Segments, Test, Argument, Function}
 use Rattle.definition.specs.Forms.Literal.{null, boolean, integer, float, text}
 use Rattle.definition.specs.Forms.Start.{root, current}
 use Rattle.definition.specs.Forms.Query.{query}
-use Rattle.definition.specs.Forms.Test.{exists, compare, notValue, both, either}
+use Rattle.definition.specs.Forms.Test.{exists, compare, regex, notValue, both, either}
 use Rattle.definition.specs.Forms.Argument.{literal, singular, value}
 use Rattle.definition.specs.Forms.Function.{countOf, lengthOf, valueOf}
 use Rattle.definition.specs.Forms.{isSingular}
 use Rattle.definition.specs.QueryForms.{literalRight, queryRight, testRight, argumentRight, functionRight}
-use Rattle.definition.specs.Plans.{startKind, operatorByte, pooled, codeLiteral, framed, poolLiteral, poolQuery, poolTest, poolArgument, poolFunction, codeQuery, codeTest, codeArgument, codeFunction}
+use Rattle.definition.specs.Plans.{startKind, operatorByte, scopeKind, pooled, codeLiteral, framed, poolLiteral, poolQuery, poolTest, poolArgument, poolFunction, codeQuery, codeTest, codeArgument, codeFunction}
 use Rattle.definition.specs.Evaluation.{isFound, firstValue, onlyValue, literalValue, countValue, lengthValue, truth, evalQuery, evalTest, evalArgument, evalFunction}
 use Rattle.tables.specs.Bools.{and-left, and-right}
 
@@ -38,6 +40,7 @@ pub data Op : Type 0 where
   truthOp : Op
   notOp : Op
   compareOp : Operator → Op
+  regexOp : Scope → Op
   -- a right operand: of `&&` where true, of `||` where false
   rightOp : Bool → Test → Op
 
@@ -55,6 +58,7 @@ unfoldable mutual
 unfoldable pub testOps : Test → List Op → List Op
 testOps (exists q) K = queryOp asTest q ∷ K
 testOps (compare o a b) K = argumentOps a (argumentOps b (compareOp o ∷ K))
+testOps (regex s a b) K = argumentOps a (argumentOps b (regexOp s ∷ K))
 testOps (Test.not t) K = testOps t (notOp ∷ K)
 testOps (notValue f) K = functionOps f (truthOp ∷ notOp ∷ K)
 testOps (both a b) K = testOps a (rightOp true b ∷ K)
@@ -79,6 +83,7 @@ poolOp lengthOp = []
 poolOp truthOp = []
 poolOp notOp = []
 poolOp (compareOp o) = []
+poolOp (regexOp s) = []
 poolOp (rightOp w b) = poolTest b
 
 unfoldable pub codeOp : Op → ℕ → List ℕ
@@ -88,6 +93,7 @@ codeOp lengthOp k = 0x1A ∷ []
 codeOp truthOp k = 0x18 ∷ []
 codeOp notOp k = 0x15 ∷ []
 codeOp (compareOp o) k = 0x14 ∷ operatorByte o ∷ []
+codeOp (regexOp s) k = scopeKind s ∷ []
 codeOp (rightOp w b) k = framed (rightKind w) (codeTest b k)
 
 unfoldable pub poolOps : List Op → List ℕ
@@ -113,6 +119,7 @@ kind lengthOp = 0x1A
 kind truthOp = 0x18
 kind notOp = 0x15
 kind (compareOp o) = 0x14
+kind (regexOp s) = scopeKind s
 kind (rightOp w b) = rightKind w
 
 -- ---- what they come to
@@ -142,6 +149,7 @@ runOp lengthOp R N s = regs (s .acc) (s .x) (lengthValue (s .y))
 runOp truthOp R N s = regs (truth (s .y)) nothing nothing
 runOp notOp R N s = regs (not (s .acc)) (s .x) (s .y)
 runOp (compareOp o) R N s = regs (compareValues o (s .x) (s .y)) nothing nothing
+runOp (regexOp c) R N s = regs (regexValues c (s .x) (s .y)) nothing nothing
 runOp (rightOp w b) R N s = regs (joined w (s .acc) (evalTest b R N)) nothing nothing
 
 unfoldable pub runOps : List Op → Json → Json → Regs → Bool
@@ -176,6 +184,12 @@ code-test (compare o a b) K k =
     ∙ ap (λ (c : List ℕ). codeArgument a k ++ c) (code-argument b (compareOp o ∷ K) (k + length (poolArgument a)))
     ∙ ap (λ (c : List ℕ). codeArgument a k ++ c) (behind (codeArgument b (k + length (poolArgument a))) (0x14 ∷ operatorByte o ∷ []) K _ _ e)
     ∙ sym (append-assoc (codeArgument a k) (codeArgument b (k + length (poolArgument a)) ++ 0x14 ∷ operatorByte o ∷ []) (codeOps K (k + length (poolArgument a ++ poolArgument b))))
+code-test (regex s a b) K k =
+    let e : k + length (poolArgument a) + length (poolArgument b) + 0 ≡ k + length (poolArgument a ++ poolArgument b) = omega (arith, length-append (poolArgument a) (poolArgument b)) in
+    code-argument a (argumentOps b (regexOp s ∷ K)) k
+    ∙ ap (λ (c : List ℕ). codeArgument a k ++ c) (code-argument b (regexOp s ∷ K) (k + length (poolArgument a)))
+    ∙ ap (λ (c : List ℕ). codeArgument a k ++ c) (behind (codeArgument b (k + length (poolArgument a))) (scopeKind s ∷ []) K _ _ e)
+    ∙ sym (append-assoc (codeArgument a k) (codeArgument b (k + length (poolArgument a)) ++ scopeKind s ∷ []) (codeOps K (k + length (poolArgument a ++ poolArgument b))))
 code-test (Test.not t) K k = code-test t (notOp ∷ K) k ∙ behind (codeTest t k) (0x15 ∷ []) K (k + length (poolTest t) + 0) (k + length (poolTest t)) (omega arith)
 code-test (notValue f) K k =
     code-function f (truthOp ∷ notOp ∷ K) k ∙ behind (codeFunction f k) (0x18 ∷ 0x15 ∷ []) K (k + length (poolFunction f) + 0 + 0) (k + length (poolFunction f)) (omega arith)
@@ -205,6 +219,7 @@ pub pool-test : (t : Test) (K : List Op) → poolOps (testOps t K) ≡ poolTest 
 unfolding poolOps poolOp testOps poolTest
 pool-test (exists q) K = refl
 pool-test (compare o a b) K = pool-argument a (argumentOps b (compareOp o ∷ K)) ∙ ap (λ (c : List ℕ). poolArgument a ++ c) (pool-argument b (compareOp o ∷ K)) ∙ sym (append-assoc (poolArgument a) (poolArgument b) (poolOps K))
+pool-test (regex s a b) K = pool-argument a (argumentOps b (regexOp s ∷ K)) ∙ ap (λ (c : List ℕ). poolArgument a ++ c) (pool-argument b (regexOp s ∷ K)) ∙ sym (append-assoc (poolArgument a) (poolArgument b) (poolOps K))
 pool-test (Test.not t) K = pool-test t (notOp ∷ K)
 pool-test (notValue f) K = pool-function f (truthOp ∷ notOp ∷ K)
 pool-test (both a b) K = pool-test a (rightOp true b ∷ K) ∙ sym (append-assoc (poolTest a) (poolTest b) (poolOps K))
@@ -230,6 +245,8 @@ unfolding runOps runOp asked testOps evalTest joined
 run-test (exists q) K R N acc x y = refl
 run-test (compare o a b) K R N acc x y =
     run-argument a (argumentOps b (compareOp o ∷ K)) R N acc x y ∙ run-argument b (compareOp o ∷ K) R N acc y (evalArgument a R N)
+run-test (regex s a b) K R N acc x y =
+    run-argument a (argumentOps b (regexOp s ∷ K)) R N acc x y ∙ run-argument b (regexOp s ∷ K) R N acc y (evalArgument a R N)
 run-test (Test.not t) K R N acc x y = run-test t (notOp ∷ K) R N acc x y
 run-test (notValue f) K R N acc x y = run-function f (truthOp ∷ notOp ∷ K) R N acc x y
 run-test (both a b) K R N acc x y = run-test a (rightOp true b ∷ K) R N acc x y
@@ -244,6 +261,7 @@ opRight lengthOp = true
 opRight truthOp = true
 opRight notOp = true
 opRight (compareOp o) = true
+opRight (regexOp s) = true
 opRight (rightOp w b) = testRight b
 
 unfoldable pub AllRight : List Op → Type 0
@@ -268,6 +286,8 @@ unfolding AllRight opRight testOps testRight
 right-test (exists q) K h r = (h, r)
 right-test (compare o a b) K h r =
     right-argument a (argumentOps b (compareOp o ∷ K)) (and-left (argumentRight a) (argumentRight b) h) (right-argument b (compareOp o ∷ K) (and-right (argumentRight a) (argumentRight b) h) (refl, r))
+right-test (regex s a b) K h r =
+    right-argument a (argumentOps b (regexOp s ∷ K)) (and-left (argumentRight a) (argumentRight b) h) (right-argument b (regexOp s ∷ K) (and-right (argumentRight a) (argumentRight b) h) (refl, r))
 right-test (Test.not t) K h r = right-test t (notOp ∷ K) h (refl, r)
 right-test (notValue f) K h r = right-function f (truthOp ∷ notOp ∷ K) h (refl, (refl, r))
 right-test (both a b) K h r = right-test a (rightOp true b ∷ K) (and-left (testRight a) (testRight b) h) (and-right (testRight a) (testRight b) h, r)
@@ -284,6 +304,7 @@ Plain (lengthOp ∷ K) = Unit {0}
 Plain (truthOp ∷ K) = ⊥
 Plain (notOp ∷ K) = ⊥
 Plain (compareOp o ∷ K) = Unit {0}
+Plain (regexOp s ∷ K) = Unit {0}
 Plain (rightOp w b ∷ K) = ⊥
 
 unfoldable pub FitsMode : Mode → List Op → Type 0
@@ -300,6 +321,7 @@ Fit (lengthOp ∷ K) = Fit K
 Fit (truthOp ∷ K) = Fit K
 Fit (notOp ∷ K) = Fit K
 Fit (compareOp o ∷ K) = Fit K
+Fit (regexOp s ∷ K) = Fit K
 Fit (rightOp w b ∷ K) = Fit K
 
 mutual
@@ -332,6 +354,7 @@ pub fit-test : (t : Test) (K : List Op) → Fit K → Fit (testOps t K)
 unfolding Fit FitsMode testOps Plain
 fit-test (exists q) K h = (tt, h)
 fit-test (compare o a b) K h = fit-argument a (argumentOps b (compareOp o ∷ K)) (plain-argument b (compareOp o ∷ K)) (fit-argument b (compareOp o ∷ K) tt h)
+fit-test (regex s a b) K h = fit-argument a (argumentOps b (regexOp s ∷ K)) (plain-argument b (regexOp s ∷ K)) (fit-argument b (regexOp s ∷ K) tt h)
 fit-test (Test.not t) K h = fit-test t (notOp ∷ K) h
 fit-test (notValue f) K h = fit-function f (truthOp ∷ notOp ∷ K) h
 fit-test (both a b) K h = fit-test a (rightOp true b ∷ K) h

@@ -8,21 +8,23 @@ use lib.ListN.{length, getD, length-append}
 use native.Mathlib.Omega.{arith}
 use Rattle.definition.specs.Bytes.{part, number}
 use Rattle.definition.specs.Limits.{maxPlan}
+use Rattle.regexps.specs.Scope.{Scope, whole, part as somewhere}
 use Rattle.definition.specs.Values.{Json}
 use Rattle.definition.specs.Compare.{Value, compareValues}
 use Rattle.definition.specs.Compare.Value.{nothing}
+use Rattle.definition.specs.Regexps.{regexValues}
 use Rattle.definition.specs.Forms.{Literal, Operator, Start, Query, Segments, Test}
 use Rattle.definition.specs.Forms.Literal.{null, boolean, integer, float, text}
 use Rattle.definition.specs.Forms.Start.{root, current}
 use Rattle.definition.specs.Forms.Query.{query}
 use Rattle.definition.specs.QueryForms.{literalRight, queryRight, segmentsRight, testRight}
-use Rattle.definition.specs.Plans.{startKind, operatorByte, pooled, codeLiteral, framed, poolLiteral, poolQuery, poolSegments, poolTest, codeQuery, codeSegments, codeTest}
+use Rattle.definition.specs.Plans.{startKind, operatorByte, scopeKind, pooled, codeLiteral, framed, poolLiteral, poolQuery, poolSegments, poolTest, codeQuery, codeSegments, codeTest}
 use Rattle.definition.specs.Evaluation.{isFound, firstValue, onlyValue, literalValue, countValue, lengthValue, truth, evalQuery, evalSegments, evalTest}
 use Rattle.walks.specs.Bytes.{Holds, holds-in, holds-first, holds-second, holds-head, holds-tail, holds-at, holds-is, holds-append}
 use Rattle.walks.specs.Items.{SegmentsAt, TestAt, segments-in, framed-at, framed-long}
 use Rattle.walks.specs.Operations.{Mode, Op, Regs, regs, testOps, modeBytes, rightKind, poolOp, codeOp, poolOps, codeOps, literalKind, kind, asked, joined, runOp, runOps, opRight, AllRight, Plain, FitsMode, Fit, code-test, pool-test, run-test, right-test, fit-test}
 use Rattle.walks.specs.Operations.Mode.{asTest, asCount, asValue, asFirst}
-use Rattle.walks.specs.Operations.Op.{queryOp, literalOp, lengthOp, truthOp, notOp, compareOp, rightOp}
+use Rattle.walks.specs.Operations.Op.{queryOp, literalOp, lengthOp, truthOp, notOp, compareOp, regexOp, rightOp}
 
 -- From q up to e the operations K are left, and from the answer and the values at hand they give what is wanted.
 pub record Todo (P L : List ℕ) (q e : ℕ) (R N : Json) (acc : Bool) (x y : Value) (want : Bool) : Type 0 where
@@ -52,6 +54,7 @@ op-head lengthOp k P q ys h = holds-head P q _ _ h
 op-head truthOp k P q ys h = holds-head P q _ _ h
 op-head notOp k P q ys h = holds-head P q _ _ h
 op-head (compareOp o) k P q ys h = holds-head P q _ _ h
+op-head (regexOp s) k P q ys h = holds-head P q _ _ h
 op-head (rightOp w b) k P q ys h = holds-head P q _ _ h
 
 -- the beginning of a test, and its end
@@ -87,6 +90,7 @@ op-some lengthOp k = omega arith
 op-some truthOp k = omega arith
 op-some notOp k = omega arith
 op-some (compareOp o) k = omega arith
+op-some (regexOp s) k = omega arith
 op-some (rightOp w b) k = omega arith
 
 end-by : (K : List Op) (k q e : ℕ) (R N : Json) (s : Regs) (want : Bool) → q + length (codeOps K k) ≡ e → runOps K R N s ≡ want → e ≤ q → s .acc ≡ want
@@ -120,7 +124,12 @@ unfolding rightKind
 right-between true = (omega arith, omega arith)
 right-between false = (omega arith, omega arith)
 
--- the seven groups of kinds
+scope-between : (s : Scope) → (0x1C ≤ scopeKind s) × (scopeKind s ≤ 0x1D)
+unfolding scopeKind
+scope-between whole = (omega arith, omega arith)
+scope-between somewhere = (omega arith, omega arith)
+
+-- the eight groups of kinds
 pub data Shape (o : Op) : Type 0 where
   query-is : (m : Mode) (s : Start) (f : Segments) → o ≡ queryOp m (query s f) → kind o ≡ startKind s → kind o ≤ 2 → Shape o
   literal-is : (l : Literal) → o ≡ literalOp l → 0x10 ≤ kind o → kind o ≤ 0x13 → Shape o
@@ -129,6 +138,7 @@ pub data Shape (o : Op) : Type 0 where
   right-is : (w : Bool) (b : Test) → o ≡ rightOp w b → kind o ≡ rightKind w → 0x16 ≤ kind o → kind o ≤ 0x17 → Shape o
   truth-is : o ≡ truthOp → kind o ≡ 0x18 → Shape o
   length-is : o ≡ lengthOp → kind o ≡ 0x1A → Shape o
+  regex-is : (c : Scope) → o ≡ regexOp c → kind o ≡ scopeKind c → 0x1C ≤ kind o → kind o ≤ 0x1D → Shape o
 
 shape : (o : Op) → Shape o
 unfolding kind
@@ -138,6 +148,7 @@ shape lengthOp = length-is refl refl
 shape truthOp = truth-is refl refl
 shape notOp = not-is refl refl
 shape (compareOp o) = compare-is o refl refl
+shape (regexOp s) = regex-is s refl refl (scope-between s .0) (scope-between s .1)
 shape (rightOp w b) = right-is w b refl refl (right-between w .0) (right-between w .1)
 
 -- ---- what is left, taken apart: the first operation and the others
@@ -166,15 +177,17 @@ fit-later lengthOp K h = h
 fit-later truthOp K h = h
 fit-later notOp K h = h
 fit-later (compareOp o) K h = h
+fit-later (regexOp s) K h = h
 fit-later (rightOp w b) K h = h
 
 -- a byte that asks nothing of a query
 abbrev NoAsk : ℕ → Type 0
 NoAsk b = (b ≡ 0x18 → ⊥) × (b ≡ 0x19 → ⊥) × (b ≡ 0x1B → ⊥)
 
-no-ask : (b c : ℕ) → b ≡ c → (c < 0x18) ⊎ (c ≡ 0x1A) → NoAsk b
+no-ask : (b c : ℕ) → b ≡ c → (c < 0x18) ⊎ ((c ≡ 0x1A) ⊎ (0x1C ≤ c)) → NoAsk b
 no-ask b c e (inl l) = ((λ z. omega arith), (λ z. omega arith), (λ z. omega arith))
-no-ask b c e (inr l) = ((λ z. omega arith), (λ z. omega arith), (λ z. omega arith))
+no-ask b c e (inr (inl l)) = ((λ z. omega arith), (λ z. omega arith), (λ z. omega arith))
+no-ask b c e (inr (inr l)) = ((λ z. omega arith), (λ z. omega arith), (λ z. omega arith))
 
 -- behind a singular query no byte asks something of a query
 plain-byte : (K : List Op) (k : ℕ) (P : List ℕ) (z : ℕ) → Plain K → Holds P z (codeOps K k) → (z < length P) × NoAsk (getD P z 0)
@@ -182,10 +195,11 @@ unfolding Plain codeOps kind
 plain-byte [] k P z n h = absurd n
 plain-byte (queryOp m (query s f) ∷ K) k P z n h = let w = op-head (queryOp m (query s f)) k P z _ h in (w .0, no-ask _ _ (w .1) (inl (omega (arith, start-small s))))
 plain-byte (literalOp l ∷ K) k P z n h = let w = op-head (literalOp l) k P z _ h in (w .0, no-ask _ _ (w .1) (inl (omega (arith, literal-between l .1))))
-plain-byte (lengthOp ∷ K) k P z n h = let w = op-head lengthOp k P z _ h in (w .0, no-ask _ _ (w .1) (inr refl))
+plain-byte (lengthOp ∷ K) k P z n h = let w = op-head lengthOp k P z _ h in (w .0, no-ask _ _ (w .1) (inr (inl refl)))
 plain-byte (truthOp ∷ K) k P z n h = absurd n
 plain-byte (notOp ∷ K) k P z n h = absurd n
 plain-byte (compareOp o ∷ K) k P z n h = let w = op-head (compareOp o) k P z _ h in (w .0, no-ask _ _ (w .1) (inl (omega arith)))
+plain-byte (regexOp s ∷ K) k P z n h = let w = op-head (regexOp s) k P z _ h in (w .0, no-ask _ _ (w .1) (inr (inr (scope-between s .0))))
 plain-byte (rightOp w b ∷ K) k P z n h = absurd n
 
 -- the byte behind a query, by what is asked of it
@@ -315,6 +329,33 @@ module _ (P L : List ℕ) (q e : ℕ) (R N : Json) (acc : Bool) (x y : Value) (w
       go c (right-is w t i r a b) k = absurd (omega arith)
       go c (truth-is i a) k = absurd (omega arith)
       go c (length-is i a) k = absurd (omega arith)
+      go c (regex-is o i r u v) k = absurd (omega arith)
+
+  -- ---- match and search
+
+  pub record Matched : Type 0 where
+    pub scope : Scope
+    pub byte : scopeKind scope ≡ getD P q 0
+    pub then : (b : Bool) → b ≡ regexValues scope x y → Todo P L (q + 1) e R N b nothing nothing want
+
+  pub at-regex : Todo P L q e R N acc x y want → q < e → 0x1C ≤ getD P q 0 → getD P q 0 ≤ 0x1D → Matched
+  unfolding codeOp runOp
+  at-regex d l lo hi = let c = uncons d l in go c (shape (c .o)) (c .byte)
+    where
+      go : (c : Cons P L q e R N acc x y want) → Shape (c .o) → getD P q 0 ≡ kind (c .o) → Matched
+      go c (query-is m s f i a b) k = absurd (omega arith)
+      go c (literal-is j i a b) k = absurd (omega arith)
+      go c (compare-is o i a) k = absurd (omega arith)
+      go c (not-is i a) k = absurd (omega arith)
+      go c (right-is w t i r a b) k = absurd (omega arith)
+      go c (truth-is i a) k = absurd (omega arith)
+      go c (length-is i a) k = absurd (omega arith)
+      go c (regex-is o i r u v) k =
+          record {
+            scope = o;
+            byte = sym r ∙ sym k;
+            then = λ b t. next c (regs b nothing nothing) (q + 1) (ap (λ (z : Op). runOp z R N (regs acc x y)) i ∙ ap (λ (z : Bool). regs z nothing nothing) (sym t)) (ap (λ (z : Op). q + length (codeOp z (c .k))) (sym i));
+          }
 
   -- ---- `!`
 
@@ -330,6 +371,7 @@ module _ (P L : List ℕ) (q e : ℕ) (R N : Json) (acc : Bool) (x y : Value) (w
       go c (right-is w t i r a b) k = absurd (omega arith)
       go c (truth-is i a) k = absurd (omega arith)
       go c (length-is i a) k = absurd (omega arith)
+      go c (regex-is o i r u v) k = absurd (omega arith)
 
   -- ---- the test of a value
 
@@ -345,6 +387,7 @@ module _ (P L : List ℕ) (q e : ℕ) (R N : Json) (acc : Bool) (x y : Value) (w
       go c (right-is w t′ i r a b) k = absurd (omega arith)
       go c (truth-is i a) k = next c (regs t nothing nothing) (q + 1) (ap (λ (z : Op). runOp z R N (regs acc x y)) i ∙ ap (λ (v : Bool). regs v nothing nothing) (sym u)) (ap (λ (z : Op). q + length (codeOp z (c .k))) (sym i))
       go c (length-is i a) k = absurd (omega arith)
+      go c (regex-is o i r u v) k = absurd (omega arith)
 
   -- ---- the length of a value
 
@@ -360,6 +403,7 @@ module _ (P L : List ℕ) (q e : ℕ) (R N : Json) (acc : Bool) (x y : Value) (w
       go c (right-is w t i r a b) k = absurd (omega arith)
       go c (truth-is i a) k = absurd (omega arith)
       go c (length-is i a) k = next c (regs acc x v) (q + 1) (ap (λ (z : Op). runOp z R N (regs acc x y)) i ∙ ap (λ (w : Value). regs acc x w) (sym u)) (ap (λ (z : Op). q + length (codeOp z (c .k))) (sym i))
+      go c (regex-is o i r u v) k = absurd (omega arith)
 
   -- ---- a literal
 
@@ -394,6 +438,7 @@ module _ (P L : List ℕ) (q e : ℕ) (R N : Json) (acc : Bool) (x y : Value) (w
       go c (right-is w t i r a b) k = absurd (omega arith)
       go c (truth-is i a) k = absurd (omega arith)
       go c (length-is i a) k = absurd (omega arith)
+      go c (regex-is o i r u v) k = absurd (omega arith)
 
   -- ---- a right operand: "After the left operand 16 skips the right one if the left is false, 17 if true, else drops it."
 
@@ -465,6 +510,7 @@ module _ (P L : List ℕ) (q e : ℕ) (R N : Json) (acc : Bool) (x y : Value) (w
       go c (right-is w t i r a b) k = right-by few c w t i r
       go c (truth-is i a) k = absurd (omega arith)
       go c (length-is i a) k = absurd (omega arith)
+      go c (regex-is o i r u v) k = absurd (omega arith)
 
   -- no kind stands between queries and literals
   pub past-queries : Todo P L q e R N acc x y want → q < e → 3 ≤ getD P q 0 → 0x10 ≤ getD P q 0
@@ -478,19 +524,21 @@ module _ (P L : List ℕ) (q e : ℕ) (R N : Json) (acc : Bool) (x y : Value) (w
       go c (right-is w t i r a b) k = omega arith
       go c (truth-is i a) k = omega arith
       go c (length-is i a) k = omega arith
+      go c (regex-is o i r u v) k = omega arith
 
-  -- behind the right operands stand only the kinds of a test and of a length
-  pub last-kind : Todo P L q e R N acc x y want → q < e → 0x18 ≤ getD P q 0 → (getD P q 0 ≡ 0x18 → ⊥) → getD P q 0 ≡ 0x1A
-  last-kind d l lo n = let c = uncons d l in go c (shape (c .o)) (c .byte)
+  -- behind the right operands stand only the kinds of a test, of a length, and of match and search
+  pub last-kind : Todo P L q e R N acc x y want → q < e → 0x18 ≤ getD P q 0 → (getD P q 0 ≡ 0x18 → ⊥) → (getD P q 0 ≡ 0x1A → ⊥) → (0x1C ≤ getD P q 0) × (getD P q 0 ≤ 0x1D)
+  last-kind d l lo n m = let c = uncons d l in go c (shape (c .o)) (c .byte)
     where
-      go : (c : Cons P L q e R N acc x y want) → Shape (c .o) → getD P q 0 ≡ kind (c .o) → getD P q 0 ≡ 0x1A
+      go : (c : Cons P L q e R N acc x y want) → Shape (c .o) → getD P q 0 ≡ kind (c .o) → (0x1C ≤ getD P q 0) × (getD P q 0 ≤ 0x1D)
       go c (query-is m s f i a b) k = absurd (omega arith)
       go c (literal-is j i a b) k = absurd (omega arith)
       go c (compare-is o i a) k = absurd (omega arith)
       go c (not-is i a) k = absurd (omega arith)
       go c (right-is w t i r a b) k = absurd (omega arith)
       go c (truth-is i a) k = absurd (n (k ∙ a))
-      go c (length-is i a) k = k ∙ a
+      go c (length-is i a) k = absurd (m (k ∙ a))
+      go c (regex-is o i r u v) k = (omega arith, omega arith)
 
   -- ---- a query, from the node S on
 
@@ -572,6 +620,7 @@ module _ (P L : List ℕ) (q e : ℕ) (R N : Json) (acc : Bool) (x y : Value) (w
       go c (right-is w t i r u v) k = absurd (omega arith)
       go c (truth-is i u) k = absurd (omega arith)
       go c (length-is i u) k = absurd (omega arith)
+      go c (regex-is o i r u v) k = absurd (omega arith)
 
 -- the same with what is known to be equal
 pub todo-to : (P L : List ℕ) (q q′ e : ℕ) (R N : Json) (acc acc′ : Bool) (x x′ y y′ : Value) (want : Bool) → q′ ≡ q → acc′ ≡ acc → x′ ≡ x → y′ ≡ y → Todo P L q e R N acc x y want → Todo P L q′ e R N acc′ x′ y′ want
