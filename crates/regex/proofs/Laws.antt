@@ -6,13 +6,13 @@ use Prim.Native.Nat.{ℕ, _-_, _≤_, _<_, _^_}
 use native.Mathlib.Omega.{arith}
 use lib.ListN.{length, take}
 use lib.Seq.{length-take-le}
-use Rattle.definition.specs.Utf8.{encodeAll}
+use Rattle.definition.specs.Utf8.{encodeAll, scalarsOf}
 use Rattle.utf8.specs.Decode.{decode}
+use Rattle.utf8.specs.Scalars.{scalars-encoded}
 use Rattle.regexps.specs.Words.{Told, fails}
 use Rattle.regexps.specs.Regexp.{Regexp, Describes, described}
 use Rattle.regexps.specs.Scope.{widen}
 use Rattle.regexps.specs.Agree.{agree, told-same}
-use Rattle.regexps_texts.specs.Scalars.{scalarsOf, scalars-of}
 use Rattle.regex_code.specs.Flat.{flat}
 use Rattle.regex_chars.specs.Laws.{slice-end}
 use Rattle.regex_total.specs.Answers.{Matched, Widths}
@@ -29,7 +29,7 @@ by s t b f =
       of =
           λ k x e u.
           let d = decode t u in
-          let q : scalarsOf t ≡ d .0 = ap scalarsOf (sym (d .2)) ∙ scalars-of (d .0) in
+          let q : scalarsOf t ≡ d .0 = ap scalarsOf (sym (d .2)) ∙ scalars-encoded (d .0) in
           told-same (f (widen k x) (d .0) e (sym (d .2))) (agree (widen k x) (d .0)) ∙ ap (described (widen k x)) (sym q);
     }
 

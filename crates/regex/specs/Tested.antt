@@ -4,10 +4,9 @@ use mathlib.Core.Bool.{Bool, true}
 use mathlib.Core.List.{List, []}
 use Prim.Native.Nat.{ℕ}
 use lib.ListN.{length}
-use Rattle.definition.specs.Utf8.{encodeAll, isUtf8}
+use Rattle.definition.specs.Utf8.{encodeAll, isUtf8, scalarsOf}
 use Rattle.regexps.specs.Regexp.{Regexp, Describes, described}
 use Rattle.regexps.specs.Scope.{Scope, widen}
-use Rattle.regexps_texts.specs.Scalars.{scalarsOf}
 use Rattle.regex_code.specs.Flat.{flat}
 
 pub record Tested (code text : List ℕ) (b : Bool) : Type 0 where

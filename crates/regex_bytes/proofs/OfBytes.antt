@@ -11,13 +11,14 @@ use lib.Seq.{sets-eq, drop-cons, getD-drop, take-at}
 use Rattle.definition.specs.Bytes.{within}
 use Rattle.utf8.specs.Unique.{point}
 use Rattle.reading.specs.Reads.{Wrote}
-use Rattle.regexps_texts.specs.Scalars.{scalarsOf}
-use Rattle.regexps_texts.specs.Tests.{regexpOf}
+use Rattle.definition.specs.Utf8.{isUtf8, scalarsOf}
+use Rattle.definition.specs.Regexps.{regexpOf}
 use Rattle.regex_reader.specs.Reads.{ReadsWhole}
 use Rattle.regex_reader.specs.Reads.ReadsWhole.{code as whole-code, outside as whole-outside}
 use Rattle.regex_reader.specs.declared.nested.Reading.{Reading}
 use Rattle.regex_reader.specs.declared.nested.Reading.the-variants as reading
 use Rattle.regex_reader.proofs.Parts.{wrote-then}
+use Rattle.regex_bytes.specs.Points.{pointsOf, points-utf8}
 use Rattle.regex_bytes.specs.Bytes.{OneMore, Scalars, ReadsBytes}
 use Rattle.regex_bytes.specs.Bytes.ReadsBytes.{code, outside}
 
@@ -59,13 +60,13 @@ module _ (s : List ℕ) (at : ℕ) where
 drop-at : (s : List ℕ) (i : ℕ) → i < length s → drop i s ≡ getD s i 0 ∷ drop (i + 1) s
 drop-at s i h = rw (add-one, drop-cons s i 0)
 
-begins : (s : List ℕ) (i : ℕ) → i < length s → within 0x80 0xBF (getD s i 0) ≡ false → scalarsOf (drop i s) ≡ point (drop i s) ∷ scalarsOf (drop (i + 1) s)
-unfolding scalarsOf
+begins : (s : List ℕ) (i : ℕ) → i < length s → within 0x80 0xBF (getD s i 0) ≡ false → pointsOf (drop i s) ≡ point (drop i s) ∷ pointsOf (drop (i + 1) s)
+unfolding pointsOf
 begins s i h e = rw (drop-at s i h, e) refl
 
 module _ (s p : List ℕ) (i n : ℕ) (h : i < length s) where
   pub one-none : within 0x80 0xBF (getD s i 0) ≡ true → OneMore s p p i n n
-  unfolding scalarsOf
+  unfolding pointsOf
   one-none e = record { more = []; is = rw (drop-at s i h, e) refl; count = omega arith; few = omega arith; buf = record { is = refl } }
 
   pub one-some : within 0x80 0xBF (getD s i 0) ≡ false → (c : ℕ) → c ≡ point (drop i s) → OneMore s p (set p n c) i n (n + 1)
@@ -75,7 +76,7 @@ module _ (s p : List ℕ) (i n : ℕ) (h : i < length s) where
 
 pub record Passed (s p q : List ℕ) (i n : ℕ) : Type 0 where
   pub done : List ℕ
-  pub is : scalarsOf s ≡ done ++ scalarsOf (drop i s)
+  pub is : pointsOf s ≡ done ++ pointsOf (drop i s)
   pub count : n ≡ length done
   pub few : n ≤ i
   pub to : i ≤ length s
@@ -89,7 +90,7 @@ passed-more {s} {p} {q} {q'} {i} {n} {r} g h o =
     let l = length-append (g .done) (o .more) in
     record {
       done = g .done ++ o .more;
-      is = g .is ∙ ap (λ (l : List ℕ). g .done ++ l) (o .is) ∙ sym (append-assoc (g .done) (o .more) (scalarsOf (drop (i + 1) s)));
+      is = g .is ∙ ap (λ (l : List ℕ). g .done ++ l) (o .is) ∙ sym (append-assoc (g .done) (o .more) (pointsOf (drop (i + 1) s)));
       count = omega (arith, o .count, g .count);
       few = omega (arith, o .count, o .few, g .few);
       to = omega arith;
@@ -97,19 +98,19 @@ passed-more {s} {p} {q} {q'} {i} {n} {r} g h o =
     }
 
 pub passed-all : {s p q : List ℕ} {i n : ℕ} → Passed s p q i n → length s ≤ i → Scalars s p q n
-unfolding scalarsOf
+unfolding pointsOf
 passed-all {s} {p} {q} {i} {n} g h =
-    let e : scalarsOf s ≡ g .done = g .is ∙ rw (drop-of-length-le s h) (append-nil (g .done)) in
+    let e : pointsOf s ≡ g .done = g .is ∙ rw (drop-of-length-le s h) (append-nil (g .done)) in
     record { count = rw e (g .count); few = omega (arith, g .few, g .to); buf = rw e (g .buf) }
 
 -- ---- the whole
 
 -- the characters that were written
-pub written : {s p q : List ℕ} {n : ℕ} → Scalars s p q n → length s ≤ length p → take n q ≡ scalarsOf s
+pub written : {s p q : List ℕ} {n : ℕ} → Scalars s p q n → length s ≤ length p → take n q ≡ pointsOf s
 written {s} {p} {q} {n} g h =
     let c = g .count in
     let f = g .few in
-    rw (g .buf .is, sets-eq (scalarsOf s) p 0 (omega arith)) (take-at (scalarsOf s) (drop (0 + length (scalarsOf s)) p) n (sym c))
+    rw (g .buf .is, sets-eq (pointsOf s) p 0 (omega arith)) (take-at (pointsOf s) (drop (0 + length (pointsOf s)) p) n (sym c))
 
 pub counted : {s p q : List ℕ} {n : ℕ} → Scalars s p q n → length s ≤ length p → n ≡ length (take n q)
 counted g h = g .count ∙ sym (ap length (written g h))
@@ -118,8 +119,8 @@ pub bytes-long : (s p q : List ℕ) (len : ℕ) → 1024 < length s → ReadsByt
 unfolding regexpOf
 bytes-long s p q len h = outside (rw (lt-leb (length s) 1024 h) refl)
 
-pub bytes-read : {s p q : List ℕ} {len : ℕ} (w : List ℕ) {r : Reading} → length s ≤ 1024 → w ≡ scalarsOf s → ReadsWhole w p q len r → ReadsBytes s p q len r
+pub bytes-read : {s p q : List ℕ} {len : ℕ} (w : List ℕ) {r : Reading} → isUtf8 s ≡ true → length s ≤ 1024 → w ≡ pointsOf s → ReadsWhole w p q len r → ReadsBytes s p q len r
 unfolding regexpOf
-bytes-read {s} w h e (whole-code n d) =
-    code n (record { expr = d .expr; is = rw (le-leb (length s) 1024 h, sym e) (d .is); grown = d .grown; buf = d .buf })
-bytes-read {s} w h e (whole-outside o) = outside (rw (le-leb (length s) 1024 h, sym e) o)
+bytes-read {s} w u h e (whole-code n d) =
+    code n (record { expr = d .expr; is = rw (le-leb (length s) 1024 h, sym (e ∙ points-utf8 s u)) (d .is); grown = d .grown; buf = d .buf })
+bytes-read {s} w u h e (whole-outside o) = outside (rw (le-leb (length s) 1024 h, sym (e ∙ points-utf8 s u)) o)

@@ -6,9 +6,9 @@ use Prim.Native.Nat.{ℕ, _+_, _-_, _≤_}
 use lib.ListN.{length, drop, getD}
 use Rattle.reading.specs.Reads.{Wrote}
 use Rattle.regexps.specs.Regexp.{Regexp}
-use Rattle.regexps_texts.specs.Scalars.{scalarsOf}
-use Rattle.regexps_texts.specs.Tests.{regexpOf}
+use Rattle.definition.specs.Regexps.{regexpOf}
 use Rattle.regex_code.specs.Flat.{flat}
+use Rattle.regex_bytes.specs.Points.{pointsOf}
 use Rattle.regex_reader.specs.declared.nested.Reading.{Reading}
 use Rattle.regex_reader.specs.declared.nested.Reading.the-variants as reading
 
@@ -22,16 +22,16 @@ less a b = a - b
 -- one character more, or none, where one byte is passed
 pub record OneMore (s p q : List ℕ) (i n r : ℕ) : Type 0 where
   pub more : List ℕ
-  pub is : scalarsOf (drop i s) ≡ more ++ scalarsOf (drop (i + 1) s)
+  pub is : pointsOf (drop i s) ≡ more ++ pointsOf (drop (i + 1) s)
   pub count : r ≡ n + length more
   pub few : length more ≤ 1
   pub buf : Wrote p n more q
 
--- the scalar values of s stand at the beginning
+-- the characters of s stand at the beginning
 pub record Scalars (s p q : List ℕ) (r : ℕ) : Type 0 where
-  pub count : r ≡ length (scalarsOf s)
+  pub count : r ≡ length (pointsOf s)
   pub few : r ≤ length s
-  pub buf : Wrote p 0 (scalarsOf s) q
+  pub buf : Wrote p 0 (pointsOf s) q
 
 -- the code of the expression is written from len on, up to n; or the bytes are outside the part
 pub record IsCode (s p q : List ℕ) (len n : ℕ) : Type 0 where

@@ -4,7 +4,9 @@ use regex_reader::nested::read;
 ghost use mathlib.Core.Path.{_≡_};
 ghost use Prim.Native.Nat.{_+_, _*_, _≤_, _<_};
 ghost use lib.ListN.{length, drop};
+ghost use mathlib.Core.Bool.{true};
 ghost use Rattle.definition.specs.Bytes.{within};
+ghost use Rattle.definition.specs.Utf8.{isUtf8};
 ghost use Rattle.utf8.specs.Unique.{point};
 ghost use Rattle.regex_bytes.specs.Bytes.{byteAt, less, OneMore, Scalars, ReadsBytes};
 
@@ -80,7 +82,7 @@ fn scalar(s: &[u8], chars: &mut [u32], i: usize, n: usize) -> usize
     n + 1
 }
 
-// Writes the scalar values of the text s, and answers their number.
+// Writes the characters of the text s, and answers their number.
 pub fn scalars(s: &[u8], chars: &mut [u32]) -> usize
     requires { ⌜ length (now s) ≤ length (now chars) ⌝ }
     ensures { λ r. ⌜ Scalars (now (s .entry)) (now (chars .entry)) (now (chars .exit)) r ⌝ }
@@ -94,9 +96,9 @@ pub fn scalars(s: &[u8], chars: &mut [u32]) -> usize
     n
 }
 
-// Reads the expression whose bytes are s, and writes its code from `len` on. `chars` takes its characters.
+// Reads the expression whose bytes, which are UTF-8, are s, and writes its code from `len` on. `chars` takes its characters.
 pub fn read_bytes(s: &[u8], chars: &mut [u32], code: &mut [u32], len: usize) -> Reading
-    requires { ⌜ (1024 ≤ length (now chars)) × (len + 8195 ≤ length (now code)) ⌝ }
+    requires { ⌜ (isUtf8 (now s) ≡ true) × (1024 ≤ length (now chars)) × (len + 8195 ≤ length (now code)) ⌝ }
     ensures { λ r. ⌜ ReadsBytes (now (s .entry)) (now (code .entry)) (now (code .exit)) len r ⌝ }
 {
     if MAX_EXPRESSION < s.len() {

@@ -8,17 +8,15 @@ use mathlib.Core.List.{List, [], _∷_, _++_}
 use mathlib.Core.Bool.{Bool, true, false, _&&_, not}
 use mathlib.Core.Option.{Option, none, some}
 use lib.ListN.{replicate}
-use Rattle.definition.specs.Utf8.{encode, encodeAll}
-use Rattle.utf8.specs.Unique.{point}
+use Rattle.definition.specs.Utf8.{encode, encodeAll, leading, continued, scalarsOf}
+use Rattle.definition.specs.Regexps.{regexpOf, testBy, regexTest}
 use Rattle.regexps.specs.Regexp.{Regexp}
 use Rattle.regexps.specs.Scope.{Scope, whole, part}
 use Rattle.regexps.specs.Read.{readCCchar, readEnd, readItem, readFirst, readItems, readRanges, readClass, countFrom, readCount, readUpper, readBraces, readQuantifier, readLeaf, readAlternatives, readBranch, readPiece, readAtom, readRegexp}
-use Rattle.regexps_texts.specs.Scalars.{scalarsOf}
-use Rattle.regexps_texts.specs.Tests.{regexpOf, regexTest}
 
 -- one name that opens every definition
 unfoldable pub computes : ℕ
-unfolding encode encodeAll point scalarsOf regexpOf regexTest readCCchar readEnd readItem readFirst readItems readRanges readClass countFrom readCount readUpper readBraces readQuantifier readLeaf readAlternatives readBranch readPiece readAtom readRegexp
+unfolding encode encodeAll leading continued scalarsOf regexpOf testBy regexTest readCCchar readEnd readItem readFirst readItems readRanges readClass countFrom readCount readUpper readBraces readQuantifier readLeaf readAlternatives readBranch readPiece readAtom readRegexp
 computes = 0
 
 abbrev codes : String → List ℕ

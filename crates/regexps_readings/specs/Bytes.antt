@@ -14,8 +14,8 @@ use Rattle.regexps.specs.Regexp.{Regexp, Describes}
 use Rattle.regexps.specs.Agree.{described-describes}
 use Rattle.regexps.specs.Scope.{Scope, widen}
 use Rattle.regexps.specs.Grammar.{Spells}
-use Rattle.regexps_texts.specs.Scalars.{scalarsOf}
-use Rattle.regexps_texts.specs.Tests.{regexpOf, regexTest, testBy}
+use Rattle.definition.specs.Utf8.{scalarsOf}
+use Rattle.definition.specs.Regexps.{regexpOf, regexTest, testBy}
 use Rattle.regexps_readings.specs.Steps.{by-test, clash, none-some}
 use Rattle.regexps_readings.specs.Reading.{spells-of-read, read-of-spells}
 
@@ -39,13 +39,14 @@ pub record Holds (scope : Scope) (text e : List ℕ) : Type 0 where
   pub describes : Describes (widen scope expr) (scalarsOf text)
 
 holds-of : (scope : Scope) (text e : List ℕ) (o : Option Regexp) → regexpOf e ≡ o → testBy scope (scalarsOf text) o ≡ true → Holds scope text e
+unfolding testBy
 holds-of scope text e none h t = absurd (clash (sym t))
 holds-of scope text e (some x) h t =
     let s = spells-of-bytes e x h in
     record { expr = x; short = s .0; spells = s .1; describes = described-describes (widen scope x) (scalarsOf text) .0 t }
 
 pub test-holds : (scope : Scope) (text e : List ℕ) → (regexTest scope text e ≡ true) ↔ Holds scope text e
-unfolding regexTest
+unfolding regexTest testBy
 test-holds scope text e = (holds-of scope text e (regexpOf e) refl, back)
   where
     back : Holds scope text e → testBy scope (scalarsOf text) (regexpOf e) ≡ true

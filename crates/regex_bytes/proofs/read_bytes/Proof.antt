@@ -21,11 +21,11 @@ slice-reshare-prefix-read c = search needs
 
 -- src/lib.rt:106:10
 slice-aggregate-read : tie.Need-slice-aggregate-read
-slice-aggregate-read c = let h : length (c .before .before .before .before .before .before .before .before .before .args .s .now) ≤ length (c .before .before .before .before .before .before .before .before .before .args .chars .now) = omega (arith, c .before .before .before .before .before .before .before .before .before .pre .0, c .before .before .before .before .before .if1 .left) in counted (c .before .before .before .scalars .ensures) h
+slice-aggregate-read c = let h : length (c .before .before .before .before .before .before .before .before .before .args .s .now) ≤ length (c .before .before .before .before .before .before .before .before .before .args .chars .now) = omega (arith, c .before .before .before .before .before .before .before .before .before .pre .1, c .before .before .before .before .before .if1 .left) in counted (c .before .before .before .scalars .ensures) h
 
 -- src/lib.rt:106:5
 read-requires : tie.Need-read-requires
-read-requires c κs = let h : length (c .before .before .before .before .before .before .before .before .before .before .args .s .now) ≤ length (c .before .before .before .before .before .before .before .before .before .before .args .chars .now) = omega (arith, c .before .before .before .before .before .before .before .before .before .before .pre .0, c .before .before .before .before .before .before .if1 .left) in let k = counted (c .before .before .before .before .scalars .ensures) h in let f = c .before .before .before .before .scalars .ensures .few in (omega (arith, k, f, c .before .before .before .before .before .before .if1 .left), omega (arith, k, f, c .before .before .before .before .before .before .if1 .left, c .before .before .before .before .before .before .before .before .before .before .pre .1))
+read-requires c κs = let h : length (c .before .before .before .before .before .before .before .before .before .before .args .s .now) ≤ length (c .before .before .before .before .before .before .before .before .before .before .args .chars .now) = omega (arith, c .before .before .before .before .before .before .before .before .before .before .pre .1, c .before .before .before .before .before .before .if1 .left) in let k = counted (c .before .before .before .before .scalars .ensures) h in let f = c .before .before .before .before .scalars .ensures .few in (omega (arith, k, f, c .before .before .before .before .before .before .if1 .left), omega (arith, k, f, c .before .before .before .before .before .before .if1 .left, c .before .before .before .before .before .before .before .before .before .before .pre .2))
 
 -- src/lib.rt:98:1
 same-length : tie.Need-same-length
@@ -37,7 +37,7 @@ same-length-2 c = search needs
 
 -- src/lib.rt:98:1
 returns-2 : tie.Need-returns-2
-returns-2 c = let h : length (c .before .before .before .before .before .before .before .before .before .before .before .before .before .args .s .now) ≤ length (c .before .before .before .before .before .before .before .before .before .before .before .before .before .args .chars .now) = omega (arith, c .before .before .before .before .before .before .before .before .before .before .before .before .before .pre .0, c .before .before .before .before .before .before .before .before .before .if1 .left) in bytes-read _ (c .before .before .before .before .before .before .before .before .before .if1 .left) (written (c .before .before .before .before .before .before .before .scalars .ensures) h) (c .before .before .read .ensures)
+returns-2 c = let h : length (c .before .before .before .before .before .before .before .before .before .before .before .before .before .args .s .now) ≤ length (c .before .before .before .before .before .before .before .before .before .before .before .before .before .args .chars .now) = omega (arith, c .before .before .before .before .before .before .before .before .before .before .before .before .before .pre .1, c .before .before .before .before .before .before .before .before .before .if1 .left) in bytes-read _ (c .before .before .before .before .before .before .before .before .before .before .before .before .before .pre .0) (c .before .before .before .before .before .before .before .before .before .if1 .left) (written (c .before .before .before .before .before .before .before .scalars .ensures) h) (c .before .before .read .ensures)
 
 pub read-bytes-spec : {M : Type 1} → statement M
 read-bytes-spec =

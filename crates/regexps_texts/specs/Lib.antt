@@ -1,2 +1,0 @@
-pub mod Scalars
-pub mod Tests
