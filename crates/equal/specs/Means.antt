@@ -6,7 +6,7 @@ use lib.Dec.{T}
 use lib.ListN.{length}
 use lib.Ieee.Scale.{finite}
 use Rattle.definition.specs.Bytes.{part}
-use Rattle.definition.specs.Utf8.{scalarsOf}
+use Rattle.definition.specs.Utf8.{isUtf8, scalarsOf}
 use mathlib.Core.Bool.{Bool as Bits, true, false, not, Bool·beq}
 use mathlib.Core.Option.{Option, none, some}
 use lib.Dec.{eqb}
@@ -28,15 +28,15 @@ meaning S X L (Pool a n) = Value.text (part L a n)
 meaning S X L (Text a n) = Value.text (part X a n)
 meaning S X L (Node i) = nodeValue (nodeAt S X i)
 
--- an operand of the table, text and pool: a float is finite, a text lies inside, a node is one of the table and a list or a map
+-- an operand of the table, text and pool: a float is finite, a text lies inside and is UTF-8, a node is one of the table and a list or a map
 abbrev pub Fine : List ℕ → List ℕ → List ℕ → Operand → Type 0
 Fine S X L Nothing = Unit {0}
 Fine S X L Null = Unit {0}
 Fine S X L (Bool b) = Unit {0}
 Fine S X L (Int z) = Unit {0}
 Fine S X L (Float x) = T (finite x)
-Fine S X L (Pool a n) = a + n ≤ length L
-Fine S X L (Text a n) = a + n ≤ length X
+Fine S X L (Pool a n) = (a + n ≤ length L) × (isUtf8 (part L a n) ≡ true)
+Fine S X L (Text a n) = (a + n ≤ length X) × (isUtf8 (part X a n) ≡ true)
 Fine S X L (Node i) = (i < nodeCount S) × (kindList ≤ kindAt S i)
 
 -- a node operand is node i

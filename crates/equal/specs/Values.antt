@@ -15,7 +15,7 @@ use Rattle.definition.specs.Tables.{nodeCount, kindAt, kindFloat, kindText, kin
 use Rattle.definition.specs.Compare.{Value, Fraction, nodeValue, numberOf, textOf, same, sameNumber, sameText, sameBoolean, isNull, isSome, isBoolean, booleanOf, less, isLess, numbersLess, textsLess, orderFractions, wholeFraction, floatFraction}
 use Rattle.definition.specs.Evaluation.{truth, lengthOfValue}
 use Rattle.tables.specs.Accepted.{Accepted}
-use Rattle.tables.specs.Rights.{good-inside}
+use Rattle.tables.specs.Rights.{good-inside, good-utf8}
 use Rattle.tables.specs.Keys.{part-length}
 use Rattle.walks.specs.Nodes.{kidsAt, unrolled, kind-of, Kind, many-kids, by-null, by-false, by-true, by-integer, by-float, by-text, by-list, by-map}
 use Rattle.equal.specs.declared.Operand.{Operand}
@@ -60,7 +60,7 @@ module _ (S X : List ℕ) (tab : Accepted S X) (i : ℕ) (h : i < nodeCount S) w
       let g = good-inside X (lowWord S i) (highWord S i) (tab .texts i h e) in
       record {
         means = λ L. ap (λ (k : ℕ). Value.text (part X k n)) p ∙ ap (λ (k : ℕ). Value.text (part X (lowWord S i) k)) q ∙ sym (ap nodeValue (unrolled S X tab i h ∙ by-text S X i (kidsAt S X i) e));
-        fine = λ L. omega arith;
+        fine = λ L. (omega arith, rw (p, q) (good-utf8 X (lowWord S i) (highWord S i) (tab .texts i h e)));
         itself = tt;
       }
 
@@ -203,8 +203,8 @@ module _ (S X L : List ℕ) (tab : Accepted S X) where
   truth-means (Bool d) f = refl
   truth-means (Int z) f = refl
   truth-means (Float x) f = refl
-  truth-means (Pool a n) f = ap (λ (k : ℕ). not (eqb k 0)) (sym (part-length L a n f))
-  truth-means (Text a n) f = ap (λ (k : ℕ). not (eqb k 0)) (sym (part-length X a n f))
+  truth-means (Pool a n) f = ap (λ (k : ℕ). not (eqb k 0)) (sym (part-length L a n (f .0)))
+  truth-means (Text a n) f = ap (λ (k : ℕ). not (eqb k 0)) (sym (part-length X a n (f .0)))
   truth-means (Node i) f = sym (nested-truth S X tab i (f .0) (f .1))
 
   pub length-means : (x : Operand) → Fine S X L x → lengthIn S X L x ≡ lengthOfValue (meaning S X L x)
@@ -235,8 +235,8 @@ module _ (S X L : List ℕ) (tab : Accepted S X) where
   parts-of (Bool d) f = tt
   parts-of (Int z) f = tt
   parts-of (Float x) f = tt
-  parts-of (Pool a n) f = f
-  parts-of (Text a n) f = f
+  parts-of (Pool a n) f = f .0
+  parts-of (Text a n) f = f .0
   parts-of (Node i) f = tt
 
   pub inside-of : (x : Operand) → Fine S X L x → Inside S x

@@ -44,7 +44,7 @@ module _ {S X : List ℕ} {m n : ℕ} (a : AskNodes S X m n) (op : ℕ) (r : Bit
 
   module _ (k : kindAt S m ≡ 5) (h : kindAt S n ≡ 5) (x p y q : ℕ) (i : x ≡ lowWord S m) (j : p ≡ highWord S m) (f : y ≡ lowWord S n) (g : q ≡ highWord S n) where
     pub texts-inside : (x + p ≤ length X) × (y + q ≤ length X)
-    texts-inside = (of-text S X (a .tab) m (a .first) k x p i j .fine [], of-text S X (a .tab) n (a .second) h y q f g .fine [])
+    texts-inside = (of-text S X (a .tab) m (a .first) k x p i j .fine [] .0, of-text S X (a .tab) n (a .second) h y q f g .fine [] .0)
 
     pub texts-same : op ≡ 0 → r ≡ sameBytes (part X x p) (part X y q) → Compares (nodeValue (nodeAt S X m)) (nodeValue (nodeAt S X n)) op r
     unfolding same sameText textOf

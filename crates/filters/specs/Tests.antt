@@ -119,7 +119,7 @@ module _ {P L S X : List ℕ} {m q : ℕ} (a : AskNode P L S X m q) (op : ℕ) (
     text-literal = done-text P L q (a .literal .few) c y o f g
 
     pub texts-in : (x + n ≤ length X) × (y + o ≤ length L)
-    texts-in = let z = a .literal in (text-node .fine L, text-literal (z .l) (z .k) (z .holds) (z .pool) (z .right) .fine S X)
+    texts-in = let z = a .literal in (text-node .fine L .0, text-literal (z .l) (z .k) (z .holds) (z .pool) (z .right) .fine S X .0)
 
     pub texts-done : op ≡ 0 → r ≡ sameBytes (part X x n) (part L y o) → DoneNode P L S X m q op r
     unfolding same sameText textOf

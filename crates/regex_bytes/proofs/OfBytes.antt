@@ -10,6 +10,7 @@ use lib.ListN.{length, drop, take, getD, set, length-append, drop-of-length-le}
 use lib.Seq.{sets-eq, drop-cons, getD-drop, take-at}
 use Rattle.definition.specs.Bytes.{within}
 use Rattle.utf8.specs.Unique.{point}
+use Rattle.utf8.specs.Scalars.{scalars-few}
 use Rattle.reading.specs.Reads.{Wrote}
 use Rattle.definition.specs.Utf8.{isUtf8, scalarsOf}
 use Rattle.definition.specs.Regexps.{regexpOf}
@@ -122,5 +123,5 @@ bytes-long s p q len h = outside (rw (lt-leb (length s) 1024 h) refl)
 pub bytes-read : {s p q : List ℕ} {len : ℕ} (w : List ℕ) {r : Reading} → isUtf8 s ≡ true → length s ≤ 1024 → w ≡ pointsOf s → ReadsWhole w p q len r → ReadsBytes s p q len r
 unfolding regexpOf
 bytes-read {s} w u h e (whole-code n d) =
-    code n (record { expr = d .expr; is = rw (le-leb (length s) 1024 h, sym (e ∙ points-utf8 s u)) (d .is); grown = d .grown; buf = d .buf })
+    code n (record { expr = d .expr; is = rw (le-leb (length s) 1024 h, sym (e ∙ points-utf8 s u)) (d .is); grown = d .grown; few = omega (arith, d .few, scalars-few s, ap length (e ∙ points-utf8 s u)); buf = d .buf })
 bytes-read {s} w u h e (whole-outside o) = outside (rw (le-leb (length s) 1024 h, sym (e ∙ points-utf8 s u)) o)

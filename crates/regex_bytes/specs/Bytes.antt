@@ -2,7 +2,7 @@
 use mathlib.Core.Path.{_≡_}
 use mathlib.Core.List.{List, [], _++_}
 use mathlib.Core.Option.{none, some}
-use Prim.Native.Nat.{ℕ, _+_, _-_, _≤_}
+use Prim.Native.Nat.{ℕ, _+_, _-_, _*_, _≤_}
 use lib.ListN.{length, drop, getD}
 use Rattle.reading.specs.Reads.{Wrote}
 use Rattle.regexps.specs.Regexp.{Regexp}
@@ -33,11 +33,12 @@ pub record Scalars (s p q : List ℕ) (r : ℕ) : Type 0 where
   pub few : r ≤ length s
   pub buf : Wrote p 0 (pointsOf s) q
 
--- the code of the expression is written from len on, up to n; or the bytes are outside the part
+-- the code of the expression is written from len on, up to n, and takes up to eight words for each byte; or the bytes are outside the part
 pub record IsCode (s p q : List ℕ) (len n : ℕ) : Type 0 where
   pub expr : Regexp
   pub is : regexpOf s ≡ some expr
   pub grown : n ≡ len + length (flat expr [])
+  pub few : n ≤ len + 8 * length s + 3
   pub buf : Wrote p len (flat expr []) q
 
 pub data ReadsBytes (s p q : List ℕ) (len : ℕ) : Reading → Type 0 where

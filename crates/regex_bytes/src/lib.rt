@@ -96,9 +96,11 @@ pub fn scalars(s: &[u8], chars: &mut [u32]) -> usize
     n
 }
 
-// Reads the expression whose bytes, which are UTF-8, are s, and writes its code from `len` on. `chars` takes its characters.
+// Reads the expression whose bytes, which are UTF-8, are s, and writes its code from `len` on. `chars` takes its characters: a word for each byte. The
+// code takes up to eight for each byte, and three more.
 pub fn read_bytes(s: &[u8], chars: &mut [u32], code: &mut [u32], len: usize) -> Reading
-    requires { ⌜ (isUtf8 (now s) ≡ true) × (1024 ≤ length (now chars)) × (len + 8195 ≤ length (now code)) ⌝ }
+    requires { ⌜ isUtf8 (now s) ≡ true ⌝ }
+    requires { ⌜ (length (now s) ≤ 1024 → (length (now s) ≤ length (now chars)) × (len + 8 * length (now s) + 3 ≤ length (now code))) ⌝ }
     ensures { λ r. ⌜ ReadsBytes (now (s .entry)) (now (code .entry)) (now (code .exit)) len r ⌝ }
 {
     if MAX_EXPRESSION < s.len() {

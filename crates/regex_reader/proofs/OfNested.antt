@@ -334,6 +334,7 @@ module _ (s p : List ℕ) (len : ℕ) where
           expr = d .expr;
           is = rw (d .is (4 * length s + 4) (omega arith), drop-of-length-le s h) refl;
           grown = d .grown;
+          few = omega (arith, d .cost, d .to);
           buf = d .buf;
         })
 

@@ -101,11 +101,12 @@ pub data Repeats (p q : List ℕ) (from : ℕ) (n : State) : Quant → Step → 
 
 -- ---- the whole
 
--- the code of the expression is written from len on, up to n; or the characters are outside the part
+-- the code of the expression is written from len on, up to n, and takes up to eight words for each character; or the characters are outside the part
 pub record IsCode (s p q : List ℕ) (len n : ℕ) : Type 0 where
   pub expr : Regexp
   pub is : readRegexp s ≡ some expr
   pub grown : n ≡ len + length (flat expr [])
+  pub few : n ≤ len + 8 * length s + 3
   pub buf : Wrote p len (flat expr []) q
 
 pub data ReadsWhole (s p q : List ℕ) (len : ℕ) : Reading → Type 0 where

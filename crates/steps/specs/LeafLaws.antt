@@ -132,7 +132,7 @@ module _ (P L : List ℕ) (q : ℕ) where
   done-float e x w (text s) k h b r = let u = text-kind s k h in absurd (omega arith)
 
   pub done-text : length L ≤ maxPlan → getD P q 0 ≡ 0x12 → (a n : ℕ) → a ≡ number (part P (q + 1) 2) → n ≡ number (part P (q + 3) 2) → (l : Literal) (k : ℕ) → Holds P q (codeLiteral l k) → Holds L k (poolLiteral l) → literalRight l ≡ true → ValueOf L (Pool a n) l
-  unfolding codeLiteral poolLiteral literalValue
+  unfolding codeLiteral poolLiteral literalValue literalRight
   done-text few e a n u v null k h b r = let w = holds-head P q _ _ h .1 in absurd (omega arith)
   done-text few e a n u v (boolean t) k h b r = let w = holds-head P q _ _ h .1 in absurd (omega arith)
   done-text few e a n u v (integer y) k h b r = let w = holds-head P q _ _ h .1 in absurd (omega arith)
@@ -142,7 +142,7 @@ module _ (P L : List ℕ) (q : ℕ) where
       let i = w .inside in
       let ea : a ≡ k = u ∙ w .start in
       let en : n ≡ length s = v ∙ w .size in
-      record { means = λ S X. ap (λ (z : ℕ). Value.text (part L z n)) ea ∙ ap (λ (z : ℕ). Value.text (part L k z)) en ∙ ap Value.text (w .bytes); fine = λ S X. omega arith }
+      record { means = λ S X. ap (λ (z : ℕ). Value.text (part L z n)) ea ∙ ap (λ (z : ℕ). Value.text (part L k z)) en ∙ ap Value.text (w .bytes); fine = λ S X. (omega arith, rw (ea, en, w .bytes) r) }
 
   pub done-constant : (getD P q 0 ≡ 0x10 → ⊥) → (getD P q 0 ≡ 0x11 → ⊥) → (getD P q 0 ≡ 0x12 → ⊥) → (o : Operand) → o ≡ constantOf (getD P (q + 1) 0) → (l : Literal) (k : ℕ) → Holds P q (codeLiteral l k) → Holds L k (poolLiteral l) → literalRight l ≡ true → ValueOf L o l
   unfolding codeLiteral poolLiteral literalValue

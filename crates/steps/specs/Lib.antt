@@ -3,4 +3,5 @@ pub mod EndLaws
 pub mod Leaves
 pub mod LeafLaws
 pub mod SliceLaws
+pub mod Regexes
 pub mod OpLaws

@@ -15,8 +15,8 @@ use Rattle.utf8.specs.Scalars.{scalars-few}
 use Rattle.tables.specs.Accepted.{Accepted}
 use Rattle.tables.specs.Keys.{part-length}
 use Rattle.walks.specs.Operations.{rightKind}
-use Rattle.walks.specs.Todos.{todo-in, todo-to, Compared, at-compare, at-not, at-truth, at-length, LiteralAt, at-literal, Right, at-right, past-queries, last-kind}
-use Rattle.equal.specs.Means.{meaning, Fine, truthIn, lengthIn}
+use Rattle.walks.specs.Todos.{todo-in, todo-to, Compared, at-compare, at-not, at-truth, at-length, Matched, at-regex, LiteralAt, at-literal, Right, at-right, past-queries, last-kind}
+use Rattle.equal.specs.Means.{meaning, Fine, textIn, truthIn, lengthIn}
 use Rattle.equal.specs.Values.{truth-means, length-means}
 use Rattle.equal.specs.Alike.{Compares}
 use Rattle.equal.specs.declared.Operand.{Operand}
@@ -24,6 +24,8 @@ use Rattle.equal.specs.declared.Operand.the-variants.{Nothing, Null, Bool, Int,
 use Rattle.steps.specs.declared.Regs.{Regs}
 use Rattle.steps.specs.Ends.{AskLiteral, DoneLiteral}
 use Rattle.steps.specs.EndLaws.{literal-two}
+use Rattle.regex_rooms.specs.Rooms.{scopeFor}
+use Rattle.steps.specs.Regexes.{regexIn, regex-means}
 use Rattle.steps.specs.Leaves.{AskValue, DoneValue, Doing, AskOp, DoneOp}
 
 abbrev pub regs : Bits → Operand → Operand → ℕ → Regs
@@ -107,6 +109,16 @@ module _ {P L S X : List ℕ} {s : Regs} {lo hi : ℕ} (a : AskOp P L S X s lo h
             (ap Value.integer w ∙ ap (λ (k : ℕ). Value.integer (pos k)) (e ∙ length-means S X L (a .tab) (s .y) (a .pair .second)));
       }
 
+  pub done-regex : 0x1C ≤ lo → hi ≤ 0x1D → (b : Bits) → b ≡ regexIn (scopeFor (getD P (s .q) 0)) (textIn X L (s .x)) (textIn X L (s .y)) → DoneOp P L S X s (regs b Nothing Nothing (s .q + 1))
+  done-regex low high b c =
+      let u = a .kind-low in let v = a .kind-high in
+      record {
+        pair = record { first = tt; second = tt };
+        further = omega arith;
+        goes = λ e R N want t m. let g : Matched P L (s .q) e R N (s .acc) (meaning S X L (s .x)) (meaning S X L (s .y)) want = at-regex P L (s .q) e R N (s .acc) (meaning S X L (s .x)) (meaning S X L (s .y)) want t m (omega arith) (omega arith) in
+            g .then b (c ∙ regex-means S X L (a .tab) (g .scope) (getD P (s .q) 0) (s .x) (s .y) (g .byte) (a .pair));
+      }
+
   module _ (low : 0x16 ≤ lo) (high : hi ≤ 0x17) where
     right-here : (e : ℕ) (R N : Json) (want : Bits) → Doing P L S X s e R N want → s .q < e → Right P L (s .q) e R N (s .acc) (meaning S X L (s .x)) (meaning S X L (s .y)) want
     right-here e R N want t m = let u = a .kind-low in let v = a .kind-high in at-right P L (s .q) e R N (s .acc) (meaning S X L (s .x)) (meaning S X L (s .y)) want (a .fewP) t m (omega arith) (omega arith)
@@ -154,8 +166,8 @@ module _ {P L S X : List ℕ} {s : Regs} {lo hi : ℕ} (a : AskOp P L S X s lo h
   pub literal-low : 3 ≤ lo → 0x10 ≤ getD P (s .q) 0
   literal-low u = let v = a .kind-low in past-queries P L (s .q) (a .e) (a .R) (a .N) (s .acc) (meaning S X L (s .x)) (meaning S X L (s .y)) (a .want) (a .todo) (a .more) (omega arith)
 
-  pub length-kind : 0x18 ≤ getD P (s .q) 0 → (getD P (s .q) 0 ≡ 0x18 → ⊥) → getD P (s .q) 0 ≡ 0x1A
-  length-kind u n = last-kind P L (s .q) (a .e) (a .R) (a .N) (s .acc) (meaning S X L (s .x)) (meaning S X L (s .y)) (a .want) (a .todo) (a .more) u n
+  pub regex-kind : 0x18 ≤ getD P (s .q) 0 → (getD P (s .q) 0 ≡ 0x18 → ⊥) → (getD P (s .q) 0 ≡ 0x1A → ⊥) → (0x1C ≤ getD P (s .q) 0) × (getD P (s .q) 0 ≤ 0x1D)
+  regex-kind u n m = last-kind P L (s .q) (a .e) (a .R) (a .N) (s .acc) (meaning S X L (s .x)) (meaning S X L (s .y)) (a .want) (a .todo) (a .more) u n m
 
 -- lengths are small
 pub length-small : (S X L : List ℕ) → Accepted S X → length L ≤ maxPlan → (x : Operand) → Fine S X L x → lengthIn S X L x ≤ maxText
@@ -164,6 +176,6 @@ length-small S X L tab few Null f = omega arith
 length-small S X L tab few (Bool b) f = omega arith
 length-small S X L tab few (Int z) f = omega arith
 length-small S X L tab few (Float y) f = omega arith
-length-small S X L tab few (Pool a n) f = omega (arith, scalars-few (part L a n), part-length L a n f)
-length-small S X L tab few (Text a n) f = omega (arith, scalars-few (part X a n), part-length X a n f, tab .size .short)
+length-small S X L tab few (Pool a n) f = omega (arith, scalars-few (part L a n), part-length L a n (f .0))
+length-small S X L tab few (Text a n) f = omega (arith, scalars-few (part X a n), part-length X a n (f .0), tab .size .short)
 length-small S X L tab few (Node i) f = omega (arith, tab .inside i (f .0), tab .size .few)

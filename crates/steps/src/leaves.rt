@@ -1,6 +1,7 @@
 // What an item of a plan says by itself, without a walk: a literal, a name, an index, a slice, and the operations of a filter's code on values.
 use crate::Regs;
 use crate::plans;
+use crate::regexes;
 use equal::Operand;
 use equal::members;
 use equal::members::Member;
@@ -38,6 +39,8 @@ const OR: u8 = 0x17;
 const TEST: u8 = 0x18;
 
 const COUNT: u8 = 0x19;
+
+const LENGTH: u8 = 0x1A;
 
 const VALUE: u8 = 0x1B;
 
@@ -303,6 +306,25 @@ fn length_expr(plan: &[u8], pool: &[u8], table: &[u8], text: &[u8], s: Regs) -> 
     Regs { acc, x, y: v, q: z }
 }
 
+// match or search of the last two values.
+fn regex_expr(plan: &[u8], pool: &[u8], table: &[u8], text: &[u8], s: Regs) -> Regs
+    requires { ⌜ AskOp (now plan) (now pool) (now table) (now text) s 0x1C 0x1D ⌝ }
+    ensures { λ r. ⌜ DoneOp (now (plan .entry)) (now (pool .entry)) (now (table .entry)) (now (text .entry)) s r ⌝ }
+{
+    let x = s.x;
+    let y = s.y;
+    let q = s.q;
+    let kind = plan[q];
+    let b = regexes::regex_values(kind, text, pool, x, y);
+    let z = q + 1;
+    Regs {
+        acc: b,
+        x: Operand::Nothing,
+        y: Operand::Nothing,
+        q: z,
+    }
+}
+
 // "After the left operand 16 skips the right one if the left is false, 17 if true, else drops it."
 fn right_operand(plan: &[u8], pool: &[u8], table: &[u8], text: &[u8], s: Regs) -> Regs
     requires { ⌜ AskOp (now plan) (now pool) (now table) (now text) s 0x16 0x17 ⌝ }
@@ -382,7 +404,10 @@ pub fn plain_expr(plan: &[u8], pool: &[u8], table: &[u8], text: &[u8], s: Regs) 
     if k == TEST {
         return truth_expr(plan, pool, table, text, s);
     }
-    length_expr(plan, pool, table, text, s)
+    if k == LENGTH {
+        return length_expr(plan, pool, table, text, s);
+    }
+    regex_expr(plan, pool, table, text, s)
 }
 
 // ---- queries in a filter's code

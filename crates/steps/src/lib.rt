@@ -2,10 +2,12 @@
 //
 //   leaves   literals, names, indices, slices, and the operations of a filter's code on values
 //   plans    where the items of a plan end
+//   regexes  match and search of two values
 use equal::Operand;
 
 pub mod leaves;
 pub mod plans;
+pub mod regexes;
 
 // What a filter's code has at hand: an answer, the last two values, and the place in the plan.
 pub struct Regs {

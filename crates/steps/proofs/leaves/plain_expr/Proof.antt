@@ -1,6 +1,6 @@
 -- `plain_expr` meets its contract: each kind of operation goes to the function for it. Assumes nothing.
 use native.Mathlib.Omega.{arith}
-use Rattle.steps.specs.OpLaws.{op-in, narrower, literal-low, length-kind}
+use Rattle.steps.specs.OpLaws.{op-in, narrower, literal-low, regex-kind}
 use Rattle.steps.proofs.leaves.plain_expr.Statement.{statement}
 use Rattle.steps.proofs.leaves.plain_expr.Tie as tie
 use Rattle.steps.proofs.leaves.plain_expr.Reads as reads
@@ -9,6 +9,7 @@ use Rattle.steps.proofs.leaves.compare_expr.Reads as compare-expr-reads
 use Rattle.steps.proofs.leaves.length_expr.Reads as length-expr-reads
 use Rattle.steps.proofs.leaves.literal_expr.Reads as literal-expr-reads
 use Rattle.steps.proofs.leaves.not_expr.Reads as not-expr-reads
+use Rattle.steps.proofs.leaves.regex_expr.Reads as regex-expr-reads
 use Rattle.steps.proofs.leaves.right_operand.Reads as right-operand-reads
 use Rattle.steps.proofs.leaves.truth_expr.Reads as truth-expr-reads
 
@@ -59,11 +60,19 @@ returns-5 c = c .truth-expr .ensures
 
 length-expr-requires : tie.Need-length-expr-requires
 length-expr-requires c κs =
-    let s = c .before .before .before .before .before .before .before .before .before .before in
-    let k = length-kind (s .pre) (omega arith) (c .if5 .left) in narrower (s .pre) 0x1A 0x1A (omega arith) (omega arith)
+    let s = c .before .before .before .before .before .before .before .before .before .before .before in
+    narrower (s .pre) 0x1A 0x1A (omega arith) (omega arith)
 
 returns-6 : tie.Need-returns-6
 returns-6 c = c .length-expr .ensures
+
+regex-expr-requires : tie.Need-regex-expr-requires
+regex-expr-requires c κs =
+    let s = c .before .before .before .before .before .before .before .before .before .before .before in
+    let k = regex-kind (s .pre) (omega arith) (c .before .if5 .left) (c .if6 .left) in narrower (s .pre) 0x1C 0x1D (k .0) (k .1)
+
+returns-7 : tie.Need-returns-7
+returns-7 c = c .regex-expr .ensures
 
 pub plain-expr-spec : {M : Type 1} → statement M
 plain-expr-spec =
@@ -81,4 +90,6 @@ plain-expr-spec =
     truth-expr-requires
     returns-5
     length-expr-requires
-    returns-6)
+    returns-6
+    regex-expr-requires
+    returns-7)

@@ -1,0 +1,62 @@
+// The test of a text by the code of an expression, in a room for marks that is as small as it may be.
+use regex::test;
+use regex_marks::weigh;
+ghost use Rattle.regex.specs.Tested.{Tested};
+
+// Rooms for marks: a byte for each character position of the written-out expression. Where the largest is too small, the test goes without marks.
+const FEW: usize = 256;
+
+const MORE: usize = 4096;
+
+const MOST: usize = 65535;
+
+// A byte that is no kind of a plan's item.
+const NO_KIND: u8 = 255;
+
+// These call themselves for the reason that stands at `short` of the crate.
+fn with_few(code: &[u32], text: &[u8], again: u8) -> bool
+    ensures { λ r. ⌜ Tested (now (code .entry)) (now (text .entry)) r ⌝ }
+{
+    if 0 < again {
+        return with_few(code, text, again - 1);
+    }
+    let mut marks = [0u8; FEW];
+    test(code, text, &mut marks)
+}
+
+fn with_more(code: &[u32], text: &[u8], again: u8) -> bool
+    ensures { λ r. ⌜ Tested (now (code .entry)) (now (text .entry)) r ⌝ }
+{
+    if 0 < again {
+        return with_more(code, text, again - 1);
+    }
+    let mut marks = [0u8; MORE];
+    test(code, text, &mut marks)
+}
+
+fn with_most(code: &[u32], text: &[u8], again: u8) -> bool
+    ensures { λ r. ⌜ Tested (now (code .entry)) (now (text .entry)) r ⌝ }
+{
+    if 0 < again {
+        return with_most(code, text, again - 1);
+    }
+    let mut marks = [0u8; MOST];
+    test(code, text, &mut marks)
+}
+
+// Whether the text is described by the expression that the code is of.
+pub fn test_within(kind: u8, code: &[u32], text: &[u8]) -> bool
+    ensures { λ r. ⌜ Tested (now (code .entry)) (now (text .entry)) r ⌝ }
+{
+    // 0 for both kinds; but LLVM cannot tell.
+    let again = kind / NO_KIND;
+    let w = weigh(code, 0, MOST);
+    let n = w.size;
+    if n <= FEW {
+        return with_few(code, text, again);
+    }
+    if n <= MORE {
+        return with_more(code, text, again);
+    }
+    with_most(code, text, again)
+}
