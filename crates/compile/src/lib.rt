@@ -24,7 +24,7 @@ pub struct Compiled {
     pub pool: usize,
 }
 
-// "Compile: 1, 2, 3, 4 by grammar, then the first of 4, 5, 6 in the Rust's walk, then 7, 8, 12." There is one outcome for each input.
+// "Compile: 1, 2, 3, 4 by grammar, then the first of 4, 5, 6 in the Rust's walk", then 8, 12. There is one outcome for each input.
 pub fn compile(query: &[u8], plan: &mut [u8], pool: &mut [u8]) -> Compiled
     ensures answers { λ r. ⌜ Compiles (now (query .entry)) (now (plan .entry)) (now (pool .entry)) (outcome r (now (plan .exit)) (now (pool .exit))) ⌝ }
     ensures only { λ r. ⌜ ((o : CompileOutcome) → Compiles (now (query .entry)) (now (plan .entry)) (now (pool .entry)) o → o ≡ outcome r (now (plan .exit)) (now (pool .exit))) ⌝ }

@@ -6,7 +6,7 @@ use Rattle.pieces.specs.Readings.{Kind}
 use Rattle.pieces.specs.declared.Got.{Got}
 use Rattle.pieces.specs.declared.Step.{Step}
 use Rattle.pieces.specs.declared.Step.the-variants.{Next, Stop}
-use mathlib.Core.List.{List, [], _∷_, _++_}
+use mathlib.Core.List.{List, _∷_, _++_}
 use mathlib.Core.Bool.{true, cond, _&&_}
 use lib.Dec.{eqb, ltb}
 use Rattle.definition.specs.Forms.{Segments, Selectors, Argument, manySelectors}

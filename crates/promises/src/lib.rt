@@ -16,14 +16,14 @@ use select::Selection;
 use table::TableChecked;
 use tally::KINDS;
 
-// From any bytes to a plan and a pool in the lent rooms, or a refusal: 1 to 8 or 12.
+// From any bytes to a plan and a pool in the lent rooms, or a refusal: 1 to 6, 8 or 12.
 pub fn compile(query: &[u8], plan: &mut [u8], pool: &mut [u8]) -> Compiled
     ensures { λ r. ⌜ CompilesOnly (now (query .entry)) (now (plan .entry)) (now (pool .entry)) (outcome r (now (plan .exit)) (now (pool .exit))) ⌝ }
 {
     compile::compile(query, plan, pool)
 }
 
-// The nodes of a table that a query selects, into the lent list from a start position on, or a refusal: 1 to 8, 9, 10, 13, 14 or 17.
+// The nodes of a table that a query selects, into the lent list from a start position on, or a refusal: 1 to 6, 8, 9, 10, 13, 14 or 17.
 pub fn select<'a>(
     query: &[u8],
     table: &'a [u8],
