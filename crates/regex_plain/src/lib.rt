@@ -167,43 +167,29 @@ pub struct Search {
 fn sought(code: &[u32]) -> Search
     ensures { λ r. ⌜ Sought (now (code .entry)) (r .is) (r .count) ⌝ }
 {
+    let none = Search {
+        is: false,
+        count: 0,
+    };
     if code.len() < 12 {
-        return Search {
-            is: false,
-            count: 0,
-        };
+        return none;
     }
     if code[0] != 2 {
-        return Search {
-            is: false,
-            count: 0,
-        };
+        return none;
     }
     if !free(code, 1) {
-        return Search {
-            is: false,
-            count: 0,
-        };
+        return none;
     }
     if code[6] != 2 {
-        return Search {
-            is: false,
-            count: 0,
-        };
+        return none;
     }
     let p = row_at(code, 7);
     let i = p.next;
     if code.len() - i != 5 {
-        return Search {
-            is: false,
-            count: 0,
-        };
+        return none;
     }
     if !free(code, i) {
-        return Search {
-            is: false,
-            count: 0,
-        };
+        return none;
     }
     Search {
         is: p.is,
