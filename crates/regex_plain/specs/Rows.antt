@@ -16,6 +16,13 @@ abbrev pub letters : List ℕ → ℕ → ℕ → List ℕ
 letters s at zero = []
 letters s at (suc n) = getD s (at + 4) 0 ∷ letters s (at + 6) n
 
+-- four words from `at` on
+pub record Four (s : List ℕ) (at w x y z : ℕ) : Type 0 where
+  pub first : getD s at 0 ≡ w
+  pub second : getD s (at + 1) 0 ≡ x
+  pub third : getD s (at + 2) 0 ≡ y
+  pub fourth : getD s (at + 3) 0 ≡ z
+
 -- the words of one
 pub record Letter (s : List ℕ) (at : ℕ) : Type 0 where
   pub fits : at + 6 ≤ length s

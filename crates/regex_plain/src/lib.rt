@@ -6,7 +6,24 @@ ghost use mathlib.Core.Path.{_≡_};
 ghost use mathlib.Core.Bool.{true};
 ghost use Prim.Native.Nat.{_+_, _*_, _≤_, _<_};
 ghost use lib.ListN.{length};
-ghost use Rattle.regex_plain.specs.Rows.{Letter, Free, Spelt, Plainly, Begins, Whole, Found, Sought, Known, Open};
+ghost use Rattle.regex_plain.specs.Rows.{Four, Letter, Free, Spelt, Plainly, Begins, Whole, Found, Sought, Known, Open};
+
+// Whether the words w, x, y and z stand at `at`.
+fn four(code: &[u32], at: usize, w: u32, x: u32, y: u32, z: u32) -> bool
+    requires { ⌜ at + 4 ≤ length (now code) ⌝ }
+    ensures { λ r. ⌜ (r ≡ true → Four (now (code .entry)) at w x y z) ⌝ }
+{
+    if code[at] != w {
+        return false;
+    }
+    if code[at + 1] != x {
+        return false;
+    }
+    if code[at + 2] != y {
+        return false;
+    }
+    code[at + 3] == z
+}
 
 // The words of one character and of what follows it: 2 1 0 1 C C.
 fn letter(code: &[u32], at: usize) -> bool
@@ -16,16 +33,7 @@ fn letter(code: &[u32], at: usize) -> bool
     if code.len() - at < 6 {
         return false;
     }
-    if code[at] != 2 {
-        return false;
-    }
-    if code[at + 1] != 1 {
-        return false;
-    }
-    if code[at + 2] != 0 {
-        return false;
-    }
-    if code[at + 3] != 1 {
+    if !four(code, at, 2, 1, 0, 1) {
         return false;
     }
     code[at + 4] == code[at + 5]
@@ -36,16 +44,7 @@ fn free(code: &[u32], at: usize) -> bool
     requires { ⌜ at + 5 ≤ length (now code) ⌝ }
     ensures { λ r. ⌜ (r ≡ true → Free (now (code .entry)) at) ⌝ }
 {
-    if code[at] != 5 {
-        return false;
-    }
-    if code[at + 1] != 0 {
-        return false;
-    }
-    if code[at + 2] != 1 {
-        return false;
-    }
-    if code[at + 3] != 1 {
+    if !four(code, at, 5, 0, 1, 1) {
         return false;
     }
     code[at + 4] == 0
@@ -167,43 +166,29 @@ pub struct Search {
 fn sought(code: &[u32]) -> Search
     ensures { λ r. ⌜ Sought (now (code .entry)) (r .is) (r .count) ⌝ }
 {
+    let none = Search {
+        is: false,
+        count: 0,
+    };
     if code.len() < 12 {
-        return Search {
-            is: false,
-            count: 0,
-        };
+        return none;
     }
     if code[0] != 2 {
-        return Search {
-            is: false,
-            count: 0,
-        };
+        return none;
     }
     if !free(code, 1) {
-        return Search {
-            is: false,
-            count: 0,
-        };
+        return none;
     }
     if code[6] != 2 {
-        return Search {
-            is: false,
-            count: 0,
-        };
+        return none;
     }
     let p = row_at(code, 7);
     let i = p.next;
     if code.len() - i != 5 {
-        return Search {
-            is: false,
-            count: 0,
-        };
+        return none;
     }
     if !free(code, i) {
-        return Search {
-            is: false,
-            count: 0,
-        };
+        return none;
     }
     Search {
         is: p.is,

@@ -1,54 +1,17 @@
 -- `regex_plain::free` meets its contract. Assumes nothing.
 use borrow.Author.Needs.{needs}
+use native.Mathlib.Omega.{arith}
+use borrow.Author.Tests.{eqb-true, not-false}
 use mathlib.Core.Bool.{false≢true}
-use borrow.Author.Tests.{eqb-true}
 use Rattle.regex_plain.proofs.free.Statement.{statement}
 use Rattle.regex_plain.proofs.free.Tie as tie
+use Rattle.regex_plain.proofs.free.Reads as reads
 
-mul-if1 : tie.Need-mul-if1
-mul-if1 c = search needs
-
-shared-slice-read-if1 : tie.Need-shared-slice-read-if1
-shared-slice-read-if1 c = search needs
+four-requires : tie.Need-four-requires
+four-requires c κs = omega (arith, c .before .pre)
 
 returns : tie.Need-returns
 returns c = λ e. absurd (false≢true e)
-
-add-if2 : tie.Need-add-if2
-add-if2 c = search needs
-
-mul-if2 : tie.Need-mul-if2
-mul-if2 c = search needs
-
-shared-slice-read-if2 : tie.Need-shared-slice-read-if2
-shared-slice-read-if2 c = search needs
-
-returns-2 : tie.Need-returns-2
-returns-2 c = λ e. absurd (false≢true e)
-
-add-if3 : tie.Need-add-if3
-add-if3 c = search needs
-
-mul-if3 : tie.Need-mul-if3
-mul-if3 c = search needs
-
-shared-slice-read-if3 : tie.Need-shared-slice-read-if3
-shared-slice-read-if3 c = search needs
-
-returns-3 : tie.Need-returns-3
-returns-3 c = λ e. absurd (false≢true e)
-
-add-if4 : tie.Need-add-if4
-add-if4 c = search needs
-
-mul-if4 : tie.Need-mul-if4
-mul-if4 c = search needs
-
-shared-slice-read-if4 : tie.Need-shared-slice-read-if4
-shared-slice-read-if4 c = search needs
-
-returns-4 : tie.Need-returns-4
-returns-4 c = λ e. absurd (false≢true e)
 
 add-result : tie.Need-add-result
 add-result c = search needs
@@ -59,29 +22,10 @@ mul-result c = search needs
 shared-slice-read-result : tie.Need-shared-slice-read-result
 shared-slice-read-result c = search needs
 
-returns-5 : tie.Need-returns-5
-returns-5 c = λ e. record { rep = c .before .before .before .before .before .before .before .if1 .left; none = c .before .before .before .before .before .if2 .left; cls = c .before .before .before .if3 .left; comp = c .before .if4 .left; few = eqb-true _ _ e }
+returns-2 : tie.Need-returns-2
+returns-2 c = λ e. let q = c .before .before .four .ensures (not-false (c .before .before .four .result) (c .before .if1 .left)) in record { rep = q .first; none = q .second; cls = q .third; comp = q .fourth; few = eqb-true _ _ e }
 
 pub free-spec : {M : Type 1} → statement M
 free-spec =
     tie.close
-    (tie.spec
-    mul-if1
-    shared-slice-read-if1
-    returns
-    add-if2
-    mul-if2
-    shared-slice-read-if2
-    returns-2
-    add-if3
-    mul-if3
-    shared-slice-read-if3
-    returns-3
-    add-if4
-    mul-if4
-    shared-slice-read-if4
-    returns-4
-    add-result
-    mul-result
-    shared-slice-read-result
-    returns-5)
+    (tie.spec four-requires returns add-result mul-result shared-slice-read-result returns-2)

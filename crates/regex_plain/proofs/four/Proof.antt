@@ -1,0 +1,71 @@
+-- `regex_plain::four` meets its contract. Assumes nothing.
+use borrow.Author.Needs.{needs}
+use borrow.Author.Tests.{eqb-true}
+use mathlib.Core.Bool.{false≢true}
+use Rattle.regex_plain.proofs.four.Statement.{statement}
+use Rattle.regex_plain.proofs.four.Tie as tie
+
+mul-if1 : tie.Need-mul-if1
+mul-if1 c = search needs
+
+shared-slice-read-if1 : tie.Need-shared-slice-read-if1
+shared-slice-read-if1 c = search needs
+
+returns : tie.Need-returns
+returns c = λ e. absurd (false≢true e)
+
+add-if2 : tie.Need-add-if2
+add-if2 c = search needs
+
+mul-if2 : tie.Need-mul-if2
+mul-if2 c = search needs
+
+shared-slice-read-if2 : tie.Need-shared-slice-read-if2
+shared-slice-read-if2 c = search needs
+
+returns-2 : tie.Need-returns-2
+returns-2 c = λ e. absurd (false≢true e)
+
+add-if3 : tie.Need-add-if3
+add-if3 c = search needs
+
+mul-if3 : tie.Need-mul-if3
+mul-if3 c = search needs
+
+shared-slice-read-if3 : tie.Need-shared-slice-read-if3
+shared-slice-read-if3 c = search needs
+
+returns-3 : tie.Need-returns-3
+returns-3 c = λ e. absurd (false≢true e)
+
+add-result : tie.Need-add-result
+add-result c = search needs
+
+mul-result : tie.Need-mul-result
+mul-result c = search needs
+
+shared-slice-read-result : tie.Need-shared-slice-read-result
+shared-slice-read-result c = search needs
+
+returns-4 : tie.Need-returns-4
+returns-4 c = λ e. record { first = c .before .before .before .before .before .if1 .left; second = c .before .before .before .if2 .left; third = c .before .if3 .left; fourth = eqb-true _ _ e }
+
+pub four-spec : {M : Type 1} → statement M
+four-spec =
+    tie.close
+    (tie.spec
+    mul-if1
+    shared-slice-read-if1
+    returns
+    add-if2
+    mul-if2
+    shared-slice-read-if2
+    returns-2
+    add-if3
+    mul-if3
+    shared-slice-read-if3
+    returns-3
+    add-result
+    mul-result
+    shared-slice-read-result
+    returns-4)
