@@ -1,7 +1,7 @@
-// Nanoseconds per node of the table check, beside a bare pass that adds up the same bytes, in one run.
+// Nanoseconds per node of the table check, beside a bare pass that adds up the same bytes, those of the table and those of the text, in one run.
 // The bare pass is made twice and timed the second time, so that each is timed with the table in the caches.
 // Tables: many small maps; 63 maps of 1,024 members, with any keys and with keys of one bucket; one list of numbers; lists in lists,
-// 60 levels deep; one list of texts.
+// 60 levels deep; one list of texts, of 20 bytes each and of 2,000, in ASCII and in characters of two to four bytes; small maps with keys beyond ASCII.
 #include "../include/stewpebble.h"
 #include <stdio.h>
 #include <stdlib.h>
@@ -54,6 +54,15 @@ static void keys(size_t count, int one_bucket) {
     text_length = KEY * count;
 }
 
+// The same of two characters of three bytes each.
+static void keys_beyond_ascii(size_t count) {
+    for (size_t k = 0; k < count; k++) {
+        const uint8_t key[KEY] = {0xE4, 0xB8 + k / 64 / 64, 0x80 + k / 64 % 64, 0xE5, 0x80, 0x80 + k % 64};
+        memcpy(text + KEY * k, key, KEY);
+    }
+    text_length = KEY * count;
+}
+
 // A list of `maps` maps with `members` integers each, whose keys are in `text`.
 static void list_of_maps(size_t maps, size_t members) {
     record(0, 6, 0, 0, 0, 0, 1, maps);
@@ -85,10 +94,21 @@ static void lists_in_lists(size_t width, size_t levels) {
     nodes = 1 + width * levels;
 }
 
-// A list of `count` texts of `length` letters each.
-static void list_of_texts(size_t count, size_t length) {
+// What texts are filled with; behind whole characters, ASCII letters.
+static const char *const fillings[] = {"a", "\xC3\xA9", "\xE6\xBC\xA2", "\xF0\x9F\x98\x80"};
+
+// Parts of `length` bytes, end to end, each of which holds so many of these characters, and else ASCII letters.
+static void fill(size_t count, size_t length, const char *character, size_t times) {
+    size_t size = strlen(character);
     memset(text, 'a', count * length);
     text_length = count * length;
+    for (size_t k = 0; k < count; k++)
+        for (size_t n = 0; n < times && (n + 1) * size <= length; n++) memcpy(text + k * length + n * size, character, size);
+}
+
+// A list of `count` texts of `length` bytes each.
+static void list_of_texts(size_t count, size_t length, const char *character, size_t times) {
+    fill(count, length, character, times);
     record(0, 6, 0, 0, 0, 0, 1, count);
     for (size_t k = 0; k < count; k++) record(1 + k, 5, 1, 0, 0, 0, length * k, length);
     nodes = 1 + count;
@@ -104,6 +124,10 @@ static uint64_t bare(void) {
     uint64_t sum = 0, word;
     for (size_t i = 0; i < nodes * RECORD; i += 8) {
         memcpy(&word, table + i, 8);
+        sum += word;
+    }
+    for (size_t i = 0; i + 8 <= text_length; i += 8) {
+        memcpy(&word, text + i, 8);
         sum += word;
     }
     return sum;
@@ -130,7 +154,7 @@ static void measure(const char *name) {
         if (d - c < summed) summed = d - c;
     }
     (void)kept;
-    printf("%-34s %6zu nodes  check %8.2f ns/node  bare pass %6.2f ns/node  ratio %7.1f\n", name, nodes, checked / nodes, summed / nodes, checked / summed);
+    printf("%-36s %6zu nodes  check %8.2f ns/node  bare pass %6.2f ns/node  ratio %7.1f\n", name, nodes, checked / nodes, summed / nodes, checked / summed);
 }
 
 int main(void) {
@@ -150,7 +174,24 @@ int main(void) {
     measure("one list of numbers");
     lists_in_lists(1000, 60);
     measure("lists in lists, 60 levels");
-    list_of_texts(50000, 20);
-    measure("one list of texts");
+    list_of_texts(50000, 20, fillings[0], 0);
+    measure("texts of 20 bytes");
+    list_of_texts(50000, 20, fillings[1], 1);
+    measure("texts of 20 bytes, one accent each");
+    list_of_texts(50000, 20, fillings[1], 20);
+    measure("texts of 20 bytes, two a character");
+    list_of_texts(50000, 20, fillings[2], 20);
+    measure("texts of 20 bytes, three");
+    list_of_texts(50000, 20, fillings[3], 20);
+    measure("texts of 20 bytes, four");
+    list_of_texts(500, 2000, fillings[0], 0);
+    measure("texts of 2,000 bytes");
+    list_of_texts(500, 2000, fillings[1], 1);
+    measure("texts of 2,000 bytes, one accent");
+    list_of_texts(500, 2000, fillings[2], 2000);
+    measure("texts of 2,000 bytes, three");
+    keys_beyond_ascii(1024);
+    list_of_maps(13106, 4);
+    measure("maps of 4 members, keys of three");
     return 0;
 }
