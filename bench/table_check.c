@@ -1,6 +1,6 @@
 // Nanoseconds per node of the table check, beside a bare pass that adds up the same bytes, those of the table and those of the text, in one run.
 // The bare pass is made twice and timed the second time, so that each is timed with the table in the caches.
-// Tables: many small maps; 63 maps of 1,024 members, with any keys and with keys of one bucket; one list of numbers; lists in lists,
+// Tables: many small maps; 63 maps of 1,024 members, with any keys, with keys of one bucket and with keys of one hash; one list of numbers; lists in lists,
 // 60 levels deep; one list of texts, of 20 bytes each and of 2,000, in ASCII and in characters of two to four bytes; small maps with keys beyond ASCII.
 #include "../include/stewpebble.h"
 #include <stdio.h>
@@ -29,7 +29,9 @@ static void record(size_t i, int kind, int depth, uint32_t key, uint32_t key_len
     put32(r + 20, high);
 }
 
-enum { KEY = 6 };
+enum { KEY = 6, LONG_KEY = 8 };
+
+static size_t key_size = KEY;
 
 static uint64_t mix(uint64_t hash, uint64_t word) { return (hash + word) * 1640531527 / 65536 % 4294967296; }
 
@@ -52,15 +54,31 @@ static void keys(size_t count, int one_bucket) {
         memcpy(text + KEY * k++, digits, KEY);
     }
     text_length = KEY * count;
+    key_size = KEY;
 }
 
-// The same of two characters of three bytes each.
+// Keys of eight ASCII bytes that have one hash, and so share a bucket however many there are: the second word undoes what the first one did.
+static void keys_of_one_hash(size_t count) {
+    size_t k = 0;
+    for (uint32_t n = 0; k < count; n++) {
+        uint32_t first = (n & 127) | (n >> 7 & 127) << 8 | (n >> 14 & 127) << 16 | 0x20000000;
+        uint32_t second = 0x50505050 - (uint32_t)mix(0, first);
+        if (second & 0x80808080 || mix(0, first) + second != 0x50505050) continue;
+        memcpy(text + LONG_KEY * k, &first, 4);
+        memcpy(text + LONG_KEY * k++ + 4, &second, 4);
+    }
+    text_length = LONG_KEY * count;
+    key_size = LONG_KEY;
+}
+
+// Keys of two characters of three bytes each.
 static void keys_beyond_ascii(size_t count) {
     for (size_t k = 0; k < count; k++) {
         const uint8_t key[KEY] = {0xE4, 0xB8 + k / 64 / 64, 0x80 + k / 64 % 64, 0xE5, 0x80, 0x80 + k % 64};
         memcpy(text + KEY * k, key, KEY);
     }
     text_length = KEY * count;
+    key_size = KEY;
 }
 
 // A list of `maps` maps with `members` integers each, whose keys are in `text`.
@@ -69,7 +87,7 @@ static void list_of_maps(size_t maps, size_t members) {
     size_t next = 1 + maps;
     for (size_t m = 0; m < maps; m++) {
         record(1 + m, 7, 1, 0, 0, 0, next, members);
-        for (size_t k = 0; k < members; k++) record(next + k, 3, 2, KEY * k, KEY, 1 + m, k, 0);
+        for (size_t k = 0; k < members; k++) record(next + k, 3, 2, key_size * k, key_size, 1 + m, k, 0);
         next += members;
     }
     nodes = next;
@@ -168,6 +186,9 @@ int main(void) {
     keys(1024, 1);
     list_of_maps(63, 1024);
     measure("63 maps, keys of one bucket");
+    keys_of_one_hash(1024);
+    list_of_maps(63, 1024);
+    measure("63 maps, keys of one hash");
     list_of_numbers(9999);
     measure("one list of numbers");
     list_of_numbers(65534);
