@@ -1,7 +1,7 @@
-// Nanoseconds per node of the table check, beside a bare pass that adds up the same bytes, in one run.
+// Nanoseconds per node of the table check, beside a bare pass that adds up the same bytes, those of the table and those of the text, in one run.
 // The bare pass is made twice and timed the second time, so that each is timed with the table in the caches.
-// Tables: many small maps; 63 maps of 1,024 members, with any keys and with keys of one bucket; one list of numbers; lists in lists,
-// 60 levels deep; one list of texts.
+// Tables: many small maps; 63 maps of 1,024 members, with any keys, with keys of one bucket and with keys of one hash; one list of numbers; lists in lists,
+// 60 levels deep; one list of texts, of 20 bytes each and of 2,000, in ASCII and in characters of two to four bytes; small maps with keys beyond ASCII.
 #include "../include/stewpebble.h"
 #include <stdio.h>
 #include <stdlib.h>
@@ -29,7 +29,9 @@ static void record(size_t i, int kind, int depth, uint32_t key, uint32_t key_len
     put32(r + 20, high);
 }
 
-enum { KEY = 6 };
+enum { KEY = 6, LONG_KEY = 8 };
+
+static size_t key_size = KEY;
 
 static uint64_t mix(uint64_t hash, uint64_t word) { return (hash + word) * 1640531527 / 65536 % 4294967296; }
 
@@ -52,6 +54,31 @@ static void keys(size_t count, int one_bucket) {
         memcpy(text + KEY * k++, digits, KEY);
     }
     text_length = KEY * count;
+    key_size = KEY;
+}
+
+// Keys of eight ASCII bytes that have one hash, and so share a bucket however many there are: the second word undoes what the first one did.
+static void keys_of_one_hash(size_t count) {
+    size_t k = 0;
+    for (uint32_t n = 0; k < count; n++) {
+        uint32_t first = (n & 127) | (n >> 7 & 127) << 8 | (n >> 14 & 127) << 16 | 0x20000000;
+        uint32_t second = 0x50505050 - (uint32_t)mix(0, first);
+        if (second & 0x80808080 || mix(0, first) + second != 0x50505050) continue;
+        memcpy(text + LONG_KEY * k, &first, 4);
+        memcpy(text + LONG_KEY * k++ + 4, &second, 4);
+    }
+    text_length = LONG_KEY * count;
+    key_size = LONG_KEY;
+}
+
+// Keys of two characters of three bytes each.
+static void keys_beyond_ascii(size_t count) {
+    for (size_t k = 0; k < count; k++) {
+        const uint8_t key[KEY] = {0xE4, 0xB8 + k / 64 / 64, 0x80 + k / 64 % 64, 0xE5, 0x80, 0x80 + k % 64};
+        memcpy(text + KEY * k, key, KEY);
+    }
+    text_length = KEY * count;
+    key_size = KEY;
 }
 
 // A list of `maps` maps with `members` integers each, whose keys are in `text`.
@@ -60,7 +87,7 @@ static void list_of_maps(size_t maps, size_t members) {
     size_t next = 1 + maps;
     for (size_t m = 0; m < maps; m++) {
         record(1 + m, 7, 1, 0, 0, 0, next, members);
-        for (size_t k = 0; k < members; k++) record(next + k, 3, 2, KEY * k, KEY, 1 + m, k, 0);
+        for (size_t k = 0; k < members; k++) record(next + k, 3, 2, key_size * k, key_size, 1 + m, k, 0);
         next += members;
     }
     nodes = next;
@@ -85,10 +112,21 @@ static void lists_in_lists(size_t width, size_t levels) {
     nodes = 1 + width * levels;
 }
 
-// A list of `count` texts of `length` letters each.
-static void list_of_texts(size_t count, size_t length) {
+// What texts are filled with; behind whole characters, ASCII letters.
+static const char *const fillings[] = {"a", "\xC3\xA9", "\xE6\xBC\xA2", "\xF0\x9F\x98\x80"};
+
+// Parts of `length` bytes, end to end, each of which holds so many of these characters, and else ASCII letters.
+static void fill(size_t count, size_t length, const char *character, size_t times) {
+    size_t size = strlen(character);
     memset(text, 'a', count * length);
     text_length = count * length;
+    for (size_t k = 0; k < count; k++)
+        for (size_t n = 0; n < times && (n + 1) * size <= length; n++) memcpy(text + k * length + n * size, character, size);
+}
+
+// A list of `count` texts of `length` bytes each.
+static void list_of_texts(size_t count, size_t length, const char *character, size_t times) {
+    fill(count, length, character, times);
     record(0, 6, 0, 0, 0, 0, 1, count);
     for (size_t k = 0; k < count; k++) record(1 + k, 5, 1, 0, 0, 0, length * k, length);
     nodes = 1 + count;
@@ -104,6 +142,10 @@ static uint64_t bare(void) {
     uint64_t sum = 0, word;
     for (size_t i = 0; i < nodes * RECORD; i += 8) {
         memcpy(&word, table + i, 8);
+        sum += word;
+    }
+    for (size_t i = 0; i + 8 <= text_length; i += 8) {
+        memcpy(&word, text + i, 8);
         sum += word;
     }
     return sum;
@@ -130,7 +172,7 @@ static void measure(const char *name) {
         if (d - c < summed) summed = d - c;
     }
     (void)kept;
-    printf("%-34s %6zu nodes  check %8.2f ns/node  bare pass %6.2f ns/node  ratio %7.1f\n", name, nodes, checked / nodes, summed / nodes, checked / summed);
+    printf("%-36s %6zu nodes  check %8.2f ns/node  bare pass %6.2f ns/node  ratio %7.1f\n", name, nodes, checked / nodes, summed / nodes, checked / summed);
 }
 
 int main(void) {
@@ -144,13 +186,33 @@ int main(void) {
     keys(1024, 1);
     list_of_maps(63, 1024);
     measure("63 maps, keys of one bucket");
+    keys_of_one_hash(1024);
+    list_of_maps(63, 1024);
+    measure("63 maps, keys of one hash");
     list_of_numbers(9999);
     measure("one list of numbers");
     list_of_numbers(65534);
     measure("one list of numbers");
     lists_in_lists(1000, 60);
     measure("lists in lists, 60 levels");
-    list_of_texts(50000, 20);
-    measure("one list of texts");
+    list_of_texts(50000, 20, fillings[0], 0);
+    measure("texts of 20 bytes");
+    list_of_texts(50000, 20, fillings[1], 1);
+    measure("texts of 20 bytes, one accent each");
+    list_of_texts(50000, 20, fillings[1], 20);
+    measure("texts of 20 bytes, two a character");
+    list_of_texts(50000, 20, fillings[2], 20);
+    measure("texts of 20 bytes, three");
+    list_of_texts(50000, 20, fillings[3], 20);
+    measure("texts of 20 bytes, four");
+    list_of_texts(500, 2000, fillings[0], 0);
+    measure("texts of 2,000 bytes");
+    list_of_texts(500, 2000, fillings[1], 1);
+    measure("texts of 2,000 bytes, one accent");
+    list_of_texts(500, 2000, fillings[2], 2000);
+    measure("texts of 2,000 bytes, three");
+    keys_beyond_ascii(1024);
+    list_of_maps(13106, 4);
+    measure("maps of 4 members, keys of three");
     return 0;
 }

@@ -23,7 +23,7 @@ step-counts T p = counts-next T (p + 1) ∙ rw add-one
 
 -- the cursor at a node with a range
 abbrev pub ranged : List ℕ → ℕ → ℕ → ℕ → Cursor
-ranged T p f e = record { parent = p; from = f; end = e; kind = kindAt T p; depth = depthAt T p }
+ranged T p f e = record { parent = p; from = f; end = e; kind = kindAt T p; depth = depthAt T p; sure = 0 }
 
 -- a cursor's range with the kind and the depth of its node
 pub cursor-ranged : (T : List ℕ) (i : ℕ) (q : Cursor) → CursorAt T i q → CursorAt T i (ranged T (q .parent) (q .from) (q .end))
@@ -135,7 +135,7 @@ module _ (T X : List ℕ) where
   right-next i r h k l = right-more T X i r h k (omega arith)
 
 -- the cursor at the root, before node 1
-pub root-cursor : (T : List ℕ) (c k d : ℕ) → c ≡ childCount T 0 → k ≡ kindAt T 0 → d ≡ depthAt T 0 → CursorAt T 1 (record { parent = 0; from = 1; end = 1 + c; kind = k; depth = d })
+pub root-cursor : (T : List ℕ) (c k d : ℕ) → c ≡ childCount T 0 → k ≡ kindAt T 0 → d ≡ depthAt T 0 → CursorAt T 1 (record { parent = 0; from = 1; end = 1 + c; kind = k; depth = d; sure = 0 })
 root-cursor T c k d z u v =
     let a = counts-root T in
     let b = counts-next T 0 in

@@ -10,19 +10,15 @@ use borrow.Author.Tests.{ltb-true, ltb-false}
 use Rattle.definition.specs.Limits.{maxMembers}
 use Rattle.definition.specs.Tables.{nodeCount, firstChild}
 use Rattle.tables.specs.Counts.{counts-monotone}
-use Rattle.tables.specs.Parents.{one-parent}
 use Rattle.table.specs.declared.scan.Cursor.{Cursor}
 use Rattle.table.specs.Buckets.{bucketAt}
 use Rattle.table.specs.Chains.{HeadsBelow, Chained, Roomy}
-use Rattle.table.specs.Words.{Large, Kept, CursorAt, ParentAt, Before}
+use Rattle.table.specs.Words.{Large, Kept, CursorAt, ParentAt, Moved, Surely, Before}
+use Rattle.table.specs.Words.Surely.{as-before, found}
 use Rattle.table.proofs.Chains.{heads-next, chained-heads, chains-begin}
-use Rattle.table.proofs.Cursor.{found-range, after-node}
+use Rattle.table.proofs.Cursor.{after-node}
 
-module _ (T X : List ℕ) (i : ℕ) (q r : Cursor) (H L : List ℕ) (b : Before T X i q H L) (p : ParentAt T i r) where
-  -- a range that holds the node is its parent's
-  same-parent : i < q .end → q .parent ≡ r .parent
-  same-parent l = one-parent T (q .parent) (r .parent) i (found-range T i q (record { place = b .cursor; end-past = l })) (found-range T i r p)
-
+module _ (T X : List ℕ) (i : ℕ) (q r : Cursor) (H L : List ℕ) (b : Before T X i q H L) (p : ParentAt T i r) (w : Moved i q r) where
   -- behind the end of a range the next range that is not empty begins
   first-of-range : q .end ≤ i → i ≤ r .from
   first-of-range l = go (ltb (q .parent) (r .parent)) refl
@@ -42,37 +38,50 @@ module _ (T X : List ℕ) (i : ℕ) (q r : Cursor) (H L : List ℕ) (b : Before 
           let w = p .end-past in
           absurd (omega arith)
 
-  -- the chains of the cursor's map are those of the parent's: it is the same map, or its first member comes next
-  pub kept-moved : Kept T X i (r .parent) (r .from) H L
-  kept-moved = record { heads = b .kept .heads; room = b .kept .room; chained = λ m. go m (ltb i (q .end)) refl }
+  -- what is kept for the cursor is kept for the parent: the cursor stays, or the parent's first child comes next
+  pub kept-moved : Kept T X i r H L
+  kept-moved = go (ltb i (q .end)) refl
     where
-      go : Large T (r .parent) → (x : Bool) → ltb i (q .end) ≡ x → Chained (bucketAt (length H) T X) (r .from) i H L
-      go m true e =
-          let s = same-parent (ltb-true i (q .end) e) in
-          let f : q .from ≡ r .from = b .cursor .from-is ∙ ap (firstChild T) s ∙ sym (p .place .from-is) in
-          subst (λ (x : ℕ). Chained (bucketAt (length H) T X) x i H L) f (b .kept .chained (subst (Large T) (sym s) m))
-      go m false e = chains-begin (bucketAt (length H) T X) (r .from) i H L (first-of-range (ltb-false i (q .end) e)) (b .kept .heads)
+      go : (x : Bool) → ltb i (q .end) ≡ x → Kept T X i r H L
+      go true e = subst (λ (x : Cursor). Kept T X i x H L) (sym (w .stays (ltb-true i (q .end) e))) (b .kept)
+      go false e =
+          let l = ltb-false i (q .end) e in
+          record { heads = b .kept .heads; room = b .kept .room; chained = λ _ _. chains-begin (bucketAt (length H) T X) (r .from) i H L (first-of-range l) (b .kept .heads); surely = λ z. absurd (z (w .anew l)) }
 
-module _ (T X : List ℕ) (i p f : ℕ) (H L : List ℕ) where
+module _ (T X : List ℕ) (i : ℕ) (q : Cursor) (H L : List ℕ) where
   -- behind a node that joins no chain
-  pub kept-plain : Kept T X i p f H L → (Large T p → ⊥) → Kept T X (i + 1) p f H L
-  kept-plain k n = record { heads = heads-next i H (k .heads); room = k .room; chained = λ m. absurd (n m) }
+  pub kept-plain : Kept T X i q H L → (Large T (q .parent) → q .sure ≡ 0 → ⊥) → Kept T X (i + 1) q H L
+  kept-plain k n = record { heads = heads-next i H (k .heads); room = k .room; chained = λ m z. absurd (n m z); surely = k .surely }
 
   -- behind a node that joined the chain of its bucket
-  pub kept-chained : Chained (bucketAt (length H) T X) f (i + 1) H L → Roomy T L → Kept T X (i + 1) p f H L
-  kept-chained k r = record { heads = chained-heads (bucketAt (length H) T X) f (i + 1) H L k; room = r; chained = λ _. k }
+  pub kept-chained : Chained (bucketAt (length H) T X) (q .from) (i + 1) H L → Roomy T L → q .sure ≡ 0 → Kept T X (i + 1) q H L
+  kept-chained k r e = record { heads = chained-heads (bucketAt (length H) T X) (q .from) (i + 1) H L k; room = r; chained = λ _ _. k; surely = λ z. absurd (z e) }
+
+-- a cursor under which the keys are found to differ
+pub before-surely : (T X : List ℕ) (i : ℕ) (q r : Cursor) (H L : List ℕ) → Surely T X q r → Before T X i q H L → Before T X i r H L
+before-surely T X i q r H L (as-before e) b = subst (λ (x : Cursor). Before T X i x H L) (sym e) b
+before-surely T X i q r H L (found e d) b =
+    let h = b .cursor in
+    subst
+    (λ (x : Cursor). Before T X i x H L)
+    (sym e)
+    (record {
+      cursor = record { earlier = h .earlier; from-is = h .from-is; from-le = h .from-le; end-is = h .end-is; kind-is = h .kind-is; depth-is = h .depth-is };
+      reach = b .reach;
+      kept = record { heads = b .kept .heads; room = b .kept .room; chained = λ _ z. absurd (omega arith); surely = λ _. d };
+    })
 
 -- as many links have the same places
 pub roomy-same : {T L L' : List ℕ} → length L' ≡ length L → Roomy T L → Roomy T L'
 roomy-same e r = record { place = λ f i a b. let z = r .place f i a b in omega arith }
 
 -- behind a node, with the cursor at its parent
-pub before-next : (T X : List ℕ) (i : ℕ) (q : Cursor) (H L : List ℕ) → ParentAt T i q → Kept T X (i + 1) (q .parent) (q .from) H L → Before T X (i + 1) q H L
+pub before-next : (T X : List ℕ) (i : ℕ) (q : Cursor) (H L : List ℕ) → ParentAt T i q → Kept T X (i + 1) q H L → Before T X (i + 1) q H L
 before-next T X i q H L p k = record { cursor = after-node T i q p; reach = let e = p .end-past in omega arith; kept = k }
 
 -- before node 1 no chain is begun, and every head is 0
-pub before-zeros : (n m : ℕ) → 0 < n → (T X : List ℕ) → Roomy T (replicate m 0) → (q : Cursor) → CursorAt T 1 q → Before T X 1 q (replicate n 0) (replicate m 0)
-before-zeros n m a T X l q h =
+pub before-zeros : (n m : ℕ) → 0 < n → (T X : List ℕ) → Roomy T (replicate m 0) → (q : Cursor) → CursorAt T 1 q → q .sure ≡ 0 → Before T X 1 q (replicate n 0) (replicate m 0)
+before-zeros n m a T X l q h y =
     let f = h .from-is in
     let e = h .end-is in
     let z = length-replicate {A = ℕ} n 0 in
@@ -80,7 +89,7 @@ before-zeros n m a T X l q h =
     record {
       cursor = h;
       reach = omega arith;
-      kept = record { heads = k; room = l; chained = λ _. chains-begin (bucketAt (length (replicate n 0)) T X) (q .from) 1 (replicate n 0) (replicate m 0) (omega arith) k };
+      kept = record { heads = k; room = l; chained = λ _ _. chains-begin (bucketAt (length (replicate n 0)) T X) (q .from) 1 (replicate n 0) (replicate m 0) (omega arith) k; surely = λ z. absurd (z y) };
     }
 
 -- as many links as a map can have members, and as many as a table has nodes

@@ -5,4 +5,5 @@ pub mod Cursor
 pub mod Folds
 pub mod Inside
 pub mod Kept
+pub mod Sorts
 pub mod Walks

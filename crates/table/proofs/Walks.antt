@@ -32,6 +32,9 @@ module _ (T X : List ℕ) (i : ℕ) where
   differs-every zero j u = refl
   differs-every (suc n) j u = rw (u j (omega arith) (omega arith)) (differs-every n (suc j) (λ k a b. u k (omega arith) (omega arith)))
 
+  pub differs-each : (from : ℕ) → from ≤ i → ((k : ℕ) → from ≤ k → k < i → sameBytes (keyBytes T X k) (keyBytes T X i) ≡ false) → keyDiffers T X i from (i - from) ≡ true
+  differs-each from a u = differs-every (i - from) from (λ k b d. u k b (omega arith))
+
   pub differs-all : (from j : ℕ) → from ≤ i → j < from → UnlikeAbove from j → keyDiffers T X i from (i - from) ≡ true
   differs-all from j a l u = differs-every (i - from) from (λ k b d. u k b (omega arith) (omega arith))
 

@@ -1,4 +1,5 @@
 pub mod Buckets
 pub mod Chains
+pub mod Distinct
 pub mod Outcomes
 pub mod Words

@@ -1,11 +1,11 @@
 -- The words of this crate's contracts. Assumes nothing: these are definitions.
-use Prim.Native.Nat.{ℕ, suc, _+_, _≤_, _<_}
+use Prim.Native.Nat.{ℕ, suc, _+_, _-_, _≤_, _<_}
 use mathlib.Core.Path.{_≡_}
 use mathlib.Core.List.{List}
 use mathlib.Core.Bool.{Bool, true, false}
 use lib.ListN.{length}
 use Rattle.definition.specs.Limits.{maxNodes, maxMembers}
-use Rattle.definition.specs.Tables.{nodeCount, kindAt, depthAt, kindMap, highWord, firstChild, keyStart, keyLength, textRight}
+use Rattle.definition.specs.Tables.{nodeCount, kindAt, depthAt, kindMap, highWord, firstChild, keyStart, keyLength, keyDiffers, textRight}
 use Rattle.tables.specs.Joined.{nodeRight}
 use Rattle.table.specs.Buckets.{bucketAt}
 use Rattle.table.specs.Chains.{HeadsBelow, Chained, Roomy}
@@ -43,12 +43,6 @@ pub record Large (T : List ℕ) (p : ℕ) : Type 0 where
   pub is-map : kindAt T p ≡ kindMap
   pub many : fewMembers < highWord T p
 
--- heads and links before node i, whose parent is p with the first child f: in a large map they hold the chains of the members before i
-pub record Kept (T X : List ℕ) (i p f : ℕ) (H L : List ℕ) : Type 0 where
-  pub heads : HeadsBelow i H
-  pub room : Roomy T L
-  pub chained : Large T p → Chained (bucketAt (length H) T X) f i H L
-
 -- a node of the table, with the place where its children must begin, which the table reaches
 pub record NodeAt (T : List ℕ) (node first : ℕ) : Type 0 where
   pub node-in : node < nodeCount T
@@ -82,11 +76,32 @@ pub record Child (T : List ℕ) (i : ℕ) (q : Cursor) : Type 0 where
   pub under : ParentAt T i q
   pub small : nodeCount T ≤ maxNodes
 
+-- the cursor r that was found for node i from the cursor q: q itself, or one of which nothing is known
+pub record Moved (i : ℕ) (q r : Cursor) : Type 0 where
+  pub stays : i < q .end → r ≡ q
+  pub anew : q .end ≤ i → r .sure ≡ 0
+
+-- the key of each node from one up to another is unlike those before it
+abbrev pub Differing : List ℕ → List ℕ → ℕ → ℕ → Type 0
+Differing T X from end = (k : ℕ) → from ≤ k → k < end → keyDiffers T X k from (k - from) ≡ true
+
+-- a cursor as it was, or with the keys under it known to differ
+pub data Surely (T X : List ℕ) (q r : Cursor) : Type 0 where
+  as-before : r ≡ q → Surely T X q r
+  found : r ≡ record { parent = q .parent; from = q .from; end = q .end; kind = q .kind; depth = q .depth; sure = 1 } → Differing T X (q .from) (q .end) → Surely T X q r
+
+-- heads and links before node i, with a cursor at its parent or before: in a large map they hold the chains of the members before i, unless all keys are known to differ
+pub record Kept (T X : List ℕ) (i : ℕ) (q : Cursor) (H L : List ℕ) : Type 0 where
+  pub heads : HeadsBelow i H
+  pub room : Roomy T L
+  pub chained : Large T (q .parent) → q .sure ≡ 0 → Chained (bucketAt (length H) T X) (q .from) i H L
+  pub surely : (q .sure ≡ 0 → ⊥) → Differing T X (q .from) (q .end)
+
 -- the cursor, heads and links before node i, which the cursor's range reaches
 pub record Before (T X : List ℕ) (i : ℕ) (q : Cursor) (H L : List ℕ) : Type 0 where
   pub cursor : CursorAt T i q
   pub reach : i ≤ q .end
-  pub kept : Kept T X i (q .parent) (q .from) H L
+  pub kept : Kept T X i q H L
 
 -- what the check of node i finds: that the node is right, with what stands before the next one, or that it is wrong
 abbrev pub NodeFound : List ℕ → List ℕ → ℕ → List ℕ → List ℕ → NodeChecked → Type 0

@@ -2,6 +2,7 @@
 //
 //   records    the fields of a record of 24 bytes
 //   buckets    the bucket of a key
+//   distinct   whether all keys of a map differ, by sorting
 //   keys       whether a key is unlike those before it in its map
 //   rules      the rules for a node
 //   scan       the pass over the nodes, by all rules
@@ -17,6 +18,7 @@ ghost use Rattle.tables.specs.Places.{Begins, partStart};
 ghost use denote.Ref.{ptr};
 
 mod buckets;
+mod distinct;
 mod keys;
 mod named;
 mod pair;

@@ -1,8 +1,8 @@
 // The joined rule for a node, part by part. Each function answers whether a rule of the definition is kept, and asks that its nodes are nodes of the table.
 ghost use mathlib.Core.Path.{_≡_};
 ghost use mathlib.Core.Option.{some};
-ghost use mathlib.Core.Bool.{true};
 ghost use Prim.Native.Nat.{_<_, _+_};
+ghost use lib.Dec.{ltb};
 ghost use Rattle.definition.specs.Tables.{nodeCount, kindAt, kindMap, firstChild, goodPart, headRight, isFinite, rangeRight, noKey};
 ghost use Rattle.tables.specs.Joined.{payloadRight, memberRight, placeRight, nodeRight};
 ghost use Rattle.text.specs.Known.{Known};
@@ -140,7 +140,18 @@ pub fn no_key(table: &[u8], node: usize) -> bool
     records::key_length(table, node) == 0
 }
 
-// The key of a member of the map above. heads and links hold the chains of the members before it, if there are many.
+// 1 for yes, 0 for no.
+fn as_steps(b: bool) -> usize
+    ensures { λ r. ⌜ ltb 0 r ≡ «b» ⌝ }
+{
+    if b {
+        return 1;
+    }
+    0
+}
+
+// The key of a member of the map above: 0 if it is wrong, and else one more than the nodes on the chain that it was compared with. heads and links hold the chains
+// of the members before it, if there are many and their keys are not known to differ.
 fn member_right(
     table: &[u8],
     text: &[u8],
@@ -149,13 +160,13 @@ fn member_right(
     heads: &mut [u16],
     links: &mut [u16],
     known: u8,
-) -> bool
+) -> usize
     requires { ⌜ Child (now table) node above ⌝ }
     requires { ⌜ (kindAt (now table) (above .parent) ≡ kindMap) × MembersBefore (now table) (now text) (above .from) node ⌝ }
-    requires { ⌜ Kept (now table) (now text) node (above .parent) (above .from) (now heads) (now links) ⌝ }
+    requires { ⌜ Kept (now table) (now text) node above (now heads) (now links) ⌝ }
     requires { ⌜ Known known (now text) ⌝ }
-    ensures { λ r. ⌜ r ≡ memberRight (now (table .entry)) (now (text .entry)) (above .parent) node ⌝ }
-    ensures { λ r. ⌜ (r ≡ true → Kept (now (table .entry)) (now (text .entry)) (node + 1) (above .parent) (above .from) (now (heads .exit)) (now (links .exit))) ⌝ }
+    ensures { λ r. ⌜ ltb 0 r ≡ memberRight (now (table .entry)) (now (text .entry)) (above .parent) node ⌝ }
+    ensures { λ r. ⌜ (0 < r → Kept (now (table .entry)) (now (text .entry)) (node + 1) above (now (heads .exit)) (now (links .exit))) ⌝ }
 {
     if !good_part(
         text,
@@ -163,16 +174,19 @@ fn member_right(
         records::key_length(table, node),
         known,
     ) {
-        return false;
+        return 0;
     }
     let from = above.from;
     if above.end - from <= FEW_MEMBERS {
-        return keys::key_differs(table, text, node, from);
+        return as_steps(keys::key_differs(table, text, node, from));
+    }
+    if above.sure != 0 {
+        return 1;
     }
     keys::joins_chain(table, text, node, from, heads, links)
 }
 
-// What the parent, which is above, asks of its child: its number, the depth, and the key as the parent's kind has it.
+// What the parent, which is above, asks of its child: its number, the depth, and the key as the parent's kind has it. The answer is as above.
 pub fn place_right(
     table: &[u8],
     text: &[u8],
@@ -181,26 +195,26 @@ pub fn place_right(
     heads: &mut [u16],
     links: &mut [u16],
     known: u8,
-) -> bool
+) -> usize
     requires { ⌜ Child (now table) node above ⌝ }
     requires { ⌜ (kindAt (now table) (above .parent) ≡ kindMap → MembersBefore (now table) (now text) (above .from) node) ⌝ }
-    requires { ⌜ Kept (now table) (now text) node (above .parent) (above .from) (now heads) (now links) ⌝ }
+    requires { ⌜ Kept (now table) (now text) node above (now heads) (now links) ⌝ }
     requires { ⌜ Known known (now text) ⌝ }
-    ensures { λ r. ⌜ r ≡ placeRight (now (table .entry)) (now (text .entry)) node (some (above .parent)) ⌝ }
-    ensures { λ r. ⌜ (r ≡ true → Kept (now (table .entry)) (now (text .entry)) (node + 1) (above .parent) (above .from) (now (heads .exit)) (now (links .exit))) ⌝ }
+    ensures { λ r. ⌜ ltb 0 r ≡ placeRight (now (table .entry)) (now (text .entry)) node (some (above .parent)) ⌝ }
+    ensures { λ r. ⌜ (0 < r → Kept (now (table .entry)) (now (text .entry)) (node + 1) above (now (heads .exit)) (now (links .exit))) ⌝ }
 {
     let named = records::parent(table, node) as usize;
     if named != above.parent {
-        return false;
+        return 0;
     }
     let deep = records::depth(table, node) as usize;
     if deep != above.depth as usize + 1 {
-        return false;
+        return 0;
     }
     if above.kind == KIND_MAP {
         return member_right(table, text, node, above, heads, links, known);
     }
-    no_key(table, node)
+    as_steps(no_key(table, node))
 }
 
 // All that is asked of the root.

@@ -7,10 +7,11 @@ ghost use Rattle.definition.specs.TableOutcomes.{reportTable};
 ghost use Rattle.tables.specs.Joined.{leastWrong, byLeast};
 ghost use Rattle.tables.specs.Least.{RightBelow};
 ghost use Rattle.text.specs.Known.{Known};
-ghost use Rattle.table.specs.Words.{NodeAt, HasParent, CursorAt, ParentAt, Before, NodeFound};
+ghost use Rattle.table.specs.Words.{NodeAt, HasParent, CursorAt, ParentAt, Moved, Surely, Before, NodeFound};
 ghost use Rattle.table.specs.Outcomes.{reported};
 use crate::TableChecked;
 use crate::buckets;
+use crate::distinct;
 use crate::records;
 use crate::rules;
 use text::encoding;
@@ -21,13 +22,17 @@ const MAX_MEMBERS: usize = 1024;
 
 const FEW_NODES: usize = 128;
 
-// A node with the range of its children, its kind and its depth, which are read once for all of them.
+// Where a chain comes to have so many nodes, all keys of its map are sorted. A chain has so many once, so that keys which are not found to differ are not sorted for each node.
+const LONG: usize = 24;
+
+// A node with the range of its children, its kind and its depth, which are read once for all of them. `sure` is 1 where the keys of its members are known to differ.
 pub struct Cursor {
     pub parent: usize,
     pub from: usize,
     pub end: usize,
     pub kind: u8,
     pub depth: u8,
+    pub sure: u8,
 }
 
 // What was found at a node: the cursor before the next node, or a broken rule.
@@ -40,6 +45,7 @@ pub enum NodeChecked {
 fn to_parent(table: &[u8], node: usize, cursor: Cursor) -> Cursor
     requires { ⌜ HasParent (now table) node × CursorAt (now table) node cursor ⌝ }
     ensures { λ r. ⌜ ParentAt (now (table .entry)) node r ⌝ }
+    ensures { λ r. ⌜ Moved node cursor r ⌝ }
 {
     if node < cursor.end {
         return cursor;
@@ -60,6 +66,30 @@ fn to_parent(table: &[u8], node: usize, cursor: Cursor) -> Cursor
         end,
         kind,
         depth,
+        sure: 0,
+    }
+}
+
+// Where all keys under a cursor are found to differ, the cursor says so.
+fn surely(table: &[u8], text: &[u8], cursor: Cursor) -> Cursor
+    requires { ⌜ cursor .from ≤ cursor .end ⌝ }
+    ensures { λ r. ⌜ Surely (now (table .entry)) (now (text .entry)) cursor r ⌝ }
+{
+    let parent = cursor.parent;
+    let from = cursor.from;
+    let end = cursor.end;
+    let kind = cursor.kind;
+    let depth = cursor.depth;
+    if !distinct::all_differ(table, text, from, end) {
+        return cursor;
+    }
+    Cursor {
+        parent,
+        from,
+        end,
+        kind,
+        depth,
+        sure: 1,
     }
 }
 
@@ -90,10 +120,14 @@ fn check_node(
         return NodeChecked::Wrong;
     }
     let found = to_parent(table, node, cursor);
-    if !rules::place_right(table, text, node, found, heads, links, known) {
+    let steps = rules::place_right(table, text, node, found, heads, links, known);
+    if steps == 0 {
         return NodeChecked::Wrong;
     }
-    NodeChecked::Next(found)
+    if steps != LONG {
+        return NodeChecked::Next(found);
+    }
+    NodeChecked::Next(surely(table, text, found))
 }
 
 // The pass from node 1 on, whose children must begin at start.
@@ -132,7 +166,7 @@ fn rest(
 
 // The same, with room for chains of which none is begun.
 fn with_chains(table: &[u8], text: &[u8], start: usize, root: Cursor, known: u8) -> TableChecked
-    requires { ⌜ (start ≡ firstChild (now table) 1) × CursorAt (now table) 1 root ⌝ }
+    requires { ⌜ (start ≡ firstChild (now table) 1) × CursorAt (now table) 1 root × (root .sure ≡ 0) ⌝ }
     requires { ⌜ (0 < nodeCount (now table)) × (nodeCount (now table) ≤ maxNodes) × RightBelow (now table) (now text) 1 ⌝ }
     requires { ⌜ Known known (now text) ⌝ }
     ensures { λ r. ⌜ reported r ≡ reportTable (byLeast (leastWrong (now (table .entry)) (now (text .entry)) 0 (nodeCount (now (table .entry))))) ⌝ }
@@ -144,7 +178,7 @@ fn with_chains(table: &[u8], text: &[u8], start: usize, root: Cursor, known: u8)
 
 // The same for a table of few nodes, whose chains need less room: all of it is cleared first.
 fn with_few(table: &[u8], text: &[u8], start: usize, root: Cursor, known: u8) -> TableChecked
-    requires { ⌜ (start ≡ firstChild (now table) 1) × CursorAt (now table) 1 root ⌝ }
+    requires { ⌜ (start ≡ firstChild (now table) 1) × CursorAt (now table) 1 root × (root .sure ≡ 0) ⌝ }
     requires { ⌜ (0 < nodeCount (now table)) × (nodeCount (now table) ≤ maxNodes) × RightBelow (now table) (now text) 1 ⌝ }
     requires { ⌜ nodeCount (now table) ≤ 128 ⌝ }
     requires { ⌜ Known known (now text) ⌝ }
@@ -172,6 +206,7 @@ pub fn scan(table: &[u8], text: &[u8]) -> TableChecked
         end,
         kind,
         depth,
+        sure: 0,
     };
     let known = encoding::short_known(text, table.len());
     if table.len() / RECORD <= FEW_NODES {

@@ -1,10 +1,9 @@
 -- The chain of the key's bucket is walked, and a node whose key is unlike those on it becomes the head of the bucket. Assumes nothing.
 use native.Mathlib.Omega.{arith}
 use mathlib.Core.Path.{refl, sym, ap, _∙_, subst}
-use mathlib.Core.Bool.{false≢true}
 use Prim.Native.Nat.{ℕ, _+_, _-_, _<_}
 use lib.ListN.{length, getD, set, length-set}
-use borrow.Author.Tests.{not-true, not-false}
+use lib.Dec.{ltb}
 use Rattle.tables.specs.Keys.{key-span}
 use Rattle.table.specs.Buckets.{bucketOf, bucketAt}
 use Rattle.table.specs.Chains.{Latest, Chained}
@@ -66,7 +65,7 @@ same-length : tie.Need-same-length
 same-length c = search needs
 
 returns : tie.Need-returns
-returns c = (sym (not-true _ (c .if1 .taken)) ∙ c .before .chain-differs .ensures, ((λ z. absurd (false≢true z)), refl))
+returns c = (sym (ap (ltb 0) (c .if1 .taken)) ∙ c .before .chain-differs .ensures, ((λ z. absurd (omega arith)), refl))
 
 sub-links : tie.Need-sub-links
 sub-links c = search needs
@@ -104,7 +103,7 @@ returns-2 c =
     let h = bucketAt n (a .table .now) (a .text .now) in
     let j = chain-joined h (a .from) (a .node) (a .heads .now) (a .links .now) (s .pre .1 .0) (s .pre .0 .from-le) (s .pre .1 .1) (subst (λ (x : ℕ). x < n) e (b .ensures .1)) in
     let i = subst (λ (x : ℕ). Chained h (a .from) (a .node + 1) (set (a .heads .now) x (a .node)) (set (a .links .now) (a .node - a .from) (getD (a .heads .now) x 0))) (sym e) j in
-    (sym (not-false _ (c .if1 .left)) ∙ c .before .chain-differs .ensures, (λ _. subst (λ (x : ℕ). Chained (bucketAt x (a .table .now) (a .text .now)) (a .from) (a .node + 1) (set (a .heads .now) (b .result) (a .node)) (set (a .links .now) (a .node - a .from) (getD (a .heads .now) (b .result) 0))) (sym (length-set (a .heads .now) (b .result) (a .node))) i, length-set (a .links .now) (a .node - a .from) (getD (a .heads .now) (b .result) 0)))
+    (c .before .chain-differs .ensures, (λ _. subst (λ (x : ℕ). Chained (bucketAt x (a .table .now) (a .text .now)) (a .from) (a .node + 1) (set (a .heads .now) (b .result) (a .node)) (set (a .links .now) (a .node - a .from) (getD (a .heads .now) (b .result) 0))) (sym (length-set (a .heads .now) (b .result) (a .node))) i, length-set (a .links .now) (a .node - a .from) (getD (a .heads .now) (b .result) 0)))
 
 pub joins-chain-spec : {M : Type 1} → statement M
 joins-chain-spec =

@@ -1,7 +1,6 @@
 -- The parent's number, the depth, and then the rule that the kind of the parent asks. Assumes nothing.
 use native.Mathlib.Omega.{arith}
 use mathlib.Core.Path.{sym, _∙_}
-use mathlib.Core.Bool.{false≢true}
 use Rattle.tables.specs.Rights.{place-parent, place-depth, place-member, place-plain}
 use Rattle.table.proofs.Kept.{kept-plain}
 use borrow.Author.Needs.{needs}
@@ -17,7 +16,7 @@ cast-named c = search needs
 returns : tie.Need-returns
 returns c =
     let a = c .before .before .before .before .before .before .before .args in
-    (sym (place-parent (a .table .now) (a .text .now) (a .node) (a .above .parent) (omega arith)), λ z. absurd (false≢true z))
+    (sym (place-parent (a .table .now) (a .text .now) (a .node) (a .above .parent) (omega arith)), λ z. absurd (omega arith))
 
 depth-requires : tie.Need-depth-requires
 depth-requires c κs = search needs
@@ -36,7 +35,7 @@ returns-2 c =
     let s = c .before .before .before .before .before .before .before .before .before .before in
     let a = s .args in
     let d = s .pre .0 .under .place .depth-is in
-    (sym (place-depth (a .table .now) (a .text .now) (a .node) (a .above .parent) (omega arith)), λ z. absurd (false≢true z))
+    (sym (place-depth (a .table .now) (a .text .now) (a .node) (a .above .parent) (omega arith)), λ z. absurd (omega arith))
 
 member-right-requires : tie.Need-member-right-requires
 member-right-requires c κs =
@@ -68,14 +67,17 @@ returns-3 c =
 no-key-requires : tie.Need-no-key-requires
 no-key-requires c κs = search needs
 
+as-steps-requires : tie.Need-as-steps-requires
+as-steps-requires c κs = search needs
+
 returns-4 : tie.Need-returns-4
 returns-4 c =
-    let s = c .before .before .before .before .before .before .before .before .before .before .before .before .before in
+    let s = c .before .before .before .before .before .before .before .before .before .before .before .before .before .before in
     let a = s .args in
     let y = s .pre .0 .under .place .depth-is in
     let k = s .pre .0 .under .place .kind-is in
-    let t = c .before .if3 .left in
-    (c .no-key .ensures ∙ sym (place-plain (a .table .now) (a .text .now) (a .node) (a .above .parent) (omega arith) (omega arith) (omega arith)), λ _. kept-plain (a .table .now) (a .text .now) (a .node) (a .above .parent) (a .above .from) (a .heads .now) (a .links .now) (s .pre .1 .1 .0) (λ l. let m = l .is-map in omega arith))
+    let t = c .before .before .if3 .left in
+    (c .as-steps .ensures ∙ c .before .no-key .ensures ∙ sym (place-plain (a .table .now) (a .text .now) (a .node) (a .above .parent) (omega arith) (omega arith) (omega arith)), λ _. kept-plain (a .table .now) (a .text .now) (a .node) (a .above) (a .heads .now) (a .links .now) (s .pre .1 .1 .0) (λ l z. let m = l .is-map in omega arith))
 
 pub place-right-spec : {M : Type 1} → statement M
 place-right-spec =
@@ -94,4 +96,5 @@ place-right-spec =
     same-length-2
     returns-3
     no-key-requires
+    as-steps-requires
     returns-4)

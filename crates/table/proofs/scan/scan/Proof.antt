@@ -1,7 +1,7 @@
 -- The root first, and then the nodes behind it. Assumes nothing.
 use native.Mathlib.Omega.{arith}
 use borrow.Author.Tests.{not-true, not-false}
-use mathlib.Core.Path.{sym, _∙_, ap}
+use mathlib.Core.Path.{refl, sym, _∙_, ap}
 use Prim.Native.Nat.{ℕ}
 use mathlib.Core.Option.{Option}
 use Rattle.definition.specs.Tables.{nodeCount}
@@ -51,7 +51,7 @@ with-few-requires c κs =
     let k = c .before .before .before .kind in
     let d = c .before .before .depth in
     let r = sym (c .before .before .before .before .before .before .root-right .ensures) ∙ not-false _ (c .before .before .before .before .before .if1 .left) in
-    ((root-first (a .table .now) (n .result) (n .ensures), root-cursor (a .table .now) (n .result) (k .result) (d .result) (n .ensures) (k .ensures) (d .ensures)), ((s .pre .0, s .pre .1, root-below (a .table .now) (a .text .now) r), (c .if2 .taken, c .before .short-known .ensures)))
+    ((root-first (a .table .now) (n .result) (n .ensures), root-cursor (a .table .now) (n .result) (k .result) (d .result) (n .ensures) (k .ensures) (d .ensures), refl), ((s .pre .0, s .pre .1, root-below (a .table .now) (a .text .now) r), (c .if2 .taken, c .before .short-known .ensures)))
 
 returns-2 : tie.Need-returns-2
 returns-2 c = search needs
@@ -64,7 +64,7 @@ with-chains-requires c κs =
     let k = c .before .before .before .kind in
     let d = c .before .before .depth in
     let r = sym (c .before .before .before .before .before .before .root-right .ensures) ∙ not-false _ (c .before .before .before .before .before .if1 .left) in
-    ((root-first (a .table .now) (n .result) (n .ensures), root-cursor (a .table .now) (n .result) (k .result) (d .result) (n .ensures) (k .ensures) (d .ensures)), ((s .pre .0, s .pre .1, root-below (a .table .now) (a .text .now) r), c .before .short-known .ensures))
+    ((root-first (a .table .now) (n .result) (n .ensures), root-cursor (a .table .now) (n .result) (k .result) (d .result) (n .ensures) (k .ensures) (d .ensures), refl), ((s .pre .0, s .pre .1, root-below (a .table .now) (a .text .now) r), c .before .short-known .ensures))
 
 returns-3 : tie.Need-returns-3
 returns-3 c = search needs

@@ -1,5 +1,6 @@
 -- A cursor whose range has the node stays. Another one moves forward from node to node, stops at the parent, and has its kind and depth. Assumes nothing.
 use native.Mathlib.Omega.{arith}
+use mathlib.Core.Path.{refl}
 use borrow.Author.Needs.{needs}
 use Prim.Native.Nat.{_-_}
 use Rattle.table.specs.Words.{CursorAt}
@@ -14,7 +15,9 @@ abbrev μ-loop : tie.MeasureT-loop
 μ-loop table node parent₀ from₀ end₀ parent from end = node - parent
 
 returns : tie.Need-returns Inv-loop μ-loop
-returns c = record { place = c .before .before .before .pre .1; end-past = c .if1 .taken }
+returns c =
+    let t = c .if1 .taken in
+    (record { place = c .before .before .before .pre .1; end-past = t }, record { stays = λ _. refl; anew = λ l. absurd (omega arith) })
 
 loop-holds : tie.Need-loop-holds Inv-loop μ-loop
 loop-holds c = let s = c .before .before .before in cursor-ranged (s .args .table .now) (s .args .node) (s .args .cursor) (s .pre .1)
@@ -71,7 +74,8 @@ returns-2 : tie.Need-returns-2 Inv-loop μ-loop
 returns-2 c =
     let a = c .before .before .before .before .before .before .before .args in
     let l = c .before .before .before .loop in
-    record { place = ranged-read (a .table .now) (a .node) _ (c .before .kind .ensures) (c .depth .ensures) (l .inv); end-past = c .before .before .loop-test .left }
+    let e = c .before .before .before .before .if1 .left in
+    (record { place = ranged-read (a .table .now) (a .node) _ (c .before .kind .ensures) (c .depth .ensures) (l .inv); end-past = c .before .before .loop-test .left }, record { stays = λ m. absurd (omega arith); anew = λ _. refl })
 
 pub to-parent-spec : {M : Type 1} → statement M
 to-parent-spec =

@@ -16,7 +16,7 @@ rest-requires : tie.Need-rest-requires
 rest-requires c κs =
     let s = c .before .before .before .before in
     let a = s .args in
-    ((s .pre .0 .0, before-zeros 1024 1024 (lit< tt) (a .table .now) (a .text .now) (roomy-members (a .table .now) 1024 refl) (a .root) (s .pre .0 .1)), s .pre .1)
+    ((s .pre .0 .0, before-zeros 1024 1024 (lit< tt) (a .table .now) (a .text .now) (roomy-members (a .table .now) 1024 refl) (a .root) (s .pre .0 .1) (s .pre .0 .2)), s .pre .1)
 
 returns : tie.Need-returns
 returns c = search needs

@@ -15,7 +15,7 @@ rest-requires : tie.Need-rest-requires
 rest-requires c κs =
     let s = c .before .before .before .before in
     let a = s .args in
-    ((s .pre .0 .0, before-zeros 128 128 (lit< tt) (a .table .now) (a .text .now) (roomy-nodes (a .table .now) 128 (s .pre .1 .1 .0)) (a .root) (s .pre .0 .1)), (s .pre .1 .0, s .pre .1 .1 .1))
+    ((s .pre .0 .0, before-zeros 128 128 (lit< tt) (a .table .now) (a .text .now) (roomy-nodes (a .table .now) 128 (s .pre .1 .1 .0)) (a .root) (s .pre .0 .1) (s .pre .0 .2)), (s .pre .1 .0, s .pre .1 .1 .1))
 
 returns : tie.Need-returns
 returns c = search needs
