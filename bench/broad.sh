@@ -8,7 +8,7 @@
 # WORK    is a scratch directory; results.tsv in it keeps every figure of every pass, and tables.md what is printed.
 # PERFORMANCE.md, where it is given, gets the tables between the marks of the broad set, without that of each query.
 # PEERS   may name the folder of the peers' programs: the C by hand in flat.c is then timed too, on the queries that it has.
-# BEFORE  may name an archive of the library `measured` of an earlier source: its walk is then timed too, and must select the same nodes.
+# BEFORE  may name an archive of the library `eval_measured` of an earlier source: its walk is then timed too, and must select the same nodes.
 # ROUNDS  is 25 unless set, and PASSES 3; a pass takes half a minute. Nothing else should run meanwhile. The program is held to the last processor.
 # The archives are those of bin/archive, for the machine at hand.
 set -euo pipefail
@@ -23,9 +23,9 @@ built=$(realpath "$ORACLE")/target/release
 cd "$(dirname "$0")/.."
 
 bin/archive "$work"
-bin/archive --crate measured "$work"
+bin/archive --crate eval_measured "$work"
 python3 -B bench/broad.py "$work/docs"
-options=(-C "link-arg=$work/libstewpebble.a" -C "link-arg=$work/libmeasured.a")
+options=(-C "link-arg=$work/libstewpebble.a" -C "link-arg=$work/libeval_measured.a")
 if [ -n "$before" ]; then
     objcopy --redefine-sym stewpebble_walk=stewpebble_walk_before "$before" "$work/libbefore.a"
     options+=(--cfg before -C "link-arg=$work/libbefore.a")

@@ -7,7 +7,7 @@
 //   plan      the plan check
 //   run       a whole run with both checks
 //   select    compile and run
-//   walk      the walk of a run alone, which the crate `measured` hands out; the plan and the table were checked before, as it asks
+//   walk      the walk of a run alone, which the crate `eval_measured` hands out; the plan and the table were checked before, as it asks
 //   less      a run less both checks: a batch of runs and a batch of table checks are timed in turn, and the median of their differences is taken,
 //             less the plan check. Where the walk is short beside the table check, as for a path into a large table, this says nothing.
 #include "../include/stewpebble.h"

@@ -21,7 +21,7 @@ cd "$(dirname "$0")/.."
 sizes='16 166 1666 10833' # rows; a table has 2 + 6 * rows nodes
 
 bin/archive "$work"
-bin/archive --crate measured "$work"
+bin/archive --crate eval_measured "$work"
 mkdir -p "$work/docs" "$work/rust/docs"
 python3 "$peers/gen.py" "$work/docs" $sizes
 # The Rust text: its own build, with the peers' program in place of its bench.
@@ -32,7 +32,7 @@ chmod -R u+w "$work/rust"
 cp "$peers/peers.rs" "$work/rust/rust-oracle/src/bench.rs"
 "$work/rust/rust-oracle/build" "$work/rust/build" >"$work/rust/log" 2>&1 || { cat "$work/rust/log"; exit 1; }
 gcc -O3 -o "$work/flat" "$peers/flat.c"
-cc -O2 -Wall -o "$work/peers" bench/peers.c "$work/libstewpebble.a" "$work/libmeasured.a"
+cc -O2 -Wall -o "$work/peers" bench/peers.c "$work/libstewpebble.a" "$work/libeval_measured.a"
 
 load() { cut -d' ' -f1-3 /proc/loadavg; }
 {

@@ -13,7 +13,7 @@ mkdir -p "$1/crate"
 work=$(cd "$1" && pwd)
 cd "$(dirname "$0")/.."
 bin/archive "$work" >/dev/null
-bin/archive --crate measured "$work" >/dev/null
+bin/archive --crate eval_measured "$work" >/dev/null
 cat >"$work/crate/Cargo.toml" <<END
 [package]
 name = "regexps"
@@ -28,7 +28,7 @@ path = "$PWD/bench/regexps.rs"
 regex = "1"
 END
 packages=${PACKAGES:-/usr/share/cargo/registry}
-export RUSTFLAGS="-C link-arg=$work/libstewpebble.a -C link-arg=$work/libmeasured.a"
+export RUSTFLAGS="-C link-arg=$work/libstewpebble.a -C link-arg=$work/libeval_measured.a"
 (cd "$work/crate" && cargo build --quiet --release --offline --config 'source.crates-io.replace-with="debian"' --config "source.debian.directory=\"$packages\"")
 echo "processor: $(lscpu | sed -n 's/^Model name: *//p' | head -n 1), $(uname -m); $(rustc --version); regex $(sed -n '/^name = "regex"/{n;s/^version = //p}' "$work/crate/Cargo.lock" | tr -d '"')"
 echo

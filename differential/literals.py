@@ -3,7 +3,7 @@
 
     python3 differential/literals.py [COUNT [SEED]]      COUNT random literals (1000000) and the hard ones
 
-It uses the archive of bin/archive. A literal's float is found among all floats by its distance, in exact fractions (crates/numbers_vectors/make.py); Python's own
+It uses the archive of bin/archive. A literal's float is found among all floats by its distance, in exact fractions (crates/number_vectors/make.py); Python's own
 float of the text is the first guess, and the guess and its neighbours are what is compared, so that a wrong guess is found too. The hard ones are powers of two and
 ten, the middles between neighbouring floats and their neighbours with 17 and 19 digits, the ends of subnormal and of all floats, and published lists.
 """
@@ -11,7 +11,7 @@ import os, random, struct, subprocess, sys
 from fractions import Fraction
 
 here = os.path.dirname(os.path.abspath(__file__))
-sys.path.insert(0, os.path.join(here, "..", "crates", "numbers_vectors"))
+sys.path.insert(0, os.path.join(here, "..", "crates", "number_vectors"))
 sys.dont_write_bytecode = True
 import make
 

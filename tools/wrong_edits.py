@@ -25,7 +25,7 @@ FIRST = {
 }
 # the module of the examples that takes longest, and comes last
 SLOW = "Deep"
-CRATES = ("definition_examples", "standards", "laws")
+CRATES = ("definition_examples", "definition_standards", "definition_laws")
 
 
 def edits():

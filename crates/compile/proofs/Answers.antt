@@ -20,22 +20,23 @@ use Rattle.definition.specs.Plans.{planOf, poolOf}
 use Rattle.definition.specs.Walk.{walk}
 use Rattle.definition.specs.Outcomes.{CompileOutcome, early, judge, compileBy, write}
 use Rattle.definition.specs.Outcomes.Reading.{refused, form}
-use Rattle.reading.specs.Reads.{ReadsNone, Wrote}
-use Rattle.utf8.specs.Bytes.{by-test}
-use Rattle.utf8.specs.Encode.{utf8-ascii}
-use Rattle.writing.specs.Effects.{Marks, Effect}
-use Rattle.writing.specs.Sizes.{query-plan-fits, query-pool-fits}
-use Rattle.writing.specs.Writes.{writeQuery, writeFrom, writeSegments}
-use Rattle.writing.specs.Agrees.{Agreed, Formed, agrees}
-use Rattle.levels.specs.Follow.{After}
-use Rattle.levels.specs.Pieces.{queryFlag}
-use Rattle.scan.specs.Text.{Is}
-use Rattle.items.specs.Reads.{marksAt, marksOf, Start, Read}
-use Rattle.items.specs.Laws.{after-end, join-none}
-use Rattle.items.specs.declared.State.{State}
-use Rattle.items.specs.declared.Step.{Step}
-use Rattle.items.specs.declared.Step.the-variants as step
-use Rattle.readings.specs.Readings.{OneReading, OneCompile, none-only, tree-only, early-only, compiles-only}
+use Rattle.compile_forms.specs.Fits.{early-first}
+use Rattle.basics.specs.Reads.{ReadsNone, Wrote}
+use Rattle.utf8_laws.specs.Bytes.{by-test}
+use Rattle.utf8_laws.specs.Encode.{utf8-ascii}
+use Rattle.compile_writes.specs.Effects.{Marks, Effect}
+use Rattle.compile_writes.specs.Sizes.{query-plan-fits, query-pool-fits}
+use Rattle.compile_writes.specs.Writes.{writeQuery, writeFrom, writeSegments}
+use Rattle.compile_writes.specs.Agrees.{Agreed, Formed, agrees}
+use Rattle.parser_follow.specs.Follow.{After}
+use Rattle.parser_follow.specs.Pieces.{queryFlag}
+use Rattle.parser_scan.specs.Text.{Is}
+use Rattle.parser_items.specs.Reads.{marksAt, marksOf, Start, Read}
+use Rattle.parser_items.specs.Laws.{after-end, join-none}
+use Rattle.parser_items.specs.declared.State.{State}
+use Rattle.parser_items.specs.declared.Step.{Step}
+use Rattle.parser_items.specs.declared.Step.the-variants as step
+use Rattle.compile_unique.specs.Readings.{OneReading, OneCompile, none-only, tree-only, early-only, compiles-only}
 use Rattle.compile.specs.Steps.{outcome, Rooms, Parsed, ParsePost, whole, none, refusalOf, verdictOf}
 
 -- ---- lists
@@ -63,10 +64,6 @@ early-utf8 true b c e = absurd (omega (arith, e))
 early-utf8 false true c e = refl
 early-utf8 false false c e = absurd (omega (arith, e))
 
-early-few : (a b c : Bool) → _≡_ {A = ℕ} (cond a 1 (cond (not b) 2 (cond c 3 0))) 0 → a ≡ false
-early-few true b c e = absurd (omega (arith, e))
-early-few false b c e = refl
-
 -- what no early refusal meets is UTF-8, and has at most 4,096 bytes
 pub passed-utf8 : (s : List ℕ) → early s ≡ 0 → isUtf8 s ≡ true
 unfolding early
@@ -74,7 +71,7 @@ passed-utf8 s e = early-utf8 (ltb maxQuery (length s)) (isUtf8 s) (tooDeep s) e
 
 pub passed-short : (s : List ℕ) → early s ≡ 0 → length s ≤ 4096
 unfolding early
-passed-short s e = ltb-false maxQuery (length s) (early-few (ltb maxQuery (length s)) (isUtf8 s) (tooDeep s) e)
+passed-short s e = ltb-false maxQuery (length s) (early-first (ltb maxQuery (length s)) (isUtf8 s) (tooDeep s) e)
 
 module _ (s : List ℕ) where
   -- the refusals in their order

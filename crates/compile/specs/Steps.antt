@@ -9,12 +9,12 @@ use Rattle.definition.specs.Utf8.{isUtf8}
 use Rattle.definition.specs.Grammar as G
 use Rattle.definition.specs.Grammar.{spell}
 use Rattle.definition.specs.Outcomes.{CompileOutcome, write}
-use Rattle.writing.specs.Effects.{Marks}
-use Rattle.writing.specs.Writes.{writeQuery}
-use Rattle.items.specs.Reads.{marksOf}
-use Rattle.items.specs.declared.State.{State}
-use Rattle.items.specs.declared.Step.{Step}
-use Rattle.items.specs.declared.Step.the-variants as step
+use Rattle.compile_writes.specs.Effects.{Marks}
+use Rattle.compile_writes.specs.Writes.{writeQuery}
+use Rattle.parser_items.specs.Reads.{marksOf}
+use Rattle.parser_items.specs.declared.State.{State}
+use Rattle.parser_items.specs.declared.Step.{Step}
+use Rattle.parser_items.specs.declared.Step.the-variants as step
 use Rattle.compile.specs.declared.Compiled.{Compiled}
 
 -- the outcome that an answer and what both rooms hold afterwards are

@@ -1,10 +1,11 @@
 // A query read in a room of its own, and its plan and pool copied where they are wanted.
 use crate::Compiled;
-use items::BEYOND;
-use items::State;
-use items::Step;
 use parser::query as parse_query;
-use scan::is;
+use parser_items::BEYOND;
+use parser_items::State;
+use parser_items::Step;
+use parser_scan::is;
+use plan_format::kinds::ROOT as FROM_ROOT;
 use text::brackets::too_deep;
 use text::encoding::is_utf8;
 use text::parts::copy_part;
@@ -14,15 +15,12 @@ ghost use mathlib.Core.List.{List};
 ghost use Prim.Native.Nat.{ℕ, _+_, _*_, _≤_, _<_};
 ghost use lib.ListN.{length};
 ghost use Rattle.definition.specs.Outcomes.{early};
-ghost use Rattle.readings.specs.Readings.{OneCompile};
+ghost use Rattle.compile_unique.specs.Readings.{OneCompile};
 ghost use Rattle.compile.specs.Steps.{outcome, Rooms, ParsePost, verdictOf, Delivers};
 
 const MAX_QUERY: usize = 4096;
 
 const ROOT: u8 = b'$';
-// The item with which the plan of a query that begins at `$` starts.
-const FROM_ROOT: u8 = 1;
-
 // A byte that no UTF-8 text has.
 pub const NO_BYTE: u8 = 255;
 

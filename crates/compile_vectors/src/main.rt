@@ -5,8 +5,8 @@
 // The last line counts the queries and the answers that differ.
 use libc::STDIN_FILENO;
 use libc::STDOUT_FILENO;
-use lines::Decoded;
-use lines::Number;
+use program_lines::Decoded;
+use program_lines::Number;
 ghost use Prim.Native.Nat.{_≤_};
 ghost use lib.ListN.{length};
 
@@ -51,7 +51,7 @@ fn decoded(
 ) -> bool
     requires { ⌜ (from ≤ to) × (to ≤ length (now s)) ⌝ }
 {
-    match lines::decode(s, from, to, query) {
+    match program_lines::decode(s, from, to, query) {
         Decoded::Bytes(n) => verdict(&query[..n], want, plan, pool),
         Decoded::TooLong => bad_line(),
         Decoded::Bad => bad_line(),
@@ -69,11 +69,11 @@ fn line(
 ) -> bool
     requires { ⌜ (from ≤ to) × (to ≤ length (now s)) ⌝ }
 {
-    let middle = lines::find(s, from, to, BLANK);
+    let middle = program_lines::find(s, from, to, BLANK);
     if middle == to {
         return bad_line();
     }
-    match lines::read_number(s, middle + 1, to) {
+    match program_lines::read_number(s, middle + 1, to) {
         Number::Is(want) => decoded(s, from, middle, want, query, plan, pool),
         Number::Not => bad_line(),
     }
@@ -91,7 +91,7 @@ fn run(s: &[u8], query: &mut [u8], plan: &mut [u8], pool: &mut [u8]) {
     let mut count = 0u64;
     let mut other = 0u64;
     while at < s.len() {
-        let end = lines::find(s, at, s.len(), NEWLINE);
+        let end = program_lines::find(s, at, s.len(), NEWLINE);
         other += one_unless(line(s, at, end, query, plan, pool));
         count += 1;
         at = end + 1;

@@ -4,7 +4,7 @@ use mathlib.Core.List.{List}
 use mathlib.Core.Bool.{Bool, true, false, _&&_}
 use mathlib.Core.Option.{Option}
 use lib.IntN.{ℤ}
-use Rattle.regexps.specs.Scope.{Scope}
+use Rattle.regex_definition.specs.Scope.{Scope}
 
 -- a literal; a float is given by its bits
 pub data Literal : Type 0 where

@@ -131,7 +131,7 @@ mutual
     moreArguments : Blanks → Blanks → Argument → MoreArguments → MoreArguments
 
   -- function-argument = literal / filter-query / logical-expr / function-expr
-  -- A filter-query and a function-expr are logical expressions too: the crate `laws` (Small) proves that meaning does not depend on which is taken.
+  -- A filter-query and a function-expr are logical expressions too: the crate `definition_laws` (Small) proves that meaning does not depend on which is taken.
   pub data Argument : Type 0 where
     literalArgument : Literal → Argument
     queryArgument : FilterQuery → Argument

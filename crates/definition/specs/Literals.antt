@@ -104,7 +104,7 @@ exponentValue (exponent e h plusSign d) = pos (decimal (digitsOf d))
 exponentValue (exponent e h minusSign d) = negℤ (pos (decimal (digitsOf d)))
 
 -- the float nearest to N times ten to E, ties to even: one rounding of an exact fraction, by the toolchain's `round`.
--- That this is the nearest float over whole numbers, and the even one at a tie, is a law of the crate `rounding`.
+-- That this is the nearest float over whole numbers, and the even one at a tie, is a law of the crate `number_rounding`.
 unfoldable pub nearest : Bool → ℕ → ℤ → ℕ
 nearest s n (pos e) = toBits binary64 (round binary64 s (n * 10 ^ e) 1)
 nearest s n (negsuc e) = toBits binary64 (round binary64 s n (10 ^ (e + 1)))

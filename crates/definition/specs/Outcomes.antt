@@ -74,6 +74,6 @@ pub record ChecksPlan (plan pool : List ℕ) (n : ℕ) : Type 0 where
   pub is : n ≡ refusalOf reading
 
 -- "All that compiles keeps to it": what compiles is a query form, and its plan and pool are within 65,535 bytes, so plan check and run take them.
--- This is a statement about the definitions above; the crate `keeps` proves it.
+-- This is a statement about the definitions above; the crate `compile_forms` proves it.
 abbrev pub CompiledKeeps : Type 0
 CompiledKeeps = (s : List ℕ) (q : Query) → Reads s (form q) → Translates q (planOf q) (poolOf q)

@@ -5,7 +5,7 @@ use mathlib.Core.Bool.{true, false, cond}
 use mathlib.Core.Option.{Option, none, some}
 use lib.IntN.{ℤ}
 use lib.ListN.{length}
-use Rattle.regexps.specs.Scope.{Scope, whole, part}
+use Rattle.regex_definition.specs.Scope.{Scope, whole, part}
 use Rattle.definition.specs.Bytes.{littleEndian, unsigned64}
 use Rattle.definition.specs.Forms.{Literal, Operator, Start, Query, Segments, Selectors, Selector, Test, Argument, Function, manySelectors}
 use Rattle.definition.specs.Forms.Operator.{eq, ne, lt, le, gt, ge}

@@ -124,6 +124,6 @@ startsAtRoot (query current q) = false
 
 -- "A query form is a tree that the RFC's grammar (parentheses aside) and the typing rules allow, with indices, bounds and steps in refusal 4's range,
 -- finite floats and UTF-8 texts, and no item inside more than 128 filters, functions, nots and right operands of 16 or 17 together."
--- The crate `laws` (Reached) proves that every query form is the form of some tree of the grammar, as far as number literals can write its floats.
+-- The crate `definition_laws` (Reached) proves that every query form is the form of some tree of the grammar, as far as number literals can write its floats.
 unfoldable pub isForm : Query → Bool
 isForm q = startsAtRoot q && (queryRight q && leb (nesting q) maxNesting)

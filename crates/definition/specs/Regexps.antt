@@ -1,14 +1,14 @@
--- match and search of a text and an expression: document 02, W4. What an expression describes stands in the crate `regexps`, which knows no bytes.
+-- match and search of a text and an expression: document 02, W4. What an expression describes stands in the crate `regex_definition`, which knows no bytes.
 use Prim.Native.Nat.{ℕ}
 use mathlib.Core.List.{List}
 use mathlib.Core.Bool.{Bool, false, cond}
 use mathlib.Core.Option.{Option, none, some}
 use lib.Dec.{leb}
 use lib.ListN.{length}
-use Rattle.regexps.specs.Chars.{maxExpression}
-use Rattle.regexps.specs.Regexp.{Regexp, described}
-use Rattle.regexps.specs.Scope.{Scope, widen}
-use Rattle.regexps.specs.Read.{readRegexp}
+use Rattle.regex_definition.specs.Chars.{maxExpression}
+use Rattle.regex_definition.specs.Regexp.{Regexp, described}
+use Rattle.regex_definition.specs.Scope.{Scope, widen}
+use Rattle.regex_definition.specs.Read.{readRegexp}
 use Rattle.definition.specs.Utf8.{scalarsOf}
 use Rattle.definition.specs.Compare.{Value}
 use Rattle.definition.specs.Compare.Value.{nothing}

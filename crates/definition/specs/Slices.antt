@@ -60,7 +60,7 @@ unfoldable pub walkPlaces : ℕ → ℕ → ℤ → ℤ → ℤ → List ℕ
 walkPlaces zero n i b s = []
 walkPlaces (suc f) n i b s = cond (goesOn s i b) (elementAt n i ++ walkPlaces f n (i +ℤ s) b s) []
 
--- the elements that a slice selects, in the order of the walk. It has at most n + 1 places: the crate `standards` (Ends) proves that the bound cuts nothing off.
+-- the elements that a slice selects, in the order of the walk. It has at most n + 1 places: the crate `definition_standards` (Ends) proves that the bound cuts nothing off.
 unfoldable pub slicePlaces : ℕ → Option ℤ → Option ℤ → Option ℤ → List ℕ
 slicePlaces n a b c =
     let s = sliceStep c in

@@ -80,7 +80,7 @@ unfoldable pub indexOf : ℤ → ℕ
 indexOf (pos k) = k
 indexOf (negsuc k) = zero
 
--- the indices that the RFC's slice selects, in its order. Crate standards proves that the loop has at most len turns, and that indexOf
+-- the indices that the RFC's slice selects, in its order. Crate definition_standards proves that the loop has at most len turns, and that indexOf
 -- changes no i of it.
 unfoldable pub rfcPlaces : ℕ → Option ℤ → Option ℤ → Option ℤ → List ℕ
 rfcPlaces len a b c = map indexOf (rfcLoop (suc len) len a b c)

@@ -245,7 +245,7 @@ valueBy T X i ks =
     (cond (eqb (kindAt T i) kindList) (list i ks) (map i ks)))))))
 
 -- Children are one deeper than their parent, and no depth passes 63: so 64 levels are enough, and in an accepted table the first clause is never met:
--- the crate `laws` (Levels) proves that with more levels the tree is the same, whatever stands in the first clause's place.
+-- the crate `definition_laws` (Levels) proves that with more levels the tree is the same, whatever stands in the first clause's place.
 unfoldable pub treeAt : ℕ → List ℕ → List ℕ → ℕ → Json
 treeAt zero T X i = null i
 treeAt (suc f) T X i = valueBy T X i (row (treeAt f T X) (keyBytes T X) (firstChild T i) (childCount T i))

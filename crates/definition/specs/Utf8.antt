@@ -55,7 +55,7 @@ isUtf8From (tail lo hi n) [] = false
 isUtf8From bad [] = false
 isUtf8From w (b ∷ s) = isUtf8From (afterByte w b) s
 
--- refusal 2 is that this fails; "Texts and keys .. are UTF-8". The crate `utf8` proves that these are the texts that `encodeAll` gives for scalar values.
+-- refusal 2 is that this fails; "Texts and keys .. are UTF-8". The crate `utf8_laws` proves that these are the texts that `encodeAll` gives for scalar values.
 unfoldable pub isUtf8 : List ℕ → Bool
 isUtf8 s = isUtf8From ready s
 
@@ -74,7 +74,7 @@ unfoldable pub continued : ℕ → List ℕ → ℕ
 continued c [] = c
 continued c (b ∷ s) = cond (continues b) (continued (c * 64 + (b - 0x80)) s) c
 
--- RFC 3629, section 3, read backwards: a byte that continues no character begins one. The crate `utf8` proves that these are the scalar values whose bytes a UTF-8 text is.
+-- RFC 3629, section 3, read backwards: a byte that continues no character begins one. The crate `utf8_laws` proves that these are the scalar values whose bytes a UTF-8 text is.
 unfoldable pub scalarsOf : List ℕ → List ℕ
 scalarsOf [] = []
 scalarsOf (b ∷ s) = cond (continues b) (scalarsOf s) (continued (leading b) s ∷ scalarsOf s)

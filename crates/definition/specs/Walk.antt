@@ -5,7 +5,7 @@ use mathlib.Core.List.{List, [], _∷_}
 use mathlib.Core.Bool.{Bool, true, false, cond, _||_}
 use mathlib.Core.Option.{Option, none, some}
 use lib.IntN.{ℤ}
-use Rattle.regexps.specs.Scope.{Scope, whole, part}
+use Rattle.regex_definition.specs.Scope.{Scope, whole, part}
 use Rattle.definition.specs.Bytes.{sameBytes}
 use Rattle.definition.specs.Lexical.{Int, Bound, Step, Slice, nameBytes, functionBytes}
 use Rattle.definition.specs.Lexical.Bound.{noBound, bound}
@@ -88,7 +88,7 @@ walkSlice s =
     next (walkBound (s .stop)) (λ b.
     next (walkStep (s .by)) (λ c. fine (slice a b c))))
 
--- A literal beyond the range of literals has no form. `null` stands in its place, in a query that refusal 8 keeps from having a form: the crate `laws` (StandIns) proves it.
+-- A literal beyond the range of literals has no form. `null` stands in its place, in a query that refusal 8 keeps from having a form: the crate `definition_laws` (StandIns) proves it.
 unfoldable pub walkNumeral : Numeral → Walked F.Literal
 walkNumeral (Numeral.integer z) = fine (integer z)
 walkNumeral (Numeral.float b) = fine (float b)
@@ -138,7 +138,7 @@ pub data Operand : Type 0 where
   expression : Expression → Operand
 
 -- An expression as a test. A value function comes here only as an operand straight in an argument's chain; no parameter takes such a chain, so no form has it:
--- the crate `laws` (StandIns) proves it.
+-- the crate `definition_laws` (StandIns) proves it.
 unfoldable pub asTest : Expression → F.Test
 asTest (nodes q) = exists q
 asTest (valued f) = not (notValue f)

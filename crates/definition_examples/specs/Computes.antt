@@ -1,7 +1,7 @@
 -- One name that opens every definition of this crate: a statement about closed inputs says `unfolding computes`, and both its sides compute.
 use Prim.Native.Nat.{ℕ}
 use lib.Ieee.{round, toBits, ofBits}
-use Rattle.regexps.specs.Read.{readCCchar, readEnd, readItem, readFirst, readItems, readRanges, readClass, countFrom, readCount, readUpper, readBraces, readQuantifier, readLeaf, readAlternatives, readBranch, readPiece, readAtom, readRegexp}
+use Rattle.regex_definition.specs.Read.{readCCchar, readEnd, readItem, readFirst, readItems, readRanges, readClass, countFrom, readCount, readUpper, readBraces, readQuantifier, readLeaf, readAlternatives, readBranch, readPiece, readAtom, readRegexp}
 use Rattle.definition.specs.Bytes.{number, littleEndian, sameBytes, orderBytes}
 use Rattle.definition.specs.Utf8.{encode, encodeAll, afterFirst, moreTails, afterByte, isUtf8From, isUtf8, leading, continued, scalarsOf}
 use Rattle.definition.specs.Brackets.{placeAfter, countAfter, tooDeepFrom, tooDeep}

@@ -1,7 +1,7 @@
 -- What a row claims of a query that is written as text, or of a plan: that it selects certain nodes from a table. The claim is found by a computed test.
 use Prim.Native.Nat.{ℕ}
 use Prim.Native.String.{String}
-use mathlib.Core.Path.{_≡_, refl, ap₂}
+use mathlib.Core.Path.{_≡_, refl}
 use mathlib.Core.List.{List, [], _∷_}
 use mathlib.Core.Bool.{Bool, true, false, _&&_, false≢true}
 use mathlib.Core.Option.{Option, none, some}
@@ -24,6 +24,8 @@ use Rattle.definition.specs.Selecting.Reading.{form, refused}
 use Rattle.definition.specs.Outcomes.{Translates}
 use Rattle.definition_examples.specs.Texts.{codes, bytes, hex}
 use Rattle.definition_examples.specs.Trees.{treeOf}
+use Rattle.definition_bytes.specs.Same.{same-true}
+use Rattle.basics.specs.Bools.{and-left as left, and-right as right}
 
 -- The query s has a form, and the form selects the nodes ns from the table T with the text X, which is accepted.
 pub record Gives (s T X ns : List ℕ) : Type 0 where
@@ -75,21 +77,6 @@ planSelects plan pool q T X ns = isTranslated q (hex plan) (bytes pool) && (isAc
 
 -- ---- what passes the test
 
-pub left : (a b : Bool) → (a && b) ≡ true → a ≡ true
-left true b e = refl
-left false b e = e
-
-pub right : (a b : Bool) → (a && b) ≡ true → b ≡ true
-right true b e = e
-right false b e = absurd (false≢true e)
-
-same-bytes : (s t : List ℕ) → sameBytes s t ≡ true → s ≡ t
-unfolding sameBytes
-same-bytes [] [] e = refl
-same-bytes [] (y ∷ t) e = absurd (false≢true e)
-same-bytes (x ∷ s) [] e = absurd (false≢true e)
-same-bytes (x ∷ s) (y ∷ t) e = ap₂ (λ a b. a ∷ b) (eqb-true x y (left (eqb x y) (sameBytes s t) e)) (same-bytes s t (right (eqb x y) (sameBytes s t) e))
-
 is-accepted : (c : Checked) → isAccepted c ≡ true → c ≡ accepted
 is-accepted accepted e = refl
 is-accepted sized e = absurd (false≢true e)
@@ -98,7 +85,7 @@ is-accepted (textAt i) e = absurd (false≢true e)
 
 picked : (r : Reading) (s T X ns : List ℕ) → Reads s r → checkTable T X ≡ accepted → picks r T X ns ≡ true → Gives s T X ns
 picked (refused n) s T X ns h a e = absurd (false≢true e)
-picked (form q) s T X ns h a e = record { query = q; reads = h; table = a; selects = same-bytes (selected q (tree T X)) ns e }
+picked (form q) s T X ns h a e = record { query = q; reads = h; table = a; selects = same-true (selected q (tree T X)) ns e }
 
 picked-by : (m : Option G.Query) (s T X ns : List ℕ) → picksBy m s T X ns ≡ true → Gives s T X ns
 picked-by none s T X ns e = absurd (false≢true e)
@@ -110,7 +97,7 @@ picked-by (some t) s T X ns e =
     let f = right a (b && (c && d)) e in
     let g = right b (c && d) f in
     picked (judge (walk t)) s T X ns
-    (hasTree (eqb-true (early s) 0 (left b (c && d) f)) t (same-bytes (spell t) s (left a (b && (c && d)) e)))
+    (hasTree (eqb-true (early s) 0 (left b (c && d) f)) t (same-true (spell t) s (left a (b && (c && d)) e)))
     (is-accepted (checkTable T X) (left c d g))
     (right c d g)
 
@@ -130,8 +117,8 @@ translated q plan pool e =
     let k = right c (d && f) h in
     record {
       isQuery = left a (b && (c && (d && f))) e;
-      isPlan = same-bytes (planOf q) plan (left b (c && (d && f)) g);
-      isPool = same-bytes (poolOf q) pool (left c (d && f) h);
+      isPlan = same-true (planOf q) plan (left b (c && (d && f)) g);
+      isPool = same-true (poolOf q) pool (left c (d && f) h);
       planFits = leb-true (length plan) maxPlan (left d f k);
       poolFits = leb-true (length pool) maxPlan (right d f k);
     }
@@ -147,5 +134,5 @@ plan-gives plan pool q T X ns e =
       query = q;
       translates = translated q (hex plan) (bytes pool) (left a (b && c) e);
       table = is-accepted (checkTable T X) (left b c f);
-      selects = same-bytes (selected q (tree T X)) ns (right b c f);
+      selects = same-true (selected q (tree T X)) ns (right b c f);
     }

@@ -15,6 +15,7 @@ use Rattle.definition.specs.Evaluation.{countValue}
 use Rattle.definition.specs.Plans.{planOf, poolOf}
 use Rattle.definition.specs.Outcomes.{Translates, spelled, notSpelled, ChecksPlan, refusalOf}
 use Rattle.definition.specs.Selecting.Reading.{form, refused}
+use Rattle.basics.specs.Bools.{and-false}
 
 -- ---- refusal 9: "over 65,535 nodes, or text over 16,777,216 bytes"
 
@@ -35,10 +36,6 @@ text-too-large T X h k = rw (h, k) refl
 and-true : (b : Bool) → (b && true) ≡ b
 and-true true = refl
 and-true false = refl
-
-and-false : (b : Bool) → (b && false) ≡ false
-and-false true = refl
-and-false false = refl
 
 pub largest-map : (T : List ℕ) (i : ℕ) → kindAt T i ≡ 7 → highWord T i ≡ 1024 → payloadRecord T i ≡ rangeRight T i
 unfolding payloadRecord

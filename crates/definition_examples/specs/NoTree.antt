@@ -23,8 +23,9 @@ use Rattle.definition.specs.Selecting.{Reads, noTree}
 use Rattle.definition.specs.Selecting.Reading.{refused}
 use Rattle.definition_examples.specs.Computes.{computes}
 use Rattle.definition_examples.specs.Texts.{codes, bytes}
-use Rattle.definition_examples.specs.Gives.{left}
-use Rattle.definition_examples.specs.Starts.{hd, tl, first, apart, unlike, some-byte, unblanked, first-blanks, segment-start, segments-start, selectors-start, close-start, isSelectorByte, selector-start, encode-start, encode-rest, name-start, endsBasic, endsSegment, isOperatorByte, operator-start, isComparableByte, comparable-start, from-query, goesOn, compared-start}
+use Rattle.definition_examples.specs.Starts.{hd, tl, first, apart, unlike, unblanked, first-blanks, segment-start, segments-start, selectors-start, close-start, isSelectorByte, selector-start, encode-start, encode-rest, name-start, endsBasic, endsSegment, isOperatorByte, operator-start, isComparableByte, comparable-start, from-query, goesOn, compared-start}
+use Rattle.basics.specs.Lists.{cons-not}
+use Rattle.basics.specs.Bools.{and-left as left}
 
 -- ---- `$ `, `$.`, `$.a[`
 
@@ -35,7 +36,7 @@ no-blank-end : (t : G.Query) → spell t ≡ 0x24 ∷ 0x20 ∷ [] → ⊥
 no-blank-end t e = go (t .segments) (ap tl e)
   where
     go : (xs : G.Segments) → spellSegments xs [] ≡ 0x20 ∷ [] → ⊥
-    go noSegment e = some-byte (sym e)
+    go noSegment e = cons-not (sym e)
     go (moreSegments b x xs) e = apart (λ l. isSegmentByte (first l)) (rw (first-blanks b (spellSegment x (spellSegments xs []))) (segment-start isSegmentByte refl refl x (spellSegments xs []))) refl e
 
 no-dot-end : (t : G.Query) → spell t ≡ 0x24 ∷ 0x2E ∷ [] → ⊥
@@ -43,14 +44,14 @@ no-dot-end t e = go (t .segments) (ap tl e)
   where
     at : (x : G.Segment) (r : List ℕ) → spellSegment x r ≡ 0x2E ∷ [] → ⊥
     at (childBrackets (bracketed b x xs c)) r e = unlike (eqb 0x5B) refl refl e
-    at childWild r e = some-byte (ap tl e)
+    at childWild r e = cons-not (ap tl e)
     at (childName n) r e = name-start n r [] (lit< tt) refl (ap tl e)
-    at (descendantBrackets x) r e = some-byte (ap tl e)
-    at descendantWild r e = some-byte (ap tl e)
-    at (descendantName n) r e = some-byte (ap tl e)
+    at (descendantBrackets x) r e = cons-not (ap tl e)
+    at descendantWild r e = cons-not (ap tl e)
+    at (descendantName n) r e = cons-not (ap tl e)
 
     go : (xs : G.Segments) → spellSegments xs [] ≡ 0x2E ∷ [] → ⊥
-    go noSegment e = some-byte (sym e)
+    go noSegment e = cons-not (sym e)
     go (moreSegments b x xs) e = at x (spellSegments xs []) (unblanked b refl e)
 
 no-open-end : (t : G.Query) → spell t ≡ 0x24 ∷ 0x2E ∷ 0x61 ∷ 0x5B ∷ [] → ⊥
@@ -66,7 +67,7 @@ no-open-end t e = go (t .segments) (ap tl e)
     opened (descendantName n) r e = unlike (eqb 0x2E) refl refl e
 
     behind : (xs : G.Segments) → spellSegments xs [] ≡ 0x5B ∷ [] → ⊥
-    behind noSegment e = some-byte (sym e)
+    behind noSegment e = cons-not (sym e)
     behind (moreSegments b x xs) e = opened x (spellSegments xs []) (unblanked b refl e)
 
     more : (cs : List ℕ) → every isNameChar cs ≡ true → (xs : G.Segments) → encodeAll cs ++ spellSegments xs [] ≡ 0x5B ∷ [] → ⊥
@@ -84,7 +85,7 @@ no-open-end t e = go (t .segments) (ap tl e)
     at (descendantName n) xs e = unlike (eqb 0x2E) refl refl (ap tl e)
 
     go : (xs : G.Segments) → spellSegments xs [] ≡ 0x2E ∷ 0x61 ∷ 0x5B ∷ [] → ⊥
-    go noSegment e = some-byte (sym e)
+    go noSegment e = cons-not (sym e)
     go (moreSegments b x xs) e = at x xs (unblanked b refl e)
 
 -- ---- `$[01]`, `$[-0]`: an index or a slice begins with a whole number
@@ -129,7 +130,7 @@ bracket-int xs s h g e k = go xs e
     at (descendantName n) r e = unlike (eqb 0x2E) refl refl e
 
     go : (xs : G.Segments) → spellSegments xs [] ≡ 0x5B ∷ s → ⊥
-    go noSegment e = some-byte (sym e)
+    go noSegment e = cons-not (sym e)
     go (moreSegments b x xs) e = at x (spellSegments xs []) (unblanked b refl e)
 
 no-leading-zero : (t : G.Query) → spell t ≡ 0x24 ∷ 0x5B ∷ 0x30 ∷ 0x31 ∷ 0x5D ∷ [] → ⊥

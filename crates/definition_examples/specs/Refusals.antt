@@ -12,7 +12,7 @@ use Rattle.definition.specs.Selecting.{Reads, early, tooEarly}
 use Rattle.definition.specs.Selecting.Reading.{refused}
 use Rattle.definition_examples.specs.Computes.{computes}
 use Rattle.definition_examples.specs.Texts.{bytes}
-use Rattle.definition_examples.specs.Gives.{left, right}
+use Rattle.basics.specs.Bools.{and-left as left, and-right as right}
 
 -- a query's bytes, and the first of refusals 1 to 3 that they meet, or 0
 pub record Early : Type 0 where

@@ -5,7 +5,7 @@ use mathlib.Core.List.{[], _∷_}
 use mathlib.Core.Bool.{Bool, true, not, _&&_}
 use mathlib.Core.Option.{none, some}
 use lib.IntN.{pos, negsuc}
-use Rattle.regexps.specs.Scope.{whole, part}
+use Rattle.regex_definition.specs.Scope.{whole, part}
 use Rattle.definition.specs.Forms as F
 use Rattle.definition.specs.Forms.Literal.{integer, float, text}
 use Rattle.definition.specs.Forms.Operator.{eq}

@@ -16,7 +16,8 @@ use Rattle.definition.specs.Forms.Function.{countOf}
 use Rattle.definition_examples.specs.Computes.{computes}
 use Rattle.definition_examples.specs.Texts.{bytes, hex}
 use Rattle.definition_examples.specs.Sample.{sampleTable, sampleText}
-use Rattle.definition_examples.specs.Gives.{Gives, PlanGives, gives, plan-gives, selects, planSelects, left, right}
+use Rattle.definition_examples.specs.Gives.{Gives, PlanGives, gives, plan-gives, selects, planSelects}
+use Rattle.basics.specs.Bools.{and-left as left, and-right as right}
 
 -- A query and the nodes that it selects from the sample table; or a plan in hexadecimal, its pool as text, the form that they translate, and the nodes.
 pub data Row : Type 0 where

@@ -35,7 +35,8 @@ use Rattle.definition.specs.Grammar.FilterQuery.{relQuery, absQuery}
 use Rattle.definition.specs.Grammar.Comparable.{literalComparable, singularComparable, functionComparable}
 use Rattle.definition.specs.Grammar.Function.{function}
 use Rattle.definition_examples.specs.Texts.{bytes}
-use Rattle.definition_examples.specs.Gives.{left, right}
+use Rattle.basics.specs.Lists.{cons-not}
+use Rattle.basics.specs.Bools.{and-left as left, and-right as right, or-true}
 
 -- ---- lists of bytes
 
@@ -63,10 +64,6 @@ unlike p a b e = apart (λ l. p (hd l)) a b e
 pub isEmpty : List ℕ → Bool
 isEmpty [] = true
 isEmpty (c ∷ s) = false
-
-pub some-byte : {c : ℕ} {s : List ℕ} → c ∷ s ≡ [] → ⊥
-unfolding isEmpty
-some-byte e = true≢false (sym (ap isEmpty e))
 
 -- ---- blanks
 
@@ -219,10 +216,6 @@ whole-number minusZero r = refl
 abbrev pub isComparableByte : ℕ → Bool
 isComparableByte c = isLcalpha c || (isNumberByte c || (eqb c 0x22 || (eqb c 0x27 || (eqb c 0x40 || eqb c 0x24))))
 
-pub or-true : (a : Bool) → (a || true) ≡ true
-or-true true = refl
-or-true false = refl
-
 pub comparable-start : (x : G.Comparable) (r : List ℕ) → isComparableByte (hd (spellComparable x r)) ≡ true
 comparable-start (literalComparable (numberLiteral n)) r = rw (whole-number (n .whole) (spellFraction (n .frac) (spellExponent (n .exp) r))) (or-true (isLcalpha (hd (spellWhole (n .whole) (spellFraction (n .frac) (spellExponent (n .exp) r))))))
 comparable-start (literalComparable (textLiteral t)) r = go (t .quote)
@@ -313,7 +306,7 @@ module _ (l : List ℕ) where
       at (descendantName n) r e = unlike (eqb 0x2E) refl refl e
 
       go : (xs : G.Segments) → spellSegments xs [] ≡ 0x5B ∷ 0x3F ∷ 0x40 ∷ l → ⊥
-      go noSegment e = some-byte (sym e)
+      go noSegment e = cons-not (sym e)
       go (moreSegments b x xs) e = at x (spellSegments xs []) (unblanked b refl e)
 
 -- singular segments begin as segments do

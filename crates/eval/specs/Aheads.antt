@@ -5,10 +5,10 @@ use mathlib.Core.List.{List}
 use lib.ListN.{length, set}
 use native.Mathlib.Omega.{arith}
 use denote.Ref.{RefT}
-use Rattle.walks.specs.States.{st}
-use Rattle.walks.specs.Items.{segments-in}
-use Rattle.shortcuts.specs.Alongs.{AskAlong, DoneAlong}
-use Rattle.shortcuts.specs.declared.straight.Passed.{Passed}
+use Rattle.eval_laws.specs.States.{st}
+use Rattle.eval_laws.specs.Items.{segments-in}
+use Rattle.eval_shortcuts.specs.Alongs.{AskAlong, DoneAlong}
+use Rattle.eval_shortcuts.specs.declared.straight.Passed.{Passed}
 use Rattle.eval.specs.Lent.{planOf, poolOf, tableOf, textOf, rootOf, capOf, atOf}
 use Rattle.eval.specs.Asks.{Asked, Steady, AskEach, DoneEach, each, DoneAhead}
 use Rattle.eval.specs.Steady.{wrote-at}

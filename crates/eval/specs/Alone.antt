@@ -11,12 +11,12 @@ use Rattle.definition.specs.Forms.Selectors.{one}
 use Rattle.definition.specs.Plans.{codeSelector}
 use Rattle.definition.specs.Evaluation.{evalSelectors}
 use Rattle.text.specs.Words.{Word}
-use Rattle.walks.specs.Steps.{segment-child}
-use Rattle.walks.specs.Items.{parts, is-wildcard, is-slice, is-filter}
-use Rattle.visits.specs.Visits.{Query, Head}
-use Rattle.visits.specs.Fronts.{Single, single}
-use Rattle.visits.specs.Heads.{head-read}
-use Rattle.visits.specs.Stands.{segments-at}
+use Rattle.eval_laws.specs.Steps.{segment-child}
+use Rattle.eval_laws.specs.Items.{parts, is-wildcard, is-slice, is-filter}
+use Rattle.eval_front.specs.Visits.{Query, Head}
+use Rattle.eval_front.specs.Fronts.{Single, single}
+use Rattle.eval_front.specs.Heads.{head-read}
+use Rattle.eval_front.specs.Stands.{segments-at}
 use Rattle.eval.specs.Lent.{planOf, poolOf}
 use Rattle.eval.specs.Asks.{AskEnter, Entered, Steady, AskSelector, DoneSelector, Selects}
 use Rattle.eval.specs.Steady.{gives-as}

@@ -13,14 +13,14 @@ use Rattle.definition.specs.Values.{Json}
 use Rattle.definition.specs.Compare.{Value}
 use Rattle.definition.specs.Plans.{codeSegments}
 use Rattle.definition.specs.Evaluation.{firstValue, evalSegments}
-use Rattle.walks.specs.Founds.{Found, found-test, found-count, found-first, found-none, found-only, found-not-one}
-use Rattle.walks.specs.Todos.{Todo, QueryAt, todo-to}
-use Rattle.equal.specs.Means.{meaning, OfNode}
-use Rattle.equal.specs.declared.Operand.{Operand}
-use Rattle.equal.specs.declared.Operand.the-variants.{Nothing, Null, Int}
-use Rattle.steps.specs.Leaves.{capFor}
-use Rattle.steps.specs.OpLaws.{regs}
-use Rattle.steps.specs.declared.Regs.{Regs}
+use Rattle.eval_laws.specs.Founds.{Found, found-test, found-count, found-first, found-none, found-only, found-not-one}
+use Rattle.eval_laws.specs.Todos.{Todo, QueryAt, todo-to}
+use Rattle.eval_values.specs.Means.{meaning, OfNode}
+use Rattle.eval_values.specs.declared.Operand.{Operand}
+use Rattle.eval_values.specs.declared.Operand.the-variants.{Nothing, Null, Int}
+use Rattle.eval_items.specs.Leaves.{capFor}
+use Rattle.eval_items.specs.OpLaws.{regs}
+use Rattle.eval_items.specs.declared.Regs.{Regs}
 use Rattle.eval.specs.Asks.{isFunction, OfFunction, OfFirst, AskAnswer, DoneAnswer}
 
 -- ---- caps by what is asked

@@ -16,20 +16,20 @@ use Rattle.definition.specs.Plans.{codeSegments}
 use Rattle.definition.specs.Tables.{nodeCount, nodeAt}
 use Rattle.definition.specs.Compare.{Value, nodeValue}
 use Rattle.definition.specs.Evaluation.{evalSegments, evalSelectors, evalSelector, evalTest}
-use Rattle.tables.specs.Accepted.{Accepted}
-use Rattle.walks.specs.States.{State, st}
-use Rattle.walks.specs.Emits.{go}
-use Rattle.walks.specs.Steps.{one-of, below}
-use Rattle.walks.specs.Founds.{Found}
-use Rattle.walks.specs.Items.{SegmentsAt, Parts}
-use Rattle.walks.specs.Todos.{QueryAt}
-use Rattle.equal.specs.Means.{meaning, Pair, Fine}
-use Rattle.equal.specs.declared.Operand.{Operand}
-use Rattle.steps.specs.Leaves.{Doing, capFor}
-use Rattle.steps.specs.declared.Regs.{Regs}
-use Rattle.visits.specs.Visits.{capLimit, Given, Query, over}
-use Rattle.visits.specs.Stands.{Alone}
-use Rattle.filters.specs.Kept.{Tested, AskTest}
+use Rattle.table_laws.specs.Accepted.{Accepted}
+use Rattle.eval_laws.specs.States.{State, st}
+use Rattle.eval_laws.specs.Emits.{go}
+use Rattle.eval_laws.specs.Steps.{one-of, below}
+use Rattle.eval_laws.specs.Founds.{Found}
+use Rattle.eval_laws.specs.Items.{SegmentsAt, Parts}
+use Rattle.eval_laws.specs.Todos.{QueryAt}
+use Rattle.eval_values.specs.Means.{meaning, Pair, Fine}
+use Rattle.eval_values.specs.declared.Operand.{Operand}
+use Rattle.eval_items.specs.Leaves.{Doing, capFor}
+use Rattle.eval_items.specs.declared.Regs.{Regs}
+use Rattle.eval_front.specs.Visits.{capLimit, Given, Query, over}
+use Rattle.eval_front.specs.Stands.{Alone}
+use Rattle.eval_filters.specs.Kept.{Tested, AskTest}
 use Rattle.eval.specs.Lent.{planOf, poolOf, tableOf, textOf, rootOf, capOf, atOf}
 
 -- ---- where evaluation begins

@@ -15,22 +15,22 @@ use Rattle.definition.specs.Forms.{Segments, Selectors}
 use Rattle.definition.specs.Forms.Segments.{descendant}
 use Rattle.definition.specs.Plans.{poolSelectors, poolSelector}
 use Rattle.definition.specs.Tables.{nodeCount, nodeAt, depthAt}
-use Rattle.tables.specs.Accepted.{Accepted}
+use Rattle.table_laws.specs.Accepted.{Accepted}
 use Rattle.definition.specs.Evaluation.{evalSelectors}
 use Rattle.text.specs.Words.{Word}
-use Rattle.walks.specs.States.{State, st, push}
-use Rattle.walks.specs.Emits.{go}
-use Rattle.walks.specs.Steps.{below, done-bound, segment-child, segment-descendant, segment-end, selectors-last, selectors-step, selectors-full}
-use Rattle.walks.specs.Ranges.{Range, child-at}
-use Rattle.walks.specs.Items.{SegmentsAt, parts, is-end, segments-in}
-use Rattle.steps.specs.Ends.{AskSkip, DoneSkip, AskNext as AskPlace, DoneNext as DonePlace}
-use Rattle.visits.specs.Visits.{Query, AskPush, AskReach, DoneReach, DoneContainer}
-use Rattle.visits.specs.Overs.{over-step, over-end, over-full, over-passed}
-use Rattle.visits.specs.Stands.{Standing, descendant-byte, standing-of, fore, final, some-alone, standing-in}
-use Rattle.visits.specs.Spans.{below-all}
-use Rattle.visits.specs.declared.Reached.{Reached}
-use Rattle.shortcuts.specs.Flats.{AskStart, DoneStart}
-use Rattle.shortcuts.specs.declared.flats.Flat.{Flat}
+use Rattle.eval_laws.specs.States.{State, st, push}
+use Rattle.eval_laws.specs.Emits.{go}
+use Rattle.eval_laws.specs.Steps.{below, done-bound, segment-child, segment-descendant, segment-end, selectors-last, selectors-step, selectors-full}
+use Rattle.eval_laws.specs.Ranges.{Range, child-at}
+use Rattle.eval_laws.specs.Items.{SegmentsAt, parts, is-end, segments-in}
+use Rattle.eval_items.specs.Ends.{AskSkip, DoneSkip, AskNext as AskPlace, DoneNext as DonePlace}
+use Rattle.eval_front.specs.Visits.{Query, AskPush, AskReach, DoneReach, DoneContainer}
+use Rattle.eval_front.specs.Overs.{over-step, over-end, over-full, over-passed}
+use Rattle.eval_front.specs.Stands.{Standing, descendant-byte, standing-of, fore, final, some-alone, standing-in}
+use Rattle.eval_front.specs.Spans.{below-all}
+use Rattle.eval_front.specs.declared.Reached.{Reached}
+use Rattle.eval_shortcuts.specs.Flats.{AskStart, DoneStart}
+use Rattle.eval_shortcuts.specs.declared.flats.Flat.{Flat}
 use Rattle.eval.specs.Lent.{planOf, poolOf, tableOf, textOf, rootOf, capOf, atOf}
 use Rattle.eval.specs.Asks.{Asked, Steady, Gives, AskSegment, DoneSegment, AskSelectors, DoneSelectors, Parted, AskDescent, DoneDescent, Descends, descent, AskFlats, DoneFlats, AskSelector, DoneSelector}
 use Rattle.eval.specs.Steady.{wrote-at, gives-wrote, gives-none, gives-as, Going, going-start, going-on, going-step, going-end, going-full, going-last}

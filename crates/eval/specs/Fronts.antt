@@ -7,12 +7,12 @@ use mathlib.Core.Bool.{true, false}
 use lib.ListN.{length, getD}
 use native.Mathlib.Omega.{arith}
 use Rattle.definition.specs.Tables.{nodeAt}
-use Rattle.walks.specs.States.{st, push}
-use Rattle.walks.specs.Steps.{segment-end}
-use Rattle.walks.specs.Items.{is-end, segments-in}
-use Rattle.visits.specs.Visits.{AskPush, AskReach, DoneReach}
-use Rattle.visits.specs.declared.Reached.{Reached}
-use Rattle.shortcuts.specs.Straights.{AskLast, AskStraight}
+use Rattle.eval_laws.specs.States.{st, push}
+use Rattle.eval_laws.specs.Steps.{segment-end}
+use Rattle.eval_laws.specs.Items.{is-end, segments-in}
+use Rattle.eval_front.specs.Visits.{AskPush, AskReach, DoneReach}
+use Rattle.eval_front.specs.declared.Reached.{Reached}
+use Rattle.eval_shortcuts.specs.Straights.{AskLast, AskStraight}
 use Rattle.eval.specs.Asks.{Begins, AskSegments, DoneSegments}
 
 -- ---- the front of a query

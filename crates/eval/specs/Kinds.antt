@@ -17,22 +17,22 @@ use Rattle.text.specs.Words.{Word}
 use Rattle.slices.specs.Walks.{Inside, walked}
 use Rattle.slices.specs.Laws.{inside-at, inside-more}
 use Rattle.slices.specs.declared.Walk.{Walk}
-use Rattle.walks.specs.States.{State, st, emit}
-use Rattle.walks.specs.Emits.{go}
-use Rattle.walks.specs.Steps.{kept, one-of, kept-in, kept-out, span-kept}
-use Rattle.walks.specs.Ranges.{Range, range-of, range-in, select-filter}
-use Rattle.walks.specs.Items.{SegmentsAt, Filtered, Sliced, is-end, is-slice, is-filter}
-use Rattle.equal.specs.declared.members.Member.{Member}
-use Rattle.equal.specs.declared.members.Member.the-variants.{At, Nothing as Absent}
-use Rattle.steps.specs.Leaves.{AskOne, DoneOne, AskWalk, DoneWalk}
-use Rattle.visits.specs.Visits.{Query, AskNumbers, AskWalked, AskPlaced, DonePlaced, Further, numbersFrom, over, goes}
-use Rattle.visits.specs.Overs.{over-step, over-end, over-full, over-numbers, goes-full}
-use Rattle.visits.specs.Fronts.{never}
-use Rattle.visits.specs.Places.{goes-places, goes-step, goes-end}
-use Rattle.visits.specs.Stands.{kind-low, kind-high, alone-in, one-found, one-absent, slice-asked, slice-done, filter-end}
-use Rattle.visits.specs.Spans.{over-range, wildcard-range}
-use Rattle.filters.specs.Kept.{Tested, AskTest, AskKept, DoneTest, tested-of}
-use Rattle.filters.specs.Keeps.{DoneRange}
+use Rattle.eval_laws.specs.States.{State, st, emit}
+use Rattle.eval_laws.specs.Emits.{go}
+use Rattle.eval_laws.specs.Steps.{kept, one-of, kept-in, kept-out, span-kept}
+use Rattle.eval_laws.specs.Ranges.{Range, range-of, range-in, select-filter}
+use Rattle.eval_laws.specs.Items.{SegmentsAt, Filtered, Sliced, is-end, is-slice, is-filter}
+use Rattle.eval_values.specs.declared.members.Member.{Member}
+use Rattle.eval_values.specs.declared.members.Member.the-variants.{At, Nothing as Absent}
+use Rattle.eval_items.specs.Leaves.{AskOne, DoneOne, AskWalk, DoneWalk}
+use Rattle.eval_front.specs.Visits.{Query, AskNumbers, AskWalked, AskPlaced, DonePlaced, Further, numbersFrom, over, goes}
+use Rattle.eval_front.specs.Overs.{over-step, over-end, over-full, over-numbers, goes-full}
+use Rattle.eval_front.specs.Fronts.{never}
+use Rattle.eval_front.specs.Places.{goes-places, goes-step, goes-end}
+use Rattle.eval_front.specs.Stands.{kind-low, kind-high, alone-in, one-found, one-absent, slice-asked, slice-done, filter-end}
+use Rattle.eval_front.specs.Spans.{over-range, wildcard-range}
+use Rattle.eval_filters.specs.Kept.{Tested, AskTest, AskKept, DoneTest, tested-of}
+use Rattle.eval_filters.specs.Keeps.{DoneRange}
 use Rattle.eval.specs.Lent.{planOf, poolOf, tableOf, textOf, rootOf, capOf, atOf}
 use Rattle.eval.specs.Asks.{Asked, Steady, Gives, AskEnter, AskSegment, DoneSegment, AskSelector, DoneSelector, Selects, selection, DoneKeep, AskEach, DoneEach, each, AskNext, DoneNext}
 use Rattle.eval.specs.Steady.{steady-refl, gives-wrote, gives-none, gives-as, Going, going-asked, going-on, going-step, going-end, going-full}

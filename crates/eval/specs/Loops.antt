@@ -6,11 +6,11 @@ use mathlib.Core.Bool.{Bool as Bits}
 use Rattle.definition.specs.Forms.{Test}
 use Rattle.definition.specs.Tables.{nodeAt}
 use Rattle.definition.specs.Evaluation.{evalTest}
-use Rattle.equal.specs.Means.{Pair}
-use Rattle.steps.specs.Leaves.{Doing}
-use Rattle.steps.specs.declared.Regs.{Regs}
-use Rattle.filters.specs.Kept.{Tested}
-use Rattle.filters.specs.Tests.{Left}
+use Rattle.eval_values.specs.Means.{Pair}
+use Rattle.eval_items.specs.Leaves.{Doing}
+use Rattle.eval_items.specs.declared.Regs.{Regs}
+use Rattle.eval_filters.specs.Kept.{Tested}
+use Rattle.eval_filters.specs.Tests.{Left}
 
 -- with an answer and no values
 pub record InTest (P L S X : List ℕ) (root node p e : ℕ) (acc : Bits) (q : ℕ) : Type 0 where

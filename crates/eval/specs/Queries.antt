@@ -11,19 +11,19 @@ use Rattle.definition.specs.Values.{Json}
 use Rattle.definition.specs.Forms.{Segments}
 use Rattle.definition.specs.Tables.{nodeCount, nodeAt}
 use Rattle.definition.specs.Evaluation.{evalSegments}
-use Rattle.tables.specs.Accepted.{Accepted}
-use Rattle.walks.specs.States.{State, st, emit}
-use Rattle.walks.specs.Segments.{ids}
-use Rattle.walks.specs.Emits.{go}
-use Rattle.walks.specs.Items.{SegmentsAt}
-use Rattle.walks.specs.Founds.{Found, found-at}
-use Rattle.walks.specs.Todos.{QueryAt, todo-in, at-query}
-use Rattle.equal.specs.Means.{meaning}
-use Rattle.steps.specs.Leaves.{Doing, beginsAt, capFor}
-use Rattle.steps.specs.declared.Regs.{Regs}
-use Rattle.visits.specs.Visits.{DoneReach}
-use Rattle.visits.specs.declared.Reached.{Reached}
-use Rattle.filters.specs.Queries.{Past, begins-root, begins-node}
+use Rattle.table_laws.specs.Accepted.{Accepted}
+use Rattle.eval_laws.specs.States.{State, st, emit}
+use Rattle.eval_laws.specs.Segments.{ids}
+use Rattle.eval_laws.specs.Emits.{go}
+use Rattle.eval_laws.specs.Items.{SegmentsAt}
+use Rattle.eval_laws.specs.Founds.{Found, found-at}
+use Rattle.eval_laws.specs.Todos.{QueryAt, todo-in, at-query}
+use Rattle.eval_values.specs.Means.{meaning}
+use Rattle.eval_items.specs.Leaves.{Doing, beginsAt, capFor}
+use Rattle.eval_items.specs.declared.Regs.{Regs}
+use Rattle.eval_front.specs.Visits.{DoneReach}
+use Rattle.eval_front.specs.declared.Reached.{Reached}
+use Rattle.eval_filters.specs.Queries.{Past, begins-root, begins-node}
 use Rattle.eval.specs.Asks.{AskQuery, DoneQuery, DoneAnswer}
 
 -- ---- the cap of a query

@@ -6,7 +6,7 @@ use native.Mathlib.Omega.{arith}
 use lib.ListN.{length, set, length-set}
 use lib.Seq.{getD-set-same, getD-set-other}
 use denote.Ref.{RefT, at-last}
-use Rattle.walks.specs.States.{State, st}
+use Rattle.eval_laws.specs.States.{State, st}
 use Rattle.eval.specs.Lent.{rootOf, capOf, atOf}
 use Rattle.eval.specs.Asks.{Asked, Steady, Gives}
 

@@ -1,15 +1,12 @@
 // What is asked of a query in a filter's code: whether it finds a node, how many, its value, or the value of its first node. `length` is asked of that value.
-use equal::Operand;
-use equal::operands;
-use steps::Regs;
+use eval_items::Regs;
+use eval_values::Operand;
+use eval_values::operands;
+use plan_format::kinds::COUNT;
+use plan_format::kinds::TEST;
+use plan_format::kinds::VALUE;
 ghost use mathlib.Core.Path.{_≡_};
 ghost use Rattle.eval.specs.Asks.{isFunction, AskNodes, OfFunction, OfFirst, AskAnswer, DoneAnswer};
-
-const TEST: u8 = 0x18;
-
-const COUNT: u8 = 0x19;
-
-const VALUE: u8 = 0x1B;
 
 // Whether the byte behind a query is that of a function of its nodes.
 fn is_function(mode: u8) -> bool
@@ -31,7 +28,7 @@ fn eval_function(table: &[u8], text: &[u8], mode: u8, n: usize, first: usize) ->
         return Operand::Int(count);
     }
     if n == 1 {
-        return operands::node_value(table, text, first);
+        return operands::get_value(table, text, first);
     }
     Operand::Null
 }
@@ -42,7 +39,7 @@ fn first_value(table: &[u8], text: &[u8], n: usize, first: usize) -> Operand
     ensures { λ r. ⌜ OfFirst (now (table .entry)) (now (text .entry)) n first r ⌝ }
 {
     if 0 < n {
-        return operands::node_value(table, text, first);
+        return operands::get_value(table, text, first);
     }
     Operand::Nothing
 }

@@ -9,42 +9,32 @@
 ghost use Prim.Native.Nat.{_<_};
 ghost use lib.ListN.{length};
 ghost use Rattle.definition.specs.Tables.{nodeCount};
-ghost use Rattle.filters.specs.Queries.{Within};
-ghost use Rattle.filters.specs.Kept.{AskTest, DoneTest};
-ghost use Rattle.filters.specs.Tests.{AskRest, DoneRest};
+ghost use Rattle.eval_filters.specs.Queries.{Within};
+ghost use Rattle.eval_filters.specs.Kept.{AskTest, DoneTest};
+ghost use Rattle.eval_filters.specs.Tests.{AskRest, DoneRest};
 ghost use Rattle.eval.specs.Lent.{planOf, poolOf, tableOf, textOf};
 ghost use Rattle.eval.specs.Asks.{Begins, AskSegments, DoneSegments, Asked, Steady, AskSegment, DoneSegment, AskEnter, Entered, AskSelectors, DoneSelectors, AskDescent, DoneDescent, AskSelector, DoneSelector, AskKind, AskEach, DoneEach, DoneAhead, AskFlats, DoneFlats, DoneKeep, AskNext, DoneNext, AskQuery, DoneQuery};
-use equal::Operand;
-use equal::members::Member;
-use filters::kept;
-use shortcuts::flats;
-use shortcuts::straight;
-use steps::Regs;
-use steps::leaves;
-use steps::plans;
+use eval_filters::kept;
+use eval_items::Regs;
+use eval_items::leaves;
+use eval_items::plans;
+use eval_shortcuts::flats;
+use eval_shortcuts::straight;
+use eval_values::Operand;
+use eval_values::members::Member;
+use plan_format::heads::FILTER_HEAD;
+use plan_format::heads::SLICE_HEAD;
+use plan_format::heads::WILDCARD_HEAD;
+use plan_format::kinds::CHILD;
+use plan_format::kinds::CURRENT;
+use plan_format::kinds::END;
+use plan_format::kinds::INDEX;
+use plan_format::kinds::SLICE;
+use plan_format::kinds::WILDCARD;
 use table::records;
 use text::bytes;
 
 mod answers;
-
-const CURRENT: u8 = 0x02;
-
-const CHILD: u8 = 0x03;
-
-const INDEX: u8 = 0x06;
-
-const SLICE: u8 = 0x07;
-
-const WILDCARD: u8 = 0x08;
-
-const END: u8 = 0x0A;
-
-// The first four bytes of a child segment of one selector, as a number: the segment's kind, the number of its selectors, and the selector's kind.
-const SLICE_HEAD: usize = 0x07000103;
-
-const WILDCARD_HEAD: usize = 0x08000103;
-
-const FILTER_HEAD: usize = 0x09000103;
 
 // The places of what is lent.
 const PLAN: usize = 0;
@@ -80,14 +70,14 @@ pub fn evaluate<'a>(
     requires { ⌜ AskSegments (now plan) (now pool) pc ⌝ }
     ensures { λ r. ⌜ DoneSegments cap (now (plan .entry)) (now (pool .entry)) (now (table .entry)) (now (text .entry)) root node pc (now (list .entry)) at (now (list .exit)) r ⌝ }
 {
-    let r = visits::front(plan, pool, table, text, node, pc);
+    let r = eval_front::front(plan, pool, table, text, node, pc);
     if !r.some {
         return at;
     }
     let m = r.node;
     let q = r.pc;
     if plan[q] == END {
-        return visits::push(list, at, m, cap);
+        return eval_front::push(list, at, m, cap);
     }
     if straight::is_last_slice(plan, q) {
         return straight::push_slice(plan, pool, table, text, m, q, list, at, cap);
@@ -190,7 +180,7 @@ fn evaluate_segment(
     ensures { λ r. ⌜ DoneSegment (now (lent .entry)) node pc (now (state .entry)) (now (now (list .entry))) (now (state .exit)) (now (now (list .exit))) ⌝ }
 {
     let plan = lent[PLAN];
-    let r = visits::reach(plan, lent[POOL], lent[TABLE], lent[TEXT], node, pc);
+    let r = eval_front::reach(plan, lent[POOL], lent[TABLE], lent[TEXT], node, pc);
     if !r.some {
         return;
     }
@@ -199,7 +189,7 @@ fn evaluate_segment(
     let k = plan[q];
     if k == END {
         let at = state[AT];
-        let next = visits::push(*list, at, m, state[CAP]);
+        let next = eval_front::push(*list, at, m, state[CAP]);
         state[AT] = next;
         return;
     }
@@ -256,7 +246,7 @@ fn skip_flats(
         return e;
     }
     let table = lent[TABLE];
-    let j = visits::next_container(table, i, e);
+    let j = eval_front::next_container(table, i, e);
     let f = flats::flat_start(
         lent[PLAN],
         lent[POOL],
@@ -360,10 +350,10 @@ fn each_place(
     let table = lent[TABLE];
     let from = records::low_word(table, node) as usize;
     let s = leaves::slice_at(plan, table, p, node);
-    let mut w = visits::placed(table, from, s);
+    let mut w = eval_front::placed(table, from, s);
     if plan[rest] == END {
         let at = state[AT];
-        let next = visits::push_places(*list, w, at, state[CAP]);
+        let next = eval_front::push_places(*list, w, at, state[CAP]);
         state[AT] = next;
         return;
     }
@@ -372,7 +362,7 @@ fn each_place(
             return;
         }
         evaluate_segment(lent, state, list, w.at, rest);
-        w = visits::further(w);
+        w = eval_front::further(w);
     }
 }
 
@@ -396,7 +386,7 @@ fn each_child(
     let plan = lent[PLAN];
     if plan[rest] == END {
         let at = state[AT];
-        let next = visits::push_each(*list, i, e, at, state[CAP]);
+        let next = eval_front::push_each(*list, i, e, at, state[CAP]);
         state[AT] = next;
         return;
     }
@@ -522,12 +512,12 @@ fn eval_filter_expr(lent: &[&[u8]; 4], root: usize, node: usize, p: usize, e: us
     while q < e {
         let plan = lent[PLAN];
         let k = plan[q];
-        if filters::is_logic(k) {
-            let t = filters::logic_expr(plan, acc, q);
+        if eval_filters::is_logic(k) {
+            let t = eval_filters::logic_expr(plan, acc, q);
             acc = t.acc;
             q = t.q;
         } else {
-            let t = filters::plain_test(
+            let t = eval_filters::plain_test(
                 plan,
                 lent[POOL],
                 lent[TABLE],
@@ -583,7 +573,7 @@ fn eval_query(lent: &[&[u8]; 4], root: usize, node: usize, s: Regs) -> Regs
     let text = lent[TEXT];
     let q = s.q;
     let from = leaves::begins(plan[q], root, node);
-    let r = visits::reach(plan, lent[POOL], table, text, from, q + 1);
+    let r = eval_front::reach(plan, lent[POOL], table, text, from, q + 1);
     let m = r.node;
     let pc = r.pc;
     let z = plans::past_query(plan, pc);

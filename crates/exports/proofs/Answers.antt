@@ -10,10 +10,10 @@ use Rattle.definition.specs.Tables.{Checked}
 use Rattle.definition.specs.Tables.Checked.{accepted, sized, wrongAt, textAt}
 use Rattle.definition.specs.TableOutcomes.{PartOutcome, partBy, foundPart, refusedPart}
 use Rattle.definition.specs.Paths.{PathOutcome}
-use Rattle.demands.specs.Promises.{Settled, ChecksPlanOnly}
-use Rattle.address.specs.declared.PathWritten.{PathWritten}
-use Rattle.address.specs.Outcomes.{told}
-use Rattle.plan.specs.Checks.{refusal}
+use Rattle.promises_stated.specs.Promises.{Settled, ChecksPlanOnly}
+use Rattle.table_path.specs.declared.PathWritten.{PathWritten}
+use Rattle.table_path.specs.Outcomes.{told}
+use Rattle.plan_check.specs.Checks.{refusal}
 use Rattle.run.specs.declared.Ran.{Ran}
 use Rattle.run.specs.Outcomes.{ran}
 use Rattle.select.specs.declared.Selection.{Selection}

@@ -1,17 +1,17 @@
 // The operations as functions that a C or Rust engine links: plain numbers and slices, each thin over the operation of `promises`, with its statement carried over.
 // include/stewpebble.h declares them for C.
-ghost use Rattle.demands.specs.Promises.{CompilesOnly, SelectsOnly, RunsOnly, ChecksPlanOnly, ChecksRecordsOnly, ChecksTextsOnly, ChecksTableOnly, TextOnly, KeyOnly, PathOnly, TalliesOnly};
+ghost use Rattle.promises_stated.specs.Promises.{CompilesOnly, SelectsOnly, RunsOnly, ChecksPlanOnly, ChecksRecordsOnly, ChecksTextsOnly, ChecksTableOnly, TextOnly, KeyOnly, PathOnly, TalliesOnly};
 ghost use mathlib.Core.Path.{_≡_};
 ghost use Rattle.table.specs.Outcomes.{reported, answered};
 ghost use Rattle.tally.specs.Counts.{tallied};
 ghost use Rattle.definition.specs.Bytes.{part};
 ghost use Rattle.definition.specs.Tables.{lowWord, highWord, keyStart, keyLength};
 ghost use Rattle.exports.specs.Outcomes.{told, Placed, addressed, compiled, ranTo, Tells};
-use address::PathWritten;
 use run::Ran;
 use select::Selection;
 use table::TableChecked;
 use table::records;
+use table_path::PathWritten;
 
 // The numbers of a check's answer: the refusal, 0 for none; the node of refusals 10 and 17, and 0 otherwise.
 fn tell_check(checked: TableChecked, node: &mut u64) -> u32

@@ -6,7 +6,7 @@ ghost use mathlib.Core.Path.{_≡_};
 ghost use Prim.Native.Nat.{_≤_};
 ghost use lib.ListN.{length};
 use compile::Compiled;
-use console::output;
+use program_console::output;
 use tally::KINDS;
 
 // Room for one byte more than a query may have: of a longer line so many bytes are taken, and the query is refused by its length all the same.
@@ -92,7 +92,7 @@ fn run(buffer: &mut [u8], line: &mut [u8], counts: &mut [u64; KINDS], plans: &mu
     let mut end = 0;
     let mut left = LINES;
     while 0 < left {
-        let next = console::input::next(buffer, at, end, line);
+        let next = program_console::input::next(buffer, at, end, line);
         if !next.found {
             return;
         }

@@ -5,8 +5,8 @@ use Prim.Native.Nat.{ℕ, zero, suc, _+_, _-_, _*_, _%_, _^_, _≤_, _<_}
 use native.Mathlib.Nat.{le-trans, le-of-eq, le-of-lt, lt-irrefl, lt-of-le-of-lt, lt-of-lt-of-le, add-mul, mul-assoc, mul-right-comm, one-mul, mul-le-mul-right, one-le-pow}
 use native.Mathlib.Omega.{arith}
 use Rattle.number_leading.specs.Leads.{above, below, Between}
-use Rattle.rounding.specs.Near.{gap}
-use Rattle.rounding.specs.Decided.{Best, decided}
+use Rattle.number_rounding.specs.Near.{gap}
+use Rattle.number_rounding.specs.Decided.{Best, decided}
 
 -- ---- y is c steps of u, and A the fraction
 

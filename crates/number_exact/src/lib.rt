@@ -2,7 +2,7 @@
 ghost use mathlib.Core.Path.{_≡_};
 ghost use Prim.Native.Nat.{_+_, _-_, _<_, _≤_};
 ghost use Rattle.number_fives.specs.Rule.{place, powers};
-ghost use Rattle.rounding.specs.Decided.{Best};
+ghost use Rattle.number_rounding.specs.Decided.{Best};
 ghost use Rattle.number_leading.specs.Leads.{above, below, Between};
 
 // The place of ten to 0 among the powers.

@@ -8,8 +8,8 @@ use native.Mathlib.Omega.{arith}
 use lib.Dec.{lit≤}
 use lib.Pow.{pow-add, pow-pos, pow-mono}
 use Rattle.number_fives.specs.Rule.{place, Leading}
-use Rattle.rounding.specs.Near.{gap}
-use Rattle.rounding.specs.Decided.{Best, decided}
+use Rattle.number_rounding.specs.Near.{gap}
+use Rattle.number_rounding.specs.Decided.{Best, decided}
 use Rattle.number_leading.specs.Leads.{Fraction, Step, Bracket, Between, above, below}
 
 -- ---- the product's leading word

@@ -3,7 +3,7 @@ use mathlib.Core.Path.{_≡_}
 use mathlib.Core.Logic.{_⊎_}
 use Prim.Native.Nat.{ℕ, _+_, _-_, _*_, _^_, _≤_, _<_}
 use Rattle.number_fives.specs.Rule.{least, place}
-use Rattle.rounding.specs.Decided.{Best}
+use Rattle.number_rounding.specs.Decided.{Best}
 use Rattle.number_leading.specs.declared.Lead.{Lead}
 use Rattle.number_leading.specs.declared.Lead.the-variants.{Sure, Unsure}
 

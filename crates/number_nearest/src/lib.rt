@@ -3,7 +3,7 @@ ghost use mathlib.Core.Path.{_≡_};
 ghost use Prim.Native.Nat.{_+_, _*_, _^_, _<_, _≤_, min};
 ghost use Rattle.number_fives.specs.Rule.{powers};
 ghost use Rattle.number_leading.specs.Leads.{above, below};
-ghost use Rattle.rounding.specs.Bits.{NearestBits, infinity};
+ghost use Rattle.number_rounding.specs.Bits.{NearestBits, infinity};
 
 // 2 ^ 52, one step of the field of the exponent.
 const FIELD: u64 = 4503599627370496;

@@ -13,31 +13,32 @@ use Rattle.definition.specs.Lexical.{Blanks}
 use Rattle.definition.specs.Grammar as G
 use Rattle.definition.specs.Grammar.{spellParen, spellBasic, spellOperator}
 use Rattle.definition.specs.Grammar.Test.{queryTest, functionTest}
-use Rattle.reading.specs.Reads.{Reads, ReadsNone, StartsNot}
-use Rattle.scan.specs.Text.{Is, Skipped, OperatorAt, operatorNumber}
-use Rattle.writing.specs.Effects.{Effect, Writer, join, seq, mark, bytes, first, verdict}
-use Rattle.writing.specs.Sorts.{Sort, sortBasic, sortParen, sortTest, sortComparable, sortFunction, valueVerdict, comparedVerdict}
-use Rattle.writing.specs.Writes.{writeParen, writeTest, writeBasic, writeComparable, notTail}
-use Rattle.levels.specs.Follow.{unblank, After}
-use Rattle.levels.specs.Numbers.{sortNumber, sortOf, isComparable}
-use Rattle.levels.specs.Pieces.{Operand, spellOperand, writeOperand, operandFlag, Side, spellSide, writeSide, BehindOf, spellBehindOf, writeBehindOf, behindOfSort, Negation, spellNegation, writeNegation}
-use Rattle.levels.specs.Pieces.Operand.{queryOperand, functionOperand}
-use Rattle.levels.specs.Pieces.Behind.{alone, compared}
-use Rattle.levels.specs.Pieces.Negation.{testNegation}
-use Rattle.items.specs.Reads.{Start, Read, Post, Put, PutMarked, next, stop}
-use Rattle.items.specs.Laws.{Moved, done-then, done-seq, done-skip, marked-done}
-use Rattle.items.specs.declared.State.{State}
-use Rattle.items.specs.declared.Step.{Step}
-use Rattle.items.specs.declared.Step.the-variants as step
-use Rattle.rules.specs.Follows.{split-blanks, after-weaken}
-use Rattle.rules.specs.So.{so-reads, so-none}
-use Rattle.rules.specs.Sorted.{sort-of}
-use Rattle.rules.specs.Joins.{plain}
-use Rattle.rules.specs.Query.{meOperand}
-use Rattle.rules.specs.Sides.{comparable-of, side-reads, side-incomparable, side-none}
-use Rattle.rules.specs.Behind.{some-allowed, compared-allowed, behind-alone, behind-literal, behind-compared, behind-none, behind-incomparable}
-use Rattle.rules.specs.Basic.{spellOperated, meOperated, operated-reads, operated-none-behind, operated-none, basic-operated, basic-paren, basic-negation, meNegation, filter-query-sort}
-use Rattle.rules.specs.Negate.{notEffect, negated, negation-paren, TestOf, test-of, negation-none, negation-reads, negation-literal}
+use Rattle.parser_follow.specs.Blanks.{split-blanks}
+use Rattle.basics.specs.Reads.{Reads, ReadsNone, StartsNot}
+use Rattle.parser_scan.specs.Text.{Is, Skipped, OperatorAt, operatorNumber}
+use Rattle.compile_writes.specs.Effects.{Effect, Writer, join, seq, mark, bytes, first, verdict}
+use Rattle.compile_writes.specs.Sorts.{Sort, sortBasic, sortParen, sortTest, sortComparable, sortFunction, valueVerdict, comparedVerdict}
+use Rattle.compile_writes.specs.Writes.{writeParen, writeTest, writeBasic, writeComparable, notTail}
+use Rattle.parser_follow.specs.Follow.{unblank, After}
+use Rattle.parser_follow.specs.Numbers.{sortNumber, sortOf, isComparable}
+use Rattle.parser_follow.specs.Pieces.{Operand, spellOperand, writeOperand, operandFlag, Side, spellSide, writeSide, BehindOf, spellBehindOf, writeBehindOf, behindOfSort, Negation, spellNegation, writeNegation}
+use Rattle.parser_follow.specs.Pieces.Operand.{queryOperand, functionOperand}
+use Rattle.parser_follow.specs.Pieces.Behind.{alone, compared}
+use Rattle.parser_follow.specs.Pieces.Negation.{testNegation}
+use Rattle.parser_items.specs.Reads.{Start, Read, Post, Put, PutMarked, next, stop}
+use Rattle.parser_items.specs.Laws.{Moved, done-then, done-seq, done-skip, marked-done}
+use Rattle.parser_items.specs.declared.State.{State}
+use Rattle.parser_items.specs.declared.Step.{Step}
+use Rattle.parser_items.specs.declared.Step.the-variants as step
+use Rattle.parser_laws.specs.Follows.{after-weaken}
+use Rattle.parser_laws.specs.So.{so-reads, so-none}
+use Rattle.parser_laws.specs.Sorted.{sort-of}
+use Rattle.parser_laws.specs.Joins.{plain}
+use Rattle.parser_laws.specs.Query.{meOperand}
+use Rattle.parser_laws.specs.Sides.{comparable-of, side-reads, side-incomparable, side-none}
+use Rattle.parser_laws.specs.Behind.{some-allowed, compared-allowed, behind-alone, behind-literal, behind-compared, behind-none, behind-incomparable}
+use Rattle.parser_laws.specs.Basic.{spellOperated, meOperated, operated-reads, operated-none-behind, operated-none, basic-operated, basic-paren, basic-negation, meNegation, filter-query-sort}
+use Rattle.parser_laws.specs.Negate.{notEffect, negated, negation-paren, TestOf, test-of, negation-none, negation-reads, negation-literal}
 use Rattle.parser.proofs.Steps.{start-moved, done-is, done-moved, post-so, stay, put-marked}
 use Rattle.parser.proofs.Operands.{reads-at, done-at, byte-then, behind-blanks, operand-then}
 

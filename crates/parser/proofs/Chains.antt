@@ -12,29 +12,30 @@ use lib.ListN.{length, drop}
 use Rattle.definition.specs.Grammar as G
 use Rattle.definition.specs.Grammar.{spellLogicalOr, spellMoreAnd, spellMoreOr, spellArgument, spellLiteral, spellOperator}
 use Rattle.definition.specs.Grammar.Argument.{literalArgument}
-use Rattle.reading.specs.Reads.{ReadsNone, StartsNot}
-use Rattle.scan.specs.Text.{hd, Is, Both, Skipped}
-use Rattle.writing.specs.Effects.{join, seq}
-use Rattle.writing.specs.Sorts.{Sort, sortOr, sortMoreAnd, sortMoreOr, sortArgument}
-use Rattle.writing.specs.Writes.{writeOr, writeMoreAnd, writeMoreOr, writeArgument}
-use Rattle.writing.specs.Sizes.{sizedMoreAnd}
-use Rattle.levels.specs.Follow.{rank, After}
-use Rattle.levels.specs.Numbers.{sortNumber, sortOf}
-use Rattle.levels.specs.Pieces.{Operand, spellOperand, writeOperand, operandFlag, spellBehindOf, writeBehindOf, behindOfSort, ChainedOf, spellChainedOf, writeChainedOf, chainedOfSort}
-use Rattle.levels.specs.Pieces.Operand.{literalOperand, queryOperand, functionOperand}
-use Rattle.items.specs.Reads.{Start, Done, Read, Post, Operates, next, stop}
-use Rattle.items.specs.Laws.{done-seq, read-of}
-use Rattle.items.specs.declared.State.{State}
-use Rattle.items.specs.declared.Step.{Step}
-use Rattle.items.specs.declared.Step.the-variants as step
-use Rattle.rules.specs.Follows.{after-weaken}
-use Rattle.rules.specs.So.{so-none}
-use Rattle.rules.specs.Sorted.{sort-of}
-use Rattle.rules.specs.Joins.{join-assoc, join-pool}
-use Rattle.rules.specs.Begins.{isOperandByte}
-use Rattle.rules.specs.Basic.{query-some, function-some}
-use Rattle.rules.specs.Behind.{operator-rank}
-use Rattle.rules.specs.Argument.{argument-logical, chained-reads, chained-none-or, chained-none-and, chained-none, spellChain, meChain, argument-chain, chain-reads, chain-none-rest, chain-none, no-literal-flag, no-literal-operator, argument-literal}
+use Rattle.compile_writes.specs.Laws.{effect-assoc}
+use Rattle.basics.specs.Reads.{ReadsNone, StartsNot}
+use Rattle.parser_scan.specs.Text.{hd, Is, Both, Skipped}
+use Rattle.compile_writes.specs.Effects.{join, seq}
+use Rattle.compile_writes.specs.Sorts.{Sort, sortOr, sortMoreAnd, sortMoreOr, sortArgument}
+use Rattle.compile_writes.specs.Writes.{writeOr, writeMoreAnd, writeMoreOr, writeArgument}
+use Rattle.compile_writes.specs.Sizes.{sizedMoreAnd}
+use Rattle.parser_follow.specs.Follow.{rank, After}
+use Rattle.parser_follow.specs.Numbers.{sortNumber, sortOf}
+use Rattle.parser_follow.specs.Pieces.{Operand, spellOperand, writeOperand, operandFlag, spellBehindOf, writeBehindOf, behindOfSort, ChainedOf, spellChainedOf, writeChainedOf, chainedOfSort}
+use Rattle.parser_follow.specs.Pieces.Operand.{literalOperand, queryOperand, functionOperand}
+use Rattle.parser_items.specs.Reads.{Start, Done, Read, Post, Operates, next, stop}
+use Rattle.parser_items.specs.Laws.{done-seq, read-of}
+use Rattle.parser_items.specs.declared.State.{State}
+use Rattle.parser_items.specs.declared.Step.{Step}
+use Rattle.parser_items.specs.declared.Step.the-variants as step
+use Rattle.parser_laws.specs.Follows.{after-weaken}
+use Rattle.parser_laws.specs.So.{so-none}
+use Rattle.parser_laws.specs.Sorted.{sort-of}
+use Rattle.parser_laws.specs.Joins.{join-pool}
+use Rattle.parser_laws.specs.Begins.{isOperandByte}
+use Rattle.parser_laws.specs.Basic.{query-some, function-some}
+use Rattle.parser_laws.specs.Behind.{operator-rank}
+use Rattle.parser_laws.specs.Argument.{argument-logical, chained-reads, chained-none-or, chained-none-and, chained-none, spellChain, meChain, argument-chain, chain-reads, chain-none-rest, chain-none, no-literal-flag, no-literal-operator, argument-literal}
 use Rattle.parser.proofs.Steps.{start-read, done-is, post-so, stay}
 use Rattle.parser.proofs.Basics.{behind-nothing}
 use Rattle.parser.proofs.Logic.{and-loop, and-end, or-loop, or-end}
@@ -132,7 +133,7 @@ chain-writes p x y =
     let d = writeBehindOf (operandFlag x) (y .head) (p + length (e .pool)) in
     let σ = sortOf (behindOfSort (operandFlag x) (y .head)) in
     let q : p + length (join e d .pool) ≡ p + length (e .pool) + length (d .pool) = ap (λ n. p + n) (join-pool e d) ∙ sym (add-assoc p (length (e .pool)) (length (d .pool))) in
-    ap (λ n. join (join e d) (join (writeMoreAnd (y .ands) σ false n) (writeMoreOr (y .ors) (sortMoreAnd (y .ands) σ) false (n + length (writeMoreAnd (y .ands) σ false n .pool))))) q ∙ join-assoc e d _
+    ap (λ n. join (join e d) (join (writeMoreAnd (y .ands) σ false n) (writeMoreOr (y .ors) (sortMoreAnd (y .ands) σ) false (n + length (writeMoreAnd (y .ands) σ false n .pool))))) q ∙ effect-assoc e d _
 
 -- where neither a parenthesis nor a negation stands: an operand with what stands behind it
 module _ {s : List ℕ} {a : State} (u : Is s (a .at) 0x28 false) (v : Is s (a .at) 0x21 false) where

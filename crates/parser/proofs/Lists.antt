@@ -17,26 +17,26 @@ use Rattle.definition.specs.Grammar.Bracketed.{bracketed}
 use Rattle.definition.specs.Grammar.Selector.{nameSelector, wildcardSelector, sliceSelector, indexSelector, filterSelector}
 use Rattle.definition.specs.Grammar.Selectors.{noSelector, moreSelectors}
 use Rattle.definition.specs.Plans.{two}
-use Rattle.reading.specs.Reads.{Reads, ReadsNone, Wrote}
-use Rattle.utf8.specs.Bytes.{by-test}
-use Rattle.utf8.specs.Encode.{utf8-ascii}
-use Rattle.writing.specs.Effects.{Effect, join, skip, counted}
-use Rattle.writing.specs.Sorts.{isEmpty}
-use Rattle.writing.specs.Spellings.{text-shrinks, int-spends, slice-spends}
-use Rattle.writing.specs.Sizes.{sizedSelector, sizedOr}
-use Rattle.writing.specs.Writes.{writeSelectors, writeSelector, countMore}
-use Rattle.levels.specs.Follow.{unblank, After}
-use Rattle.levels.specs.Numbers.{plainFlag, bracketedFlag, writeSelection, bracketsNumber}
-use Rattle.scan.specs.Text.{Is, Skipped}
-use Rattle.items.specs.Reads.{Start, Done, Post, LooseRead, LoosePost, Put, next, stop}
-use Rattle.items.specs.Laws.{Moved, done-then, done-counted, moved-done, start-go, done-plan, done-pool}
-use Rattle.items.specs.declared.State.{State}
-use Rattle.items.specs.declared.Step.the-variants as step
-use Rattle.rules.specs.Follows.{split-blanks}
-use Rattle.rules.specs.Rep.{behind}
-use Rattle.rules.specs.Loose.{Loosely, Exactly}
-use Rattle.rules.specs.Selectors.{meSelector, meSelectors, Left, left-more, left-end, left-none}
-use Rattle.rules.specs.Brackets.{meBracketed, spellPicked, mePicked, picked-reads, picked-exactly, picked-none, picked-none-more, bracketed-none, bracketed-open, bracketed-reads, brackets-mean, no-more}
+use Rattle.parser_follow.specs.Blanks.{split-blanks}
+use Rattle.basics.specs.Reads.{Reads, ReadsNone, Wrote}
+use Rattle.utf8_laws.specs.Bytes.{by-test}
+use Rattle.utf8_laws.specs.Encode.{utf8-ascii}
+use Rattle.compile_writes.specs.Effects.{Effect, join, skip, counted}
+use Rattle.compile_writes.specs.Sorts.{isEmpty}
+use Rattle.compile_writes.specs.Spellings.{text-shrinks, int-spends, slice-spends}
+use Rattle.compile_writes.specs.Sizes.{sizedSelector, sizedOr}
+use Rattle.compile_writes.specs.Writes.{writeSelectors, writeSelector, countMore}
+use Rattle.parser_follow.specs.Follow.{unblank, After}
+use Rattle.parser_follow.specs.Numbers.{plainFlag, bracketedFlag, writeSelection, bracketsNumber}
+use Rattle.parser_scan.specs.Text.{Is, Skipped}
+use Rattle.parser_items.specs.Reads.{Start, Done, Post, LooseRead, LoosePost, Put, next, stop}
+use Rattle.parser_items.specs.Laws.{Moved, done-then, done-counted, moved-done, start-go, done-plan, done-pool}
+use Rattle.parser_items.specs.declared.State.{State}
+use Rattle.parser_items.specs.declared.Step.the-variants as step
+use Rattle.parser_laws.specs.Rep.{behind}
+use Rattle.parser_laws.specs.Loose.{Loosely, Exactly}
+use Rattle.parser_laws.specs.Selectors.{meSelector, meSelectors, Left, left-more, left-end, left-none}
+use Rattle.parser_laws.specs.Brackets.{meBracketed, spellPicked, mePicked, picked-reads, picked-exactly, picked-none, picked-none-more, bracketed-none, bracketed-open, bracketed-reads, brackets-mean, no-more}
 use Rattle.parser.proofs.Steps.{start-moved, start-put, loose-spent, done-is, done-moved, empty, none-join, join-then, join-empty, done-none}
 use Rattle.parser.proofs.Picks.{none-moved}
 

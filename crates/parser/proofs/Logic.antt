@@ -19,35 +19,36 @@ use Rattle.definition.specs.Grammar.MoreAnd.{noAnd}
 use Rattle.definition.specs.Grammar.Paren.{paren}
 use Rattle.definition.specs.Grammar.Arguments.{noArgument, arguments}
 use Rattle.definition.specs.Grammar.MoreArguments.{noMore}
-use Rattle.reading.specs.Reads.{Reads, ReadsNone, Wrote}
-use Rattle.utf8.specs.Bytes.{by-test}
-use Rattle.utf8.specs.Encode.{utf8-ascii}
-use Rattle.writing.specs.Effects.{Marks, joinMarks, Effect, Writer, join, seq, mark, bytes, skip}
-use Rattle.writing.specs.Sorts.{Sort, sortMoreOr, sortMoreAnd, sortOr, sortAnd, sortBasic, sortParen, sortArgument, sortsOf, sortsMore, comparedVerdict, callVerdict, namedSort}
-use Rattle.writing.specs.Sorts.Sort.{literalSort, singularSort, nodesSort, valueSort, logicalSort}
-use Rattle.writing.specs.Writes.{writeOr, writeMoreOr, writeAnd, writeMoreAnd, writeBasic, writeParen, writeArguments, writeMoreArguments, writeArgument, testTail, callBytes}
-use Rattle.writing.specs.Sizes.{sizedBasic, sizedAnd, sizedArgument, sizedArguments}
-use Rattle.levels.specs.Follow.{unblank, After}
-use Rattle.levels.specs.Numbers.{argumentsFrom}
-use Rattle.levels.specs.Pieces.{Call, spellCall, writeCall, callSort}
-use Rattle.scan.proofs.Runs.{drop-at}
-use Rattle.scan.specs.Text.{Skipped, Is, Both}
-use Rattle.items.specs.Reads.{marksOf, Start, Done, Read, Post, Put, PutMarked, Opens, Room, Known, sortNumber, sortOf, oneMore, nameOf, callMarks, sortsFrom, next, stop}
-use Rattle.items.specs.Laws.{Moved, done-then, done-seq, done-skip, done-plan, moved-done, marked-done, join-assoc, start-less, unblank-twice}
-use Rattle.items.specs.declared.State.{State}
-use Rattle.items.specs.declared.Step.{Step}
-use Rattle.items.specs.declared.Step.the-variants as step
-use Rattle.rules.specs.Follows.{split-blanks}
-use Rattle.rules.specs.Joins.{plain, marked, within}
-use Rattle.rules.specs.Sorted.{sort-of}
-use Rattle.rules.specs.And.{meBasic, meAnd, meMoreAnd, and-reads, and-none-rest, write-and, sort-and}
-use Rattle.rules.specs.Or.{meMoreOr, or-reads, or-none-rest, write-or, sort-or}
-use Rattle.rules.specs.MoreAnd.{ands, andDoes}
-use Rattle.rules.specs.MoreOr.{ors, orDoes}
-use Rattle.rules.specs.Paren.{meParen, paren-means, paren-reads, paren-none, paren-open}
-use Rattle.rules.specs.Arguments.{meArguments, meMoreArguments, furthers, arguments-end, arguments-reads, arguments-none-more}
-use Rattle.rules.specs.Call.{verdict-told, call-reads, call-open, call-none}
-use Rattle.rules.specs.Words.{meCall}
+use Rattle.parser_follow.specs.Blanks.{split-blanks}
+use Rattle.compile_writes.specs.Laws.{effect-assoc}
+use Rattle.basics.specs.Lists.{drop-at}
+use Rattle.basics.specs.Reads.{Reads, ReadsNone, Wrote}
+use Rattle.utf8_laws.specs.Bytes.{by-test}
+use Rattle.utf8_laws.specs.Encode.{utf8-ascii}
+use Rattle.compile_writes.specs.Effects.{Marks, joinMarks, Effect, Writer, join, seq, mark, bytes, skip}
+use Rattle.compile_writes.specs.Sorts.{Sort, sortMoreOr, sortMoreAnd, sortOr, sortAnd, sortBasic, sortParen, sortArgument, sortsOf, sortsMore, comparedVerdict, callVerdict, namedSort}
+use Rattle.compile_writes.specs.Sorts.Sort.{literalSort, singularSort, nodesSort, valueSort, logicalSort}
+use Rattle.compile_writes.specs.Writes.{writeOr, writeMoreOr, writeAnd, writeMoreAnd, writeBasic, writeParen, writeArguments, writeMoreArguments, writeArgument, testTail, callBytes}
+use Rattle.compile_writes.specs.Sizes.{sizedBasic, sizedAnd, sizedArgument, sizedArguments}
+use Rattle.parser_follow.specs.Follow.{unblank, After}
+use Rattle.parser_follow.specs.Numbers.{argumentsFrom}
+use Rattle.parser_follow.specs.Pieces.{Call, spellCall, writeCall, callSort}
+use Rattle.parser_scan.specs.Text.{Skipped, Is, Both}
+use Rattle.parser_items.specs.Reads.{marksOf, Start, Done, Read, Post, Put, PutMarked, Opens, Room, Known, sortNumber, sortOf, oneMore, nameOf, callMarks, sortsFrom, next, stop}
+use Rattle.parser_items.specs.Laws.{Moved, done-then, done-seq, done-skip, done-plan, moved-done, marked-done, start-less, unblank-twice}
+use Rattle.parser_items.specs.declared.State.{State}
+use Rattle.parser_items.specs.declared.Step.{Step}
+use Rattle.parser_items.specs.declared.Step.the-variants as step
+use Rattle.parser_laws.specs.Joins.{plain, marked, within}
+use Rattle.parser_laws.specs.Sorted.{sort-of}
+use Rattle.parser_laws.specs.And.{meBasic, meAnd, meMoreAnd, and-reads, and-none-rest, write-and, sort-and}
+use Rattle.parser_laws.specs.Or.{meMoreOr, or-reads, or-none-rest, write-or, sort-or}
+use Rattle.parser_laws.specs.MoreAnd.{ands, andDoes}
+use Rattle.parser_laws.specs.MoreOr.{ors, orDoes}
+use Rattle.parser_laws.specs.Paren.{meParen, paren-means, paren-reads, paren-none, paren-open}
+use Rattle.parser_laws.specs.Arguments.{meArguments, meMoreArguments, furthers, arguments-end, arguments-reads, arguments-none-more}
+use Rattle.parser_laws.specs.Call.{verdict-told, call-reads, call-open, call-none}
+use Rattle.parser_laws.specs.Words.{meCall}
 use Rattle.parser.proofs.Steps.{start-moved, start-skipped, start-put, start-read, done-is, done-moved, Loop, loop-start, loop-more, loop-end, loop-none, put-plain, judged-marked, done-within, empty}
 
 -- ---- room
@@ -285,7 +286,7 @@ module _ {sort kind : ℕ} {asked : Bool} {s P P' Q Q' : List ℕ} {a b : State}
         let i : G.Basic = h .tree in
         let d = framed-done r (h .done) p w in
         let g : Done P' P₅ Q' L' b o (join (plain (testTail (sortOf kind))) (join (within 22 (join (writeBasic i (hd .pool)) (plain (testTail (sortOf f))))) (marked (judgement v)))) =
-        done-is (sym (join-assoc (plain (testTail (sortOf kind))) (within 22 (join (writeBasic i (hd .pool)) (plain (testTail (sortOf f))))) (marked (judgement v)))) (done-then d (judged-marked (judgement v) j k)) in
+        done-is (sym (effect-assoc (plain (testTail (sortOf kind))) (within 22 (join (writeBasic i (hd .pool)) (plain (testTail (sortOf f))))) (marked (judgement v)))) (done-then d (judged-marked (judgement v) j k)) in
         let q : andDoes asked (sortOf kind) (meBasic (b .pool) i) ≡ join (plain (testTail (sortOf kind))) (join (within 22 (join (writeBasic i (hd .pool)) (plain (testTail (sortOf f))))) (marked (judgement v))) =
         rw (e, h .flag, r .pool) refl in
         let s₁ : Start 24 s P₄ L' m = start-tailed (sortOf f) (and-behind h) p in

@@ -13,28 +13,28 @@ use Rattle.definition.specs.Grammar.{spellSegments, spellParen, spellOperator, 
 use Rattle.definition.specs.Grammar.FilterQuery.{relQuery, absQuery}
 use Rattle.definition.specs.Walk.{Named, named}
 use Rattle.definition.specs.Walk.Named.{count, valueName, match, search, unknown}
-use Rattle.utf8.specs.Encode.{utf8-ascii}
-use Rattle.reading.specs.Reads.{Reads, ReadsNone, StartsNot}
-use Rattle.scan.specs.Text.{Is, Skipped, WordAt, operatorNumber, namedNumber}
-use Rattle.writing.specs.Effects.{Effect, Writer, join, seq, mark, bytes, skip}
-use Rattle.writing.specs.Sorts.{Sort, singularSegments, tightSegments, querySort, sortParen, sortFunction}
-use Rattle.writing.specs.Sorts.Sort.{literalSort, singularSort, nodesSort, valueSort, logicalSort}
-use Rattle.writing.specs.Writes.{writeFrom, writeSegments, writeParen, writeComparable}
-use Rattle.writing.specs.Spellings.{operator-spends}
-use Rattle.writing.specs.Sizes.{Sized, sizedLiteral, sizedFilterQuery, sizedFunction, sizedComparable, sizedParen, sizedSegments}
-use Rattle.levels.specs.Follow.{unblank, After}
-use Rattle.levels.specs.Numbers.{sortNumber, sortOf, segmentsFlag, pathNumber, flagOfPath, nameOf, noFlag, Known}
-use Rattle.levels.specs.Leaves.{spellConstant, writeConstant, spellKeyword, writeKeyword}
-use Rattle.levels.specs.Pieces.{Operand, spellOperand, writeOperand, operandFlag, queryFlag, Side, spellSide, writeSide, Behind, spellBehind, writeBehind, BehindOf, spellBehindOf, writeBehindOf, behindOfSort, spellCall, writeCall, callSort}
-use Rattle.levels.specs.Pieces.Operand.{literalOperand, queryOperand, functionOperand}
-use Rattle.levels.specs.Pieces.Behind.{alone, compared}
-use Rattle.items.specs.Reads.{Start, Done, Read, Post, Put, Opens, Room, next, stop}
-use Rattle.items.specs.Laws.{Moved, done-then, start-go, start-room}
-use Rattle.items.specs.declared.State.{State}
-use Rattle.items.specs.declared.Step.{Step}
-use Rattle.items.specs.declared.Step.the-variants as step
-use Rattle.rules.specs.Query.{queryEffect, query-means, operand-current, operand-root}
-use Rattle.rules.specs.Words.{operand-call, operand-keyword, operand-constant}
+use Rattle.utf8_laws.specs.Encode.{utf8-ascii}
+use Rattle.basics.specs.Reads.{Reads, ReadsNone, StartsNot}
+use Rattle.parser_scan.specs.Text.{Is, Skipped, WordAt, operatorNumber, namedNumber}
+use Rattle.compile_writes.specs.Effects.{Effect, Writer, join, seq, mark, bytes, skip}
+use Rattle.compile_writes.specs.Sorts.{Sort, singularSegments, tightSegments, querySort, sortParen, sortFunction}
+use Rattle.compile_writes.specs.Sorts.Sort.{literalSort, singularSort, nodesSort, valueSort, logicalSort}
+use Rattle.compile_writes.specs.Writes.{writeFrom, writeSegments, writeParen, writeComparable}
+use Rattle.compile_writes.specs.Spellings.{operator-spends}
+use Rattle.compile_writes.specs.Sizes.{Sized, sizedLiteral, sizedFilterQuery, sizedFunction, sizedComparable, sizedParen, sizedSegments}
+use Rattle.parser_follow.specs.Follow.{unblank, After}
+use Rattle.parser_follow.specs.Numbers.{sortNumber, sortOf, segmentsFlag, pathNumber, flagOfPath, nameOf, noFlag, Known}
+use Rattle.parser_follow.specs.Leaves.{spellConstant, writeConstant, spellKeyword, writeKeyword}
+use Rattle.parser_follow.specs.Pieces.{Operand, spellOperand, writeOperand, operandFlag, queryFlag, Side, spellSide, writeSide, Behind, spellBehind, writeBehind, BehindOf, spellBehindOf, writeBehindOf, behindOfSort, spellCall, writeCall, callSort}
+use Rattle.parser_follow.specs.Pieces.Operand.{literalOperand, queryOperand, functionOperand}
+use Rattle.parser_follow.specs.Pieces.Behind.{alone, compared}
+use Rattle.parser_items.specs.Reads.{Start, Done, Read, Post, Put, Opens, Room, next, stop}
+use Rattle.parser_items.specs.Laws.{Moved, done-then, start-go, start-room}
+use Rattle.parser_items.specs.declared.State.{State}
+use Rattle.parser_items.specs.declared.Step.{Step}
+use Rattle.parser_items.specs.declared.Step.the-variants as step
+use Rattle.parser_laws.specs.Query.{queryEffect, query-means, operand-current, operand-root}
+use Rattle.parser_laws.specs.Words.{operand-call, operand-keyword, operand-constant}
 use Rattle.parser.proofs.Steps.{start-moved, start-read, done-is, post-so, stay, put-plain}
 
 -- ---- numbers that are told

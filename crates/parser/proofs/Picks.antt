@@ -12,33 +12,33 @@ use Rattle.definition.specs.Grammar.{spellLogicalOr, spellSegments, spellSegmen
 use Rattle.definition.specs.Grammar.Segment.{childBrackets, childWild, childName, descendantBrackets, descendantWild, descendantName}
 use Rattle.definition.specs.Grammar.Segments.{noSegment}
 use Rattle.definition.specs.Plans.{two}
-use Rattle.reading.specs.Reads.{Reads, ReadsNone, StartsNot, Wrote}
-use Rattle.utf8.specs.Encode.{utf8-ascii}
-use Rattle.writing.specs.Effects.{Effect, Writer, join, skip, bytes, counted}
-use Rattle.writing.specs.Sorts.{Sort, sortOr, singularSegments, tightSegments}
-use Rattle.writing.specs.Sorts.Sort.{literalSort, singularSort, nodesSort, valueSort, logicalSort}
-use Rattle.writing.specs.Sizes.{sizedSegment, sizedOr}
-use Rattle.writing.specs.Writes.{writeOr, testTail, writeSegments, writeSegment, writeSelector}
-use Rattle.levels.specs.Follow.{hd, unblank, After}
-use Rattle.levels.specs.Numbers.{sortNumber, sortOf, Known, pathNumber, segmentsFlag, segmentFlag, plainFlag, bracketedFlag, noFlag, writeSelection}
-use Rattle.levels.specs.Leaves.{spellDotted, writeDotted, dottedFlag, spellPlain, writePlain, isPlain}
-use Rattle.levels.specs.Pieces.{Filter, spellFilter, writeFilter}
-use Rattle.scan.specs.Text.{Is, Both, Has, Skipped}
-use Rattle.items.specs.Reads.{Start, Done, Read, Post, LoosePost, Put, next, stop, low, isSegmentByte}
-use Rattle.items.specs.Laws.{Moved, done-then, post-low, post-loose}
-use Rattle.items.specs.declared.State.{State}
-use Rattle.items.specs.declared.Step.{Step}
-use Rattle.items.specs.declared.Step.the-variants as step
-use Rattle.rules.specs.So.{So, so-none}
-use Rattle.rules.specs.Rep.{behind}
-use Rattle.rules.specs.Segment.{meSegment, lowered, segment-no-dot, segment-dot, segment-dots-brackets, segment-dots}
-use Rattle.rules.specs.Segments.{meSegments, segments-more, segments-end, segments-none}
-use Rattle.rules.specs.Joins.{plain, within}
-use Rattle.rules.specs.Follows.{split-blanks}
-use Rattle.rules.specs.Sorted.{sort-of}
-use Rattle.rules.specs.Or.{meOr}
-use Rattle.rules.specs.Filter.{filter-reads, filter-none, filter-writes, mePlain, selector-filter, selector-plain}
-use Rattle.rules.specs.Selectors.{meSelector}
+use Rattle.parser_follow.specs.Blanks.{split-blanks}
+use Rattle.basics.specs.Reads.{Reads, ReadsNone, StartsNot, Wrote}
+use Rattle.utf8_laws.specs.Encode.{utf8-ascii}
+use Rattle.compile_writes.specs.Effects.{Effect, Writer, join, skip, bytes, counted}
+use Rattle.compile_writes.specs.Sorts.{Sort, sortOr, singularSegments, tightSegments}
+use Rattle.compile_writes.specs.Sorts.Sort.{literalSort, singularSort, nodesSort, valueSort, logicalSort}
+use Rattle.compile_writes.specs.Sizes.{sizedSegment, sizedOr}
+use Rattle.compile_writes.specs.Writes.{writeOr, testTail, writeSegments, writeSegment, writeSelector}
+use Rattle.parser_follow.specs.Follow.{hd, unblank, After}
+use Rattle.parser_follow.specs.Numbers.{sortNumber, sortOf, Known, pathNumber, segmentsFlag, segmentFlag, plainFlag, bracketedFlag, noFlag, writeSelection}
+use Rattle.parser_follow.specs.Leaves.{spellDotted, writeDotted, dottedFlag, spellPlain, writePlain, isPlain}
+use Rattle.parser_follow.specs.Pieces.{Filter, spellFilter, writeFilter}
+use Rattle.parser_scan.specs.Text.{Is, Both, Has, Skipped}
+use Rattle.parser_items.specs.Reads.{Start, Done, Read, Post, LoosePost, Put, next, stop, low, isSegmentByte}
+use Rattle.parser_items.specs.Laws.{Moved, done-then, post-low, post-loose}
+use Rattle.parser_items.specs.declared.State.{State}
+use Rattle.parser_items.specs.declared.Step.{Step}
+use Rattle.parser_items.specs.declared.Step.the-variants as step
+use Rattle.parser_laws.specs.So.{So, so-none}
+use Rattle.parser_laws.specs.Rep.{behind}
+use Rattle.parser_laws.specs.Segment.{meSegment, lowered, segment-no-dot, segment-dot, segment-dots-brackets, segment-dots}
+use Rattle.parser_laws.specs.Segments.{meSegments, segments-more, segments-end, segments-none}
+use Rattle.parser_laws.specs.Joins.{plain, within}
+use Rattle.parser_laws.specs.Sorted.{sort-of}
+use Rattle.parser_laws.specs.Or.{meOr}
+use Rattle.parser_laws.specs.Filter.{filter-reads, filter-none, filter-writes, mePlain, selector-filter, selector-plain}
+use Rattle.parser_laws.specs.Selectors.{meSelector}
 use Rattle.parser.proofs.Steps.{put-plain, done-within, start-put, start-moved, start-skipped, start-read, read-spent, done-is, done-moved, post-so, stay, Loop, empty, loop-start, join-then, join-empty, so-act}
 
 -- ---- a tree that was read from a later place

@@ -8,19 +8,20 @@ use lib.ListN.{length, drop, length-drop}
 use lib.Seq.{length-sets}
 use Rattle.definition.specs.Utf8.{isUtf8}
 use Rattle.definition.specs.Plans.{two}
-use Rattle.reading.specs.Reads.{Reads, ReadsNone, Wrote}
-use Rattle.writing.specs.Effects.{Marks, Effect, Writer, noMarks, joinMarks, join, seq, bytes, mark, frame}
-use Rattle.writing.specs.Sizes.{Sized}
-use Rattle.levels.specs.Follow.{unblank, After}
-use Rattle.scan.specs.Text.{Skipped}
-use Rattle.items.specs.Reads.{marksAt, marksOf, Start, Done, Read, Post, LooseRead, Put, PutMarked, next, stop}
-use Rattle.items.specs.Laws.{Moved, done-then, done-from, start-go, after-weaken, join-none, join-noMarks, join-assoc, put-done, mark-done, marked-done, done-frame}
-use Rattle.items.specs.declared.State.{State}
-use Rattle.items.specs.declared.Step.{Step}
-use Rattle.rules.specs.So.{So, so-reads, so-none}
-use Rattle.rules.specs.Rep.{Rep, behind, rep-more, rep-end, rep-none}
-use Rattle.rules.specs.Joins.{plain, marked, within}
-use Rattle.rules.specs.Loose.{Loosely}
+use Rattle.compile_writes.specs.Laws.{effect-assoc, join-none as join-noMarks}
+use Rattle.basics.specs.Reads.{Reads, ReadsNone, Wrote}
+use Rattle.compile_writes.specs.Effects.{Marks, Effect, Writer, noMarks, joinMarks, join, seq, bytes, mark, frame}
+use Rattle.compile_writes.specs.Sizes.{Sized}
+use Rattle.parser_follow.specs.Follow.{unblank, After}
+use Rattle.parser_scan.specs.Text.{Skipped}
+use Rattle.parser_items.specs.Reads.{marksAt, marksOf, Start, Done, Read, Post, LooseRead, Put, PutMarked, next, stop}
+use Rattle.parser_items.specs.Laws.{Moved, done-then, done-from, start-go, after-weaken, join-none, put-done, mark-done, marked-done, done-frame}
+use Rattle.parser_items.specs.declared.State.{State}
+use Rattle.parser_items.specs.declared.Step.{Step}
+use Rattle.parser_laws.specs.So.{So, so-reads, so-none}
+use Rattle.parser_laws.specs.Rep.{Rep, behind, rep-more, rep-end, rep-none}
+use Rattle.parser_laws.specs.Joins.{plain, marked, within}
+use Rattle.parser_laws.specs.Loose.{Loosely}
 
 -- ---- room
 
@@ -144,7 +145,7 @@ unfolding join
 none-join m = rw (join-none (m .0 .marks))
 
 pub join-then : (e d : Effect) (m : Effect × ℕ) → behind e (behind d m) ≡ behind (join e d) m
-join-then e d m = ap (λ (x : Effect). (x, m .1)) (sym (join-assoc e d (m .0)))
+join-then e d m = ap (λ (x : Effect). (x, m .1)) (sym (effect-assoc e d (m .0)))
 
 -- what is known may be said in another way
 pub so-act : {T U M N : Type 0} {spT : T → List ℕ → List ℕ} {meT : T → M} {spU : U → List ℕ → List ℕ} {meU : U → N} {May : List ℕ → Type 0} {s₀ s : List ℕ} (act act' : N → M) → ((m : N) → act m ≡ act' m) → So spT meT spU meU May s₀ s act → So spT meT spU meU May s₀ s act'

@@ -3,46 +3,47 @@
 // Each function reads at the state's place, writes what it reads, and answers the state behind it or the place where reading stopped.
 ghost use mathlib.Core.Path.{_≡_};
 ghost use Rattle.definition.specs.Grammar.{spellSegments, spellSegment, spellBracketed, spellSelectors, spellSelector, spellLogicalOr, spellMoreOr, spellLogicalAnd, spellMoreAnd, spellBasic, spellParen, spellArguments, spellMoreArguments, spellArgument};
-ghost use Rattle.writing.specs.Sorts.{sortMoreOr, sortMoreAnd, sortOr, sortAnd, sortBasic, sortParen, sortArgument, sortsOf, sortsMore};
-ghost use Rattle.writing.specs.Writes.{writeSegments, writeSegment, writeSelectors, writeSelector, writeOr, writeMoreOr, writeAnd, writeMoreAnd, writeBasic, writeParen, writeArguments, writeMoreArguments, writeArgument, writeFrom, countMore};
+ghost use Rattle.compile_writes.specs.Sorts.{sortMoreOr, sortMoreAnd, sortOr, sortAnd, sortBasic, sortParen, sortArgument, sortsOf, sortsMore};
+ghost use Rattle.compile_writes.specs.Writes.{writeSegments, writeSegment, writeSelectors, writeSelector, writeOr, writeMoreOr, writeAnd, writeMoreAnd, writeBasic, writeParen, writeArguments, writeMoreArguments, writeArgument, writeFrom, countMore};
 ghost use Prim.Native.Nat.{_≤_};
 ghost use lib.ListN.{drop};
-ghost use Rattle.levels.specs.Follow.{unblank};
-ghost use Rattle.items.specs.Reads.{Start, Post, LoosePost, noFlag, sortNumber, sortOf, segmentsFlag, segmentFlag, bracketedFlag, plainFlag, argumentsFrom, writeSelection, Known, Opens};
-ghost use Rattle.levels.specs.Pieces.{spellFilter, writeFilter, spellNegation, writeNegation, spellBehindOf, writeBehindOf, behindOfSort, spellSide, writeSide, spellOperand, writeOperand, operandFlag, queryFlag, spellCall, writeCall, callSort, spellChainedOf, writeChainedOf, chainedOfSort};
-use items::State;
-use items::Step;
-use items::begins_operator;
-use items::begins_segment;
-use items::brackets_flag;
-use items::call_sort;
-use items::comparable;
-use items::compared;
-use items::item;
-use items::judged;
-use items::least;
-use items::lowered;
-use items::moved;
-use items::not_tail;
-use items::one_more;
-use items::opened;
-use items::plain_sort;
-use items::query_flag;
-use items::test_tail;
-use items::write_call;
-use items::write_compare;
-use items::write_dotted;
-use items::write_keyword;
-use items::write_literal;
-use items::write_selector;
-use scan::End;
-use scan::Sign;
-use scan::both;
-use scan::is;
-use scan::named_at;
-use scan::read_operator;
-use scan::read_word;
-use scan::skip_blanks;
+ghost use Rattle.parser_follow.specs.Follow.{unblank};
+ghost use Rattle.parser_items.specs.Reads.{Start, Post, LoosePost, noFlag, sortNumber, sortOf, segmentsFlag, segmentFlag, bracketedFlag, plainFlag, argumentsFrom, writeSelection, Known, Opens};
+ghost use Rattle.parser_follow.specs.Pieces.{spellFilter, writeFilter, spellNegation, writeNegation, spellBehindOf, writeBehindOf, behindOfSort, spellSide, writeSide, spellOperand, writeOperand, operandFlag, queryFlag, spellCall, writeCall, callSort, spellChainedOf, writeChainedOf, chainedOfSort};
+use parser_items::State;
+use parser_items::Step;
+use parser_items::begins_operator;
+use parser_items::begins_segment;
+use parser_items::brackets_flag;
+use parser_items::call_sort;
+use parser_items::comparable;
+use parser_items::compared;
+use parser_items::item;
+use parser_items::judged;
+use parser_items::least;
+use parser_items::lowered;
+use parser_items::moved;
+use parser_items::not_tail;
+use parser_items::one_more;
+use parser_items::opened;
+use parser_items::plain_sort;
+use parser_items::query_flag;
+use parser_items::test_tail;
+use parser_items::write_call;
+use parser_items::write_compare;
+use parser_items::write_dotted;
+use parser_items::write_keyword;
+use parser_items::write_literal;
+use parser_items::write_selector;
+use parser_scan::End;
+use parser_scan::Sign;
+use parser_scan::both;
+use parser_scan::is;
+use parser_scan::named_at;
+use parser_scan::read_operator;
+use parser_scan::read_word;
+use parser_scan::skip_blanks;
+use plan_format::kinds;
 use text::bytes::put16;
 
 // segments = *( S segment ); tells whether all of them are those of a singular query
@@ -74,17 +75,17 @@ fn segment(s: &[u8], plan: &mut [u8], pool: &mut [u8], st: State) -> Step
     ensures { λ r. ⌜ Post spellSegment writeSegment segmentFlag 0 (now (s .entry)) (now (plan .entry)) (now (plan .exit)) (now (pool .entry)) (now (pool .exit)) st r ⌝ }
 {
     let at = st.at;
-    if both(s, at, 46, 46) {
+    if both(s, at, b'.', b'.') {
         let a = at + 2;
-        if is(s, a, 91) {
-            return lowered(bracketed(s, plan, pool, moved(st, a), 4));
+        if is(s, a, b'[') {
+            return lowered(bracketed(s, plan, pool, moved(st, a), kinds::DESCENDANT));
         }
-        return lowered(write_dotted(s, plan, pool, moved(st, a), 4));
+        return lowered(write_dotted(s, plan, pool, moved(st, a), kinds::DESCENDANT));
     }
-    if is(s, at, 46) {
-        return write_dotted(s, plan, pool, moved(st, at + 1), 3);
+    if is(s, at, b'.') {
+        return write_dotted(s, plan, pool, moved(st, at + 1), kinds::CHILD);
     }
-    bracketed(s, plan, pool, st, 3)
+    bracketed(s, plan, pool, st, kinds::CHILD)
 }
 
 // bracketed-selection = "[" S selector *( S "," S selector ) S "]", of a segment of the given kind
@@ -93,7 +94,7 @@ fn bracketed(s: &[u8], plan: &mut [u8], pool: &mut [u8], st: State, kind: u8) ->
     ensures { λ r. ⌜ Post spellBracketed (writeSelection kind) bracketedFlag 0 (now (s .entry)) (now (plan .entry)) (now (plan .exit)) (now (pool .entry)) (now (pool .exit)) st r ⌝ }
 {
     let at = st.at;
-    if !is(s, at, 91) {
+    if !is(s, at, b'[') {
         return Step::Stop(at);
     }
     let a = skip_blanks(s, at + 1);
@@ -108,7 +109,7 @@ fn bracketed(s: &[u8], plan: &mut [u8], pool: &mut [u8], st: State, kind: u8) ->
     };
     let b = m.at;
     let e = skip_blanks(s, b);
-    if !is(s, e, 93) {
+    if !is(s, e, b']') {
         return Step::Stop(e);
     }
     let len = st.len;
@@ -129,7 +130,7 @@ fn selectors(s: &[u8], plan: &mut [u8], pool: &mut [u8], st: State) -> Step
     loop {
         let here = now.at;
         let a = skip_blanks(s, here);
-        if !is(s, a, 44) {
+        if !is(s, a, b',') {
             return Step::Next(now, count);
         }
         let b = skip_blanks(s, a + 1);
@@ -149,7 +150,7 @@ fn selector(s: &[u8], plan: &mut [u8], pool: &mut [u8], st: State) -> Step
     ensures { λ r. ⌜ LoosePost spellSelector writeSelector plainFlag 1 4 (now (s .entry)) (now (plan .entry)) (now (plan .exit)) (now (pool .entry)) (now (pool .exit)) st r ⌝ }
 {
     let at = st.at;
-    if is(s, at, 63) {
+    if is(s, at, b'?') {
         return filter(s, plan, pool, moved(st, at + 1));
     }
     write_selector(s, plan, pool, st)
@@ -162,7 +163,7 @@ fn filter(s: &[u8], plan: &mut [u8], pool: &mut [u8], st: State) -> Step
 {
     let at = st.at;
     let a = skip_blanks(s, at);
-    let head = opened(plan, moved(st, a), 9);
+    let head = opened(plan, moved(st, a), kinds::FILTER);
     let r = parse_or(s, plan, pool, head, true);
     let Step::Next(n, sort) = r else {
         return r;
@@ -196,12 +197,12 @@ fn more_or(s: &[u8], plan: &mut [u8], pool: &mut [u8], st: State, sort: usize, a
     loop {
         let here = now.at;
         let a = skip_blanks(s, here);
-        if !both(s, a, 124, 124) {
+        if !both(s, a, b'|', b'|') {
             return Step::Next(now, kind);
         }
         let b = skip_blanks(s, a + 2);
         let left = test_tail(plan, moved(now, b), kind);
-        let head = opened(plan, left, 23);
+        let head = opened(plan, left, kinds::OR);
         match parse_and(s, plan, pool, head, asked) {
             Step::Stop(i) => return Step::Stop(i),
             Step::Next(n, f) => {
@@ -238,12 +239,12 @@ fn more_and(s: &[u8], plan: &mut [u8], pool: &mut [u8], st: State, sort: usize, 
     loop {
         let here = now.at;
         let a = skip_blanks(s, here);
-        if !both(s, a, 38, 38) {
+        if !both(s, a, b'&', b'&') {
             return Step::Next(now, kind);
         }
         let b = skip_blanks(s, a + 2);
         let left = test_tail(plan, moved(now, b), kind);
-        let head = opened(plan, left, 22);
+        let head = opened(plan, left, kinds::AND);
         match basic(s, plan, pool, head) {
             Step::Stop(i) => return Step::Stop(i),
             Step::Next(n, f) => {
@@ -264,10 +265,10 @@ fn basic(s: &[u8], plan: &mut [u8], pool: &mut [u8], st: State) -> Step
     ensures { λ r. ⌜ Post spellBasic writeBasic (λ t. sortNumber (sortBasic t)) 2 (now (s .entry)) (now (plan .entry)) (now (plan .exit)) (now (pool .entry)) (now (pool .exit)) st r ⌝ }
 {
     let at = st.at;
-    if is(s, at, 40) {
+    if is(s, at, b'(') {
         return paren(s, plan, pool, st);
     }
-    if is(s, at, 33) {
+    if is(s, at, b'!') {
         return negation(s, plan, pool, moved(st, at + 1));
     }
     let r = operand(s, plan, pool, st);
@@ -284,7 +285,7 @@ fn negation(s: &[u8], plan: &mut [u8], pool: &mut [u8], st: State) -> Step
 {
     let at = st.at;
     let a = skip_blanks(s, at);
-    if is(s, a, 40) {
+    if is(s, a, b'(') {
         let r = paren(s, plan, pool, moved(st, a));
         let Step::Next(n, sort) = r else {
             return r;
@@ -354,7 +355,7 @@ fn paren(s: &[u8], plan: &mut [u8], pool: &mut [u8], st: State) -> Step
     };
     let here = n.at;
     let e = skip_blanks(s, here);
-    if !is(s, e, 41) {
+    if !is(s, e, b')') {
         return Step::Stop(e);
     }
     Step::Next(moved(n, e + 1), sort)
@@ -366,16 +367,16 @@ fn operand(s: &[u8], plan: &mut [u8], pool: &mut [u8], st: State) -> Step
     ensures { λ r. ⌜ Post spellOperand writeOperand operandFlag 1 (now (s .entry)) (now (plan .entry)) (now (plan .exit)) (now (pool .entry)) (now (pool .exit)) st r ⌝ }
 {
     let at = st.at;
-    if is(s, at, 64) {
-        return query(&s[0..], plan, pool, moved(st, at + 1), 2);
+    if is(s, at, b'@') {
+        return query(&s[0..], plan, pool, moved(st, at + 1), kinds::CURRENT);
     }
-    if is(s, at, 36) {
-        return query(&s[0..], plan, pool, moved(st, at + 1), 1);
+    if is(s, at, b'$') {
+        return query(&s[0..], plan, pool, moved(st, at + 1), kinds::ROOT);
     }
     let End::At(e) = read_word(s, at) else {
         return write_literal(s, plan, pool, st);
     };
-    if is(s, e, 40) {
+    if is(s, e, b'(') {
         return function(s, plan, pool, moved(st, e + 1), named_at(s, at, e));
     }
     write_keyword(s, plan, st, e)
@@ -391,7 +392,7 @@ pub fn query(s: &[u8], plan: &mut [u8], pool: &mut [u8], st: State, start: u8) -
     let Step::Next(n, flag) = r else {
         return r;
     };
-    Step::Next(item(plan, n, 10), query_flag(flag))
+    Step::Next(item(plan, n, kinds::END), query_flag(flag))
 }
 
 // S [ arguments ] S ")", behind the name and "(" of a call of the function with the given number; tells its sort
@@ -407,7 +408,7 @@ fn function(s: &[u8], plan: &mut [u8], pool: &mut [u8], st: State, name: u8) -> 
     };
     let here = n.at;
     let e = skip_blanks(s, here);
-    if !is(s, e, 41) {
+    if !is(s, e, b')') {
         return Step::Stop(e);
     }
     Step::Next(
@@ -422,7 +423,7 @@ fn arguments(s: &[u8], plan: &mut [u8], pool: &mut [u8], st: State) -> Step
     ensures { λ r. ⌜ Post spellArguments writeArguments (λ t. argumentsFrom 0 (sortsOf t)) 6 (now (s .entry)) (now (plan .entry)) (now (plan .exit)) (now (pool .entry)) (now (pool .exit)) st r ⌝ }
 {
     let at = st.at;
-    if is(s, at, 41) {
+    if is(s, at, b')') {
         return Step::Next(st, 0);
     }
     let r = argument(s, plan, pool, st);
@@ -442,7 +443,7 @@ fn more_arguments(s: &[u8], plan: &mut [u8], pool: &mut [u8], st: State, sorts: 
     loop {
         let here = now.at;
         let a = skip_blanks(s, here);
-        if !is(s, a, 44) {
+        if !is(s, a, b',') {
             return Step::Next(now, known);
         }
         let b = skip_blanks(s, a + 1);
@@ -462,10 +463,10 @@ fn argument(s: &[u8], plan: &mut [u8], pool: &mut [u8], st: State) -> Step
     ensures { λ r. ⌜ Post spellArgument writeArgument (λ t. sortNumber (sortArgument t)) 4 (now (s .entry)) (now (plan .entry)) (now (plan .exit)) (now (pool .entry)) (now (pool .exit)) st r ⌝ }
 {
     let at = st.at;
-    if is(s, at, 40) {
+    if is(s, at, b'(') {
         return parse_or(&s[0..], plan, pool, st, false);
     }
-    if is(s, at, 33) {
+    if is(s, at, b'!') {
         return parse_or(&s[0..], plan, pool, st, false);
     }
     let r = operand(&s[0..], plan, pool, st);
@@ -491,7 +492,7 @@ fn chained(s: &[u8], plan: &mut [u8], pool: &mut [u8], st: State, flag: usize) -
     if flag != 0 {
         let at = st.at;
         let a = skip_blanks(s, at);
-        if is(s, a, 41) {
+        if is(s, a, b')') {
             return Step::Next(st, plain_sort(flag));
         }
     }

@@ -2,8 +2,8 @@
 // For each line it writes `ok`, how many nodes the query selects and the nodes, or `refused` and the refusal's number, with one blank between.
 //
 // A line ends at a line feed, and the last one may lack it. Every other byte belongs to the query; an empty line is a query too, refused 4.
-use console::output;
-use refusals::Outcome;
+use program_console::output;
+use program_refusals::Outcome;
 
 // Room for one byte more than a query may have: of a longer line so many bytes are taken, and the query is refused by its length all the same.
 const QUERY_ROOM: usize = 4097;
@@ -39,7 +39,7 @@ fn answer(query: &[u8]) {
     let text = b"ab\xc3\xa9";
     let mut list = [0u32; PLACES];
     let selection = select::select(query, table, text, &mut list, 0);
-    show(refusals::of_select(selection), &list);
+    show(program_refusals::of_select(selection), &list);
 }
 
 // Answers the line of which so many bytes were read, or one more than its room has if it has more.
@@ -57,7 +57,7 @@ fn run(buffer: &mut [u8], line: &mut [u8]) {
     let mut end = 0;
     let mut left = LINES;
     while 0 < left {
-        let next = console::input::next(buffer, at, end, line);
+        let next = program_console::input::next(buffer, at, end, line);
         if !next.found {
             return;
         }

@@ -4,9 +4,9 @@ use crate::path_calls;
 use crate::plan_calls;
 use crate::table_calls;
 use crate::tally_calls;
-use console::output;
-use lines::words;
-use lines::words::ByteWord;
+use program_console::output;
+use program_lines::words;
+use program_lines::words::ByteWord;
 
 // Room for a query twice as long as the longest that compiles, and for a table of 8,192 nodes. A plan, a pool and a text have a large buffer each, so that
 // a plan or a pool may be one byte longer than the longest that is accepted.

@@ -1,9 +1,9 @@
 // The calls run and select.
 use crate::calls;
-use console::output;
-use lines::words;
-use lines::words::NumberWord;
-use refusals::Outcome;
+use program_console::output;
+use program_lines::words;
+use program_lines::words::NumberWord;
+use program_refusals::Outcome;
 
 // The longest list.
 const LIST_ROOM: usize = 65535;
@@ -42,7 +42,7 @@ pub fn answer<'a>(
 
 fn show_select<'a>(query: &[u8], table: &'a [u8], text: &'a [u8], list: &mut [u32], start: usize) {
     show(
-        refusals::of_select(select::select(query, table, text, list, start)),
+        program_refusals::of_select(select::select(query, table, text, list, start)),
         list,
     );
 }
@@ -56,7 +56,7 @@ fn show_run<'a>(
     start: usize,
 ) {
     show(
-        refusals::of_run(run::run(plan, pool, table, text, list, start)),
+        program_refusals::of_run(run::run(plan, pool, table, text, list, start)),
         list,
     );
 }

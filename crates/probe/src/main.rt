@@ -34,7 +34,7 @@ mod table_calls;
 mod tally_calls;
 
 use calls::Call;
-use lines::words;
+use program_lines::words;
 use text::parts;
 
 // Room for a line with the largest table and the largest text, or with the largest plan and the largest pool and a table.
@@ -123,7 +123,7 @@ fn run(buffer: &mut [u8], line: &mut [u8]) {
     let mut end = 0;
     let mut left = LINES;
     while 0 < left {
-        let next = console::input::next(buffer, at, end, line);
+        let next = program_console::input::next(buffer, at, end, line);
         if !next.found {
             return;
         }

@@ -1,10 +1,10 @@
 // The call path.
 use crate::calls;
 use crate::plan_calls;
-use address::PathWritten;
-use console::output;
-use lines::words;
-use lines::words::NumberWord;
+use program_console::output;
+use program_lines::words;
+use program_lines::words::NumberWord;
+use table_path::PathWritten;
 
 // Answers path, whose node and whose room begin at a place.
 pub fn answer(line: &[u8], from: usize, table: &[u8], text: &[u8]) {
@@ -26,7 +26,7 @@ pub fn answer(line: &[u8], from: usize, table: &[u8], text: &[u8]) {
 
 // Writes the path into a room, and then the answer.
 fn show(table: &[u8], text: &[u8], node: usize, room: &mut [u8]) {
-    match address::path_of_node(table, text, node, room) {
+    match table_path::path_of_node(table, text, node, room) {
         PathWritten::Written(n) => {
             output::text(b"ok ");
             output::bytes(words::first(room, n));

@@ -1,8 +1,8 @@
 // The calls compile and plan.
 use crate::calls;
-use console::output;
-use lines::words;
-use lines::words::NumberWord;
+use program_console::output;
+use program_lines::words;
+use program_lines::words::NumberWord;
 ghost use mathlib.Core.Path.{_≡_};
 ghost use lib.ListN.{length};
 
@@ -13,7 +13,7 @@ const FILL: u8 = 0xa5;
 
 // Answers plan.
 pub fn check(plan: &[u8], pool: &[u8]) {
-    if plan::check_plan(plan, pool) {
+    if plan_check::check_plan(plan, pool) {
         output::text(b"ok\n");
     } else {
         output::text(b"refused 11\n");

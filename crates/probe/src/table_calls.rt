@@ -1,8 +1,8 @@
 // The calls records, texts, table, text and key.
 use crate::calls;
-use console::output;
-use lines::words;
-use lines::words::NumberWord;
+use program_console::output;
+use program_lines::words;
+use program_lines::words::NumberWord;
 use table::TableChecked;
 
 // What the lent number holds before a call.

@@ -1,9 +1,9 @@
 // The call take: a plan with its pool, taken into counts.
 use crate::calls;
-use console::output;
-use lines::words;
-use lines::words::ByteWord;
-use lines::words::NumberWord;
+use program_console::output;
+use program_lines::words;
+use program_lines::words::ByteWord;
+use program_lines::words::NumberWord;
 use tally::KINDS;
 
 // A count has eight bytes.

@@ -1,19 +1,19 @@
-// The public operations, each with the very statement that is promised of it: `demands` has the types (Promises.antt) and what follows from them (Demands.antt).
+// The public operations, each with the very statement that is promised of it: `promises_stated` has the types (Promises.antt) and what follows from them (Demands.antt).
 // Each is thin over the operation of its name below, requires nothing, and leaves one outcome for each input. A contract below that said less would not prove this crate.
-ghost use Rattle.demands.specs.Promises.{CompilesOnly, SelectsOnly, RunsOnly, ChecksPlanOnly, ChecksRecordsOnly, ChecksTextsOnly, ChecksTableOnly, TextOnly, TextBegins, KeyOnly, KeyBegins, PathOnly, TalliesOnly};
+ghost use Rattle.promises_stated.specs.Promises.{CompilesOnly, SelectsOnly, RunsOnly, ChecksPlanOnly, ChecksRecordsOnly, ChecksTextsOnly, ChecksTableOnly, TextOnly, TextBegins, KeyOnly, KeyBegins, PathOnly, TalliesOnly};
 ghost use Rattle.compile.specs.Steps.{outcome};
 ghost use Rattle.select.specs.Selections.{selected};
 ghost use Rattle.run.specs.Outcomes.{ran};
-ghost use Rattle.plan.specs.Checks.{refusal};
+ghost use Rattle.plan_check.specs.Checks.{refusal};
 ghost use Rattle.table.specs.Outcomes.{reported, answered};
-ghost use Rattle.address.specs.Outcomes.{told};
+ghost use Rattle.table_path.specs.Outcomes.{told};
 ghost use denote.Ref.{ptr};
 ghost use Rattle.tally.specs.Counts.{tallied};
-use address::PathWritten;
 use compile::Compiled;
 use run::Ran;
 use select::Selection;
 use table::TableChecked;
+use table_path::PathWritten;
 use tally::KINDS;
 
 // From any bytes to a plan and a pool in the lent rooms, or a refusal: 1 to 6, 8 or 12.
@@ -54,7 +54,7 @@ pub fn run<'a>(
 pub fn check_plan(plan: &[u8], pool: &[u8]) -> bool
     ensures { λ r. ⌜ ChecksPlanOnly (now (plan .entry)) (now (pool .entry)) (refusal r) ⌝ }
 {
-    plan::check_plan(plan, pool)
+    plan_check::check_plan(plan, pool)
 }
 
 // Whether the records of a table keep to the rules that read no text, or refusal 9 or 10.
@@ -98,7 +98,7 @@ pub fn key_of_node<'a>(table: &[u8], text: &'a [u8], node: usize, number: &mut u
 pub fn path_of_node(table: &[u8], text: &[u8], node: usize, room: &mut [u8]) -> PathWritten
     ensures { λ r. ⌜ PathOnly (now (table .entry)) (now (text .entry)) node (now (room .entry)) (told r (now (room .exit))) ⌝ }
 {
-    address::path_of_node(table, text, node, room)
+    table_path::path_of_node(table, text, node, room)
 }
 
 // Takes a plan with its pool into the counts of kinds and the number of plans: 0, or refusal 11 or 21, and then nothing is counted.

@@ -7,12 +7,12 @@ use native.Mathlib.Omega.{arith}
 use lib.ListN.{length, take}
 use lib.Seq.{length-take-le}
 use Rattle.definition.specs.Utf8.{encodeAll, scalarsOf}
-use Rattle.utf8.specs.Decode.{decode}
-use Rattle.utf8.specs.Scalars.{scalars-encoded}
-use Rattle.regexps.specs.Words.{Told, fails}
-use Rattle.regexps.specs.Regexp.{Regexp, Describes, described}
-use Rattle.regexps.specs.Scope.{widen}
-use Rattle.regexps.specs.Agree.{agree, told-same}
+use Rattle.utf8_laws.specs.Decode.{decode}
+use Rattle.utf8_laws.specs.Scalars.{scalars-encoded}
+use Rattle.regex_definition.specs.Words.{Told, fails}
+use Rattle.regex_definition.specs.Regexp.{Regexp, Describes, described}
+use Rattle.regex_definition.specs.Scope.{widen}
+use Rattle.regex_definition.specs.Agree.{agree, told-same}
 use Rattle.regex_code.specs.Flat.{flat}
 use Rattle.regex_chars.specs.Laws.{slice-end}
 use Rattle.regex_total.specs.Answers.{Matched, Widths}

@@ -5,8 +5,8 @@ use mathlib.Core.List.{List, []}
 use Prim.Native.Nat.{ℕ}
 use lib.ListN.{length}
 use Rattle.definition.specs.Utf8.{encodeAll, isUtf8, scalarsOf}
-use Rattle.regexps.specs.Regexp.{Regexp, Describes, described}
-use Rattle.regexps.specs.Scope.{Scope, widen}
+use Rattle.regex_definition.specs.Regexp.{Regexp, Describes, described}
+use Rattle.regex_definition.specs.Scope.{Scope, widen}
 use Rattle.regex_code.specs.Flat.{flat}
 
 pub record Tested (code text : List ℕ) (b : Bool) : Type 0 where

@@ -4,16 +4,16 @@ use mathlib.Core.Bool.{true, false}
 use mathlib.Core.List.{List, [], _∷_, _++_, append-assoc, append-nil}
 use Prim.Native.Nat.{ℕ, zero, suc, _+_, _-_, _*_, _≤_, _<_}
 use native.Mathlib.Omega.{arith}
-use native.Mathlib.Numerals.{add-one}
 use borrow.Author.Tests.{lt-ltb, le-ltb, le-leb, lt-leb}
 use lib.ListN.{length, drop, take, getD, set, length-append, drop-of-length-le}
-use lib.Seq.{sets-eq, drop-cons, getD-drop, take-at}
+use lib.Seq.{sets-eq, getD-drop, take-at}
 use Rattle.definition.specs.Bytes.{within}
-use Rattle.utf8.specs.Unique.{point}
-use Rattle.utf8.specs.Scalars.{scalars-few}
-use Rattle.reading.specs.Reads.{Wrote}
+use Rattle.utf8_laws.specs.Unique.{point}
+use Rattle.utf8_laws.specs.Scalars.{scalars-few}
+use Rattle.basics.specs.Reads.{Wrote}
 use Rattle.definition.specs.Utf8.{isUtf8, scalarsOf}
 use Rattle.definition.specs.Regexps.{regexpOf}
+use Rattle.basics.specs.Lists.{drop-at}
 use Rattle.regex_reader.specs.Reads.{ReadsWhole}
 use Rattle.regex_reader.specs.Reads.ReadsWhole.{code as whole-code, outside as whole-outside}
 use Rattle.regex_reader.specs.declared.nested.Reading.{Reading}
@@ -57,9 +57,6 @@ module _ (s : List ℕ) (at : ℕ) where
       q ∙ rw (first, nth 1, nth 2, nth 3, sym e, sym f, sym g, sym k, le-ltb b 0x80 (omega arith), le-ltb b 0xE0 (omega arith), le-ltb b 0xF0 l) refl
 
 -- ---- one byte
-
-drop-at : (s : List ℕ) (i : ℕ) → i < length s → drop i s ≡ getD s i 0 ∷ drop (i + 1) s
-drop-at s i h = rw (add-one, drop-cons s i 0)
 
 begins : (s : List ℕ) (i : ℕ) → i < length s → within 0x80 0xBF (getD s i 0) ≡ false → pointsOf (drop i s) ≡ point (drop i s) ∷ pointsOf (drop (i + 1) s)
 unfolding pointsOf

@@ -4,8 +4,8 @@ use mathlib.Core.List.{List, [], _++_}
 use mathlib.Core.Option.{none, some}
 use Prim.Native.Nat.{ℕ, _+_, _-_, _*_, _≤_}
 use lib.ListN.{length, drop, getD}
-use Rattle.reading.specs.Reads.{Wrote}
-use Rattle.regexps.specs.Regexp.{Regexp}
+use Rattle.basics.specs.Reads.{Wrote}
+use Rattle.regex_definition.specs.Regexp.{Regexp}
 use Rattle.definition.specs.Regexps.{regexpOf}
 use Rattle.regex_code.specs.Flat.{flat}
 use Rattle.regex_bytes.specs.Points.{pointsOf}

@@ -8,10 +8,10 @@ use borrow.Author.Tests.{lt-ltb, le-ltb, le-leb, lt-leb, ltb-true, ltb-false}
 use lib.Dec.{ltb, leb}
 use Rattle.definition.specs.Bytes.{within}
 use Rattle.definition.specs.Utf8.{encode, encodeAll, isUtf8, scalarsOf}
-use Rattle.utf8.specs.Bytes.{by-test}
-use Rattle.utf8.specs.Encode.{encode-one, encode-two, encode-three, encode-four}
-use Rattle.utf8.specs.Unique.{point, point-encode}
-use Rattle.utf8.specs.Scalars.{scalars-utf8}
+use Rattle.utf8_laws.specs.Bytes.{by-test}
+use Rattle.utf8_laws.specs.Encode.{encode-one, encode-two, encode-three, encode-four}
+use Rattle.utf8_laws.specs.Unique.{point, point-encode}
+use Rattle.utf8_laws.specs.Scalars.{scalars-utf8}
 
 unfoldable pub pointsOf : List ℕ → List ℕ
 pointsOf [] = []

@@ -7,7 +7,7 @@ ghost use lib.ListN.{length, drop};
 ghost use mathlib.Core.Bool.{true};
 ghost use Rattle.definition.specs.Bytes.{within};
 ghost use Rattle.definition.specs.Utf8.{isUtf8};
-ghost use Rattle.utf8.specs.Unique.{point};
+ghost use Rattle.utf8_laws.specs.Unique.{point};
 ghost use Rattle.regex_bytes.specs.Bytes.{byteAt, less, OneMore, Scalars, ReadsBytes};
 
 // Expressions have at most 1,024 bytes.

@@ -9,8 +9,8 @@ use lib.Dec.{ltb}
 use lib.ListN.{length, getD}
 use lib.Seq.{slice}
 use Rattle.definition.specs.Utf8.{encode}
-use Rattle.utf8.specs.Bytes.{by-test}
-use Rattle.utf8.specs.Encode.{encode-one, encode-two, encode-three, encode-four}
+use Rattle.utf8_laws.specs.Bytes.{by-test}
+use Rattle.utf8_laws.specs.Encode.{encode-one, encode-two, encode-three, encode-four}
 use Rattle.regex_chars.specs.Chars.{Stands}
 use Rattle.regex_chars.specs.Laws.{slice-first}
 

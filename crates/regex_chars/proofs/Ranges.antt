@@ -6,8 +6,8 @@ use mathlib.Core.List.{List, [], _∷_}
 use native.Mathlib.Omega.{arith}
 use lib.Dec.{eqb}
 use lib.ListN.{length, drop, getD, length-drop}
-use Rattle.regexps.specs.Chars.{within}
-use Rattle.regexps.specs.Regexp.{Range, inside, hits}
+use Rattle.regex_definition.specs.Chars.{within}
+use Rattle.regex_definition.specs.Regexp.{Range, inside, hits}
 use Rattle.regex_code.specs.Flat.{flag, flatRanges, word-of}
 use Rattle.regex_chars.specs.Classes.{Hits, Holds, Ahead, Scanning, flipOf}
 

@@ -4,7 +4,7 @@ use mathlib.Core.Path.{_≡_}
 use mathlib.Core.Bool.{Bool, true, false, not}
 use mathlib.Core.List.{List, _∷_}
 use lib.ListN.{length, drop}
-use Rattle.regexps.specs.Regexp.{Range, inside, hits}
+use Rattle.regex_definition.specs.Regexp.{Range, inside, hits}
 use Rattle.regex_code.specs.Flat.{flag, flatRanges}
 
 -- whether the class has c

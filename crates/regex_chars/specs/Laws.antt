@@ -7,7 +7,8 @@ use native.Mathlib.Omega.{arith}
 use lib.ListN.{length, drop, getD, length-append}
 use lib.Seq.{slice, slice-cons, slice-empty, length-slice, take-length}
 use Rattle.definition.specs.Utf8.{encode, encodeAll}
-use Rattle.utf8.specs.Decode.{encode-long}
+use Rattle.utf8_laws.specs.Unique.{never-empty}
+use Rattle.utf8_laws.specs.Decode.{encode-long}
 
 -- the first element of a part, and what stands behind it
 pub slice-first :
@@ -31,15 +32,11 @@ nil-slice t from to h = rw h (slice-empty to t)
 pub slice-nil : (t : List ℕ) (from to : ℕ) → from ≤ to → to ≤ length t → slice from to t ≡ [] → from ≡ to
 slice-nil t from to o e h = let n = length-slice from to t e in let m = ap length h in omega arith
 
--- no character is encoded to nothing
-pub never-nil : (c : ℕ) (r : List ℕ) → encode c ++ r ≡ [] → ⊥
-never-nil c r e = let h = encode-long c in let l = length-append (encode c) r in let k = ap length e in omega arith
-
 -- what is encoded to nothing is empty
 pub encodeAll-nil : (cs : List ℕ) → encodeAll cs ≡ [] → cs ≡ []
 unfolding encodeAll
 encodeAll-nil [] e = refl
-encodeAll-nil (c ∷ cs) e = absurd (never-nil c (encodeAll cs) e)
+encodeAll-nil (c ∷ cs) e = absurd (never-empty c (encodeAll cs) e)
 
 pub encodeAll-none : encodeAll [] ≡ []
 unfolding encodeAll

@@ -5,7 +5,7 @@ use regex_code::wide as word;
 ghost use mathlib.Core.Path.{_≡_};
 ghost use Prim.Native.Nat.{_+_, _-_, _≤_, _<_};
 ghost use lib.ListN.{length};
-ghost use Rattle.regexps.specs.Chars.{within};
+ghost use Rattle.regex_definition.specs.Chars.{within};
 ghost use Rattle.regex_chars.specs.Chars.{Stands};
 ghost use Rattle.regex_chars.specs.Classes.{Hits, Holds, flipOf};
 

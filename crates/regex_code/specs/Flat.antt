@@ -12,10 +12,10 @@ use mathlib.Core.Bool.{Bool, true, false}
 use Prim.Native.Nat.{ℕ, suc, _+_, _-_, _*_, _<_}
 use native.Mathlib.Omega.{arith}
 use lib.ListN.{length, drop, getD, length-drop}
-use lib.Seq.{drop-cons, drop-drop}
-use native.Mathlib.Numerals.{add-one}
-use Rattle.regexps.specs.Words.{Most, upto, any}
-use Rattle.regexps.specs.Regexp.{Range, Regexp, empty, class, then, or, times}
+use lib.Seq.{drop-drop}
+use Rattle.regex_definition.specs.Words.{Most, upto, any}
+use Rattle.regex_definition.specs.Regexp.{Range, Regexp, empty, class, then, or, times}
+use Rattle.basics.specs.Lists.{drop-at as word, tail-same as tail}
 
 abbrev pub flag : Bool → ℕ
 flag false = 0
@@ -39,9 +39,6 @@ flat (times lo hi x) r = flatTimes lo hi (flat x r)
 module _ (k : ℕ) (l : List ℕ) where
   differ : (n : ℕ) (m : List ℕ) → (k ≡ n → ⊥) → k ∷ l ≡ n ∷ m → ⊥
   differ n m h e = h (cc)
-
-pub tail : {k n : ℕ} {l m : List ℕ} → k ∷ l ≡ n ∷ m → l ≡ m
-tail e = cc
 
 pub head : {k n : ℕ} {l m : List ℕ} → k ∷ l ≡ n ∷ m → k ≡ n
 head e = cc
@@ -122,10 +119,6 @@ of-nothing F (then x y) r e = absurd (let z : _≡_ {A = ℕ} 0 1 = cc in omega 
 of-nothing F (or x y) r e = absurd (let z : _≡_ {A = ℕ} 0 1 = cc in omega arith)
 of-nothing F (times lo (upto n) x) r e = absurd (let z : _≡_ {A = ℕ} 0 1 = cc in omega arith)
 of-nothing F (times lo any x) r e = absurd (let z : _≡_ {A = ℕ} 0 1 = cc in omega arith)
-
--- the word at a place, and what stands behind it
-pub word : (s : List ℕ) (i : ℕ) → i < length s → drop i s ≡ getD s i 0 ∷ drop (i + 1) s
-word s i h = rw (add-one i) (drop-cons s i 0 h)
 
 pub behind : (s : List ℕ) (i n : ℕ) (l : List ℕ) → drop (i + 1) s ≡ l → drop (i + 1 + n) s ≡ drop n l
 behind s i n l e = sym (drop-drop n (i + 1) s) ∙ ap (drop n) e

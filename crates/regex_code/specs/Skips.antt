@@ -4,7 +4,7 @@ use mathlib.Core.List.{List, _∷_}
 use Prim.Native.Nat.{ℕ, _+_, _≤_}
 use mathlib.Core.Bool.{Bool}
 use lib.ListN.{drop, length}
-use Rattle.regexps.specs.Regexp.{Range, Regexp}
+use Rattle.regex_definition.specs.Regexp.{Range, Regexp}
 use Rattle.regex_code.specs.Flat.{flag, flatRanges, flat}
 
 pub record Skips (s : List ℕ) (at next : ℕ) : Type 0 where

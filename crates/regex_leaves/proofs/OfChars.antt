@@ -1,25 +1,20 @@
 -- What is read at a place, one level of the definition at a time: characters. Assumes nothing.
 use mathlib.Core.Path.{_≡_, refl, ap, sym, _∙_}
 use mathlib.Core.Bool.{Bool, true, false, cond, not}
-use mathlib.Core.List.{List, _∷_}
+use mathlib.Core.List.{List}
 use mathlib.Core.Option.{Option}
 use Prim.Native.Nat.{ℕ, _+_, _-_, _≤_, _<_}
 use native.Mathlib.Omega.{arith}
-use native.Mathlib.Numerals.{add-one}
 use borrow.Author.Tests.{ltb-true, ltb-false}
 use lib.Dec.{eqb, ltb}
 use lib.ListN.{length, drop, getD, drop-of-length-le}
-use lib.Seq.{drop-cons}
-use Rattle.regexps.specs.Chars.{isEscaped, isClassChar, escapeValue}
-use Rattle.regexps.specs.Read.{begins, rest, readEscape, readBare, readCCchar}
+use Rattle.regex_definition.specs.Chars.{isEscaped, isClassChar, escapeValue}
+use Rattle.regex_definition.specs.Read.{begins, rest, readEscape, readBare, readCCchar}
 use Rattle.regex_leaves.specs.Reads.{Is, ReadChar}
 use Rattle.regex_leaves.specs.Reads.ReadChar.{next, stop}
 use Rattle.regex_leaves.specs.declared.chars.Char.{Char}
 use Rattle.regex_leaves.specs.declared.chars.Char.the-variants as char
-
--- the character at a place, and what stands behind it
-pub drop-at : (s : List ℕ) (i : ℕ) → i < length s → drop i s ≡ getD s i 0 ∷ drop (i + 1) s
-drop-at s i h = rw (add-one, drop-cons s i 0)
+use Rattle.basics.specs.Lists.{drop-at}
 
 module _ (s : List ℕ) (at : ℕ) where
   pub begins-end : (x : ℕ) → length s ≤ at → begins x (drop at s) ≡ false

@@ -8,9 +8,9 @@ use native.Mathlib.Omega.{arith}
 use borrow.Author.Tests.{le-leb, lt-leb, leb-true}
 use lib.Dec.{leb}
 use lib.ListN.{length, drop, getD, drop-of-length-le}
-use Rattle.regexps.specs.Chars.{isDigit}
-use Rattle.regexps.specs.Words.{Most}
-use Rattle.regexps.specs.Read.{begins, beginsDigit, countFrom, readCount, readUpper, readBraces, readQuantifier}
+use Rattle.regex_definition.specs.Chars.{isDigit}
+use Rattle.regex_definition.specs.Words.{Most}
+use Rattle.regex_definition.specs.Read.{begins, beginsDigit, countFrom, readCount, readUpper, readBraces, readQuantifier}
 use Rattle.regex_leaves.specs.Reads.{ReadChar, ReadBraces, ReadQuantifier}
 use Rattle.regex_leaves.specs.Reads.ReadChar.{next as char-next, stop as char-stop}
 use Rattle.regex_leaves.specs.Reads.ReadBraces.{bounded as braces-bounded, endless as braces-endless, stop as braces-none}
@@ -19,8 +19,9 @@ use Rattle.regex_leaves.specs.declared.chars.Char.{Char}
 use Rattle.regex_leaves.specs.declared.chars.Char.the-variants as char
 use Rattle.regex_leaves.specs.declared.counts.Quant.{Quant}
 use Rattle.regex_leaves.specs.declared.counts.Quant.the-variants as quant
-use Rattle.regex_leaves.proofs.OfChars.{drop-at, inside, behind, same-char}
+use Rattle.regex_leaves.proofs.OfChars.{inside, behind, same-char}
 use Rattle.regex_leaves.proofs.OfItems.{char-is, char-none}
+use Rattle.basics.specs.Lists.{drop-at}
 
 -- the same answer, where the definition goes on to it
 pub same-braces : {out out' : Option ((ℕ × Most) × List ℕ)} {s : List ℕ} {from from' : ℕ} {r : Quant} → out ≡ out' → from ≤ from' → ReadBraces out' s from' r → ReadBraces out s from r

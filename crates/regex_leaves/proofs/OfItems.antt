@@ -6,8 +6,8 @@ use mathlib.Core.Option.{Option, none, some}
 use Prim.Native.Nat.{ℕ, _+_, _-_, _≤_}
 use native.Mathlib.Omega.{arith}
 use lib.ListN.{length, drop}
-use Rattle.regexps.specs.Regexp.{Range}
-use Rattle.regexps.specs.Read.{begins, readCCchar, readEnd, readItem, readFirst}
+use Rattle.regex_definition.specs.Regexp.{Range}
+use Rattle.regex_definition.specs.Read.{begins, readCCchar, readEnd, readItem, readFirst}
 use Rattle.regex_leaves.specs.Reads.{ReadChar, ReadItem}
 use Rattle.regex_leaves.specs.Reads.ReadChar.{next as char-next, stop as char-stop}
 use Rattle.regex_leaves.specs.Reads.ReadItem.{next, stop}

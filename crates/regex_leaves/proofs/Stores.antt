@@ -4,23 +4,10 @@ use mathlib.Core.Logic.{_≢_}
 use mathlib.Core.List.{List, [], _∷_, _++_, append-assoc}
 use Prim.Native.Nat.{ℕ, suc, _+_, _-_, _≤_, _<_}
 use native.Mathlib.Omega.{arith}
-use native.Mathlib.Nat.{add-zero}
 use lib.ListN.{length, drop, take, getD, set, length-drop}
-use lib.Seq.{sets, length-sets, sets-eq, set-set, set-comm, take-suc, take-all, take-at, drop-at, length-take-le, getD-set-other, getD-take, getD-drop}
+use lib.Seq.{sets, length-sets, sets-eq, set-set, take-suc, take-all, take-at, drop-at, length-take-le, getD-set-other, getD-take, getD-drop}
 use Rattle.regex_leaves.specs.Reads.{Inserted}
-
--- two runs of stores, one behind the other
-pub sets-append : (p : List ℕ) (n : ℕ) (c d : List ℕ) → sets (sets p n c) (n + length c) d ≡ sets p n (c ++ d)
-sets-append p n [] d = rw add-zero
-sets-append p n (x ∷ c) d =
-    let e : n + suc (length c) ≡ suc n + length c = omega arith in
-    rw e (sets-append (set p n x) (suc n) c d)
-
--- a store before a run
-pub set-sets : (p : List ℕ) (i x n : ℕ) (c : List ℕ) → i < n → set (sets p n c) i x ≡ sets (set p i x) n c
-set-sets p i x n [] h = refl
-set-sets p i x n (y ∷ c) h =
-    set-sets (set p n y) i x (suc n) c (omega arith) ∙ ap (λ (l : List ℕ). sets l (suc n) c) (set-comm p n i y x (omega arith))
+use Rattle.basics.specs.Lists.{set-sets, sets-append}
 
 -- a longer run over a shorter one
 pub sets-over : (p : List ℕ) (n : ℕ) (c d : List ℕ) → length c ≤ length d → sets (sets p n c) n d ≡ sets p n d

@@ -5,10 +5,10 @@ use mathlib.Core.List.{List, _∷_}
 use mathlib.Core.Option.{Option, none, some}
 use Prim.Native.Nat.{ℕ, _-_, _≤_, _<_}
 use lib.ListN.{length, drop}
-use Rattle.reading.specs.Reads.{Wrote}
-use Rattle.regexps.specs.Words.{Most, upto, any}
-use Rattle.regexps.specs.Regexp.{Range, Regexp, times}
-use Rattle.regexps.specs.Read.{begins, readQuantifier}
+use Rattle.basics.specs.Reads.{Wrote}
+use Rattle.regex_definition.specs.Words.{Most, upto, any}
+use Rattle.regex_definition.specs.Regexp.{Range, Regexp, times}
+use Rattle.regex_definition.specs.Read.{begins, readQuantifier}
 use Rattle.regex_leaves.specs.declared.chars.Char.{Char}
 use Rattle.regex_leaves.specs.declared.chars.Char.the-variants as char
 use Rattle.regex_leaves.specs.declared.items.Item.{Item}

@@ -3,8 +3,8 @@ ghost use mathlib.Core.Path.{_≡_};
 ghost use Prim.Native.Nat.{_+_, _≤_};
 ghost use lib.Dec.{eqb};
 ghost use lib.ListN.{length, drop};
-ghost use Rattle.regexps.specs.Chars.{within, isNormal, isEscaped, isClassChar, escapeValue};
-ghost use Rattle.regexps.specs.Read.{readEscape, readBare, readCCchar};
+ghost use Rattle.regex_definition.specs.Chars.{within, isNormal, isEscaped, isClassChar, escapeValue};
+ghost use Rattle.regex_definition.specs.Read.{readEscape, readBare, readCCchar};
 ghost use Rattle.regex_leaves.specs.Reads.{Is, ReadChar};
 
 // The place behind a character, and the character; or none stands there.

@@ -5,8 +5,8 @@ use crate::chars::within;
 ghost use mathlib.Core.Path.{_≡_};
 ghost use Prim.Native.Nat.{_+_, _≤_};
 ghost use lib.ListN.{length, drop};
-ghost use Rattle.regexps.specs.Chars.{isDigit};
-ghost use Rattle.regexps.specs.Read.{beginsDigit, countFrom, readCount, readUpper, readBraces};
+ghost use Rattle.regex_definition.specs.Chars.{isDigit};
+ghost use Rattle.regex_definition.specs.Read.{beginsDigit, countFrom, readCount, readUpper, readBraces};
 ghost use Rattle.regex_leaves.specs.Reads.{ReadChar, ReadBraces, ReadQuantifier};
 
 // A repeat and the place behind it, from one number to another or from one on; none is written; or what stands there is none.

@@ -4,7 +4,7 @@ use crate::chars::class_char;
 use crate::chars::is;
 ghost use Prim.Native.Nat.{_+_, _≤_};
 ghost use lib.ListN.{length, drop};
-ghost use Rattle.regexps.specs.Read.{readEnd, readItem, readFirst};
+ghost use Rattle.regex_definition.specs.Read.{readEnd, readItem, readFirst};
 ghost use Rattle.regex_leaves.specs.Reads.{ReadItem};
 
 // The place behind an item, and its range; or none stands there.

@@ -6,10 +6,10 @@ use Prim.Native.Nat.{ℕ, zero, suc, pred, _+_, _-_, _≤_, _<_}
 use native.Mathlib.Omega.{arith}
 use lib.Dec.{eqb}
 use lib.ListN.{getD}
-use Rattle.regexps.specs.Words.{Times, upto, any, Told, fails}
-use Rattle.regexps.specs.Regexp.{Regexp, empty, class, then, or, times, Describes}
-use Rattle.regexps.specs.Laws.{join-map}
-use Rattle.regexps.specs.Agree.{told}
+use Rattle.regex_definition.specs.Words.{Times, upto, any, Told, fails}
+use Rattle.regex_definition.specs.Regexp.{Regexp, empty, class, then, or, times, Describes}
+use Rattle.regex_definition.specs.Laws.{join-map}
+use Rattle.regex_definition.specs.Agree.{told}
 use Rattle.regex_marks.specs.Marks.{size, copies, endless, Rest, RestUpto, RestAny, Good, GoodUpto, GoodAny}
 use Rattle.regex_marks.specs.Moves.{Kept}
 

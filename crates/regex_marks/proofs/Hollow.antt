@@ -7,10 +7,10 @@ use Prim.Native.Nat.{ℕ, zero, suc, _+_, _-_, _≤_, _<_, zero-le}
 use native.Mathlib.Omega.{arith}
 use native.Mathlib.Nat.{le-refl}
 use lib.Dec.{eqb, leb}
-use Rattle.regexps.specs.Words.{Row, Times, upto, any, Told}
-use Rattle.regexps.specs.Regexp.{Regexp, empty, class, then, or, times, Describes}
-use Rattle.regexps.specs.Laws.{join-nil, nil-join}
-use Rattle.regexps.specs.Agree.{told, both, either, leb-told}
+use Rattle.regex_definition.specs.Words.{Row, Times, upto, any, Told}
+use Rattle.regex_definition.specs.Regexp.{Regexp, empty, class, then, or, times, Describes}
+use Rattle.regex_definition.specs.Laws.{join-nil, nil-join}
+use Rattle.regex_definition.specs.Agree.{told, both, either, leb-told}
 use Rattle.regex_marks.specs.Marks.{size, copies, endless, Rest, Good, GoodUpto}
 use Rattle.regex_marks.specs.Turn.{Turn}
 use Rattle.regex_marks.specs.Moves.{Moved}

@@ -7,9 +7,9 @@ use native.Mathlib.Omega.{arith}
 use lib.ListN.{length, drop, getD, set, length-drop, length-set, drop-of-length-le}
 use lib.Seq.{getD-set-same, getD-set-other}
 use lib.Dec.{eqb, leb}
-use Rattle.regexps.specs.Words.{Times, upto, any, Told, holds}
-use Rattle.regexps.specs.Regexp.{Regexp, empty, class, then, or, times, Describes}
-use Rattle.regex_code.specs.Flat.{flat, head, of-empty, of-class, of-then, of-or, of-upto, of-any, of-other, of-nothing, word, behind, word-of}
+use Rattle.regex_definition.specs.Words.{Times, upto, any, Told, holds}
+use Rattle.regex_definition.specs.Regexp.{Regexp, empty, class, then, or, times, Describes}
+use Rattle.regex_code.specs.Flat.{flat, head, of-empty, of-class, of-then, of-or, of-upto, of-any, of-other, of-nothing, behind, word-of}
 use Rattle.regex_code.specs.Skips.{Skips, SkipsClass}
 use Rattle.regex_marks.specs.Marks.{size, Rest, Good}
 use Rattle.regex_marks.specs.Turn.{Turn}
@@ -18,6 +18,7 @@ use Rattle.regex_marks.proofs.Turns.{turn-same, turn-none, turn-or, tur
 use Rattle.regex_marks.specs.Runs.{Entered}
 use Rattle.regex_marks.proofs.Hollow.{moved-bare, moved-hollow, endless-some}
 use Rattle.regex_marks.proofs.Frames.{Same, flip, below, above, frame, good-frame}
+use Rattle.basics.specs.Lists.{drop-at as word}
 
 pub kept-refl : {lo hi : ℕ} {ms : List ℕ} → Kept lo hi ms ms
 kept-refl = record { low = λ i p. refl; high = λ i p. refl }

@@ -9,15 +9,16 @@ use native.Mathlib.Nat.{mul-suc, mul-zero, mul-le-mul-left, le-of-lt}
 use lib.ListN.{length, drop, getD, set, length-drop, drop-of-length-le, List·getD-eq-default}
 use lib.Seq.{slice, getD-set-same, getD-set-other}
 use Rattle.definition.specs.Utf8.{encodeAll}
+use Rattle.basics.specs.Lists.{drop-at as word}
 use Rattle.regex_chars.specs.Chars.{Stands}
 use Rattle.regex_chars.specs.Classes.{Hits}
 use Rattle.regex_chars.specs.Laws.{slice-end, slice-nil, encodeAll-none, encodeAll-cons, encodeAll-nil}
 use lib.Dec.{eqb, leb}
 use borrow.Author.Tests.{eqb-true, eqb-false, eq-eqb, leb-true, leb-false}
-use Rattle.regexps.specs.Words.{upto, any, Told, holds, fails}
-use Rattle.regexps.specs.Regexp.{Regexp, empty, class, then, or, times, Describes, hits}
-use Rattle.regexps.specs.Agree.{told, told-true}
-use Rattle.regex_code.specs.Flat.{flat, head, of-empty, of-class, of-then, of-or, of-upto, of-any, of-other, of-nothing, word, behind, word-of}
+use Rattle.regex_definition.specs.Words.{upto, any, Told, holds, fails}
+use Rattle.regex_definition.specs.Regexp.{Regexp, empty, class, then, or, times, Describes, hits}
+use Rattle.regex_definition.specs.Agree.{told, told-true}
+use Rattle.regex_code.specs.Flat.{flat, head, of-empty, of-class, of-then, of-or, of-upto, of-any, of-other, of-nothing, behind, word-of}
 use Rattle.regex_code.specs.Skips.{SkipsClass}
 use Rattle.regex_marks.specs.Marks.{size, copies, endless, Rest}
 use Rattle.regex_marks.specs.Moves.{Moved, Shifted}

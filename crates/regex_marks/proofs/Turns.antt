@@ -7,11 +7,12 @@ use Prim.Native.Nat.{ℕ, zero, suc, pred, _-_, _≤_, zero-le}
 use native.Mathlib.Omega.{arith}
 use lib.Dec.{eqb, leb}
 use borrow.Author.Tests.{eqb-true, eqb-false}
-use Rattle.regexps.specs.Words.{Join, Row, Times, upto, any, Told, holds, fails}
-use Rattle.regexps.specs.Regexp.{One, Range, hits}
-use Rattle.regexps.specs.Laws.{join-nil, join-cons, cons-join, nil-join, join-map, star-cons, cons-star, star-nil}
-use Rattle.regexps.specs.Agree.{told, both, either, told-true, true-told, leb-told, bool-told}
+use Rattle.regex_definition.specs.Words.{Join, Row, Times, upto, any, Told, holds, fails}
+use Rattle.regex_definition.specs.Regexp.{One, Range, hits}
+use Rattle.regex_definition.specs.Laws.{join-nil, join-cons, cons-join, nil-join, join-map, star-cons, cons-star, star-nil}
+use Rattle.regex_definition.specs.Agree.{told, both, either, told-true, true-told, leb-told, bool-told}
 use Rattle.regex_marks.specs.Turn.{Turn}
+use Rattle.basics.specs.Lists.{cons-not}
 
 -- the same with other sets of the same words
 pub turn-same :
@@ -166,9 +167,6 @@ eqb-told a b = go (eqb a b) refl
     go true e = holds (eqb-true a b e)
     go false e = fails (eqb-false a b e)
 
-not-nil : {c : ℕ} {w : List ℕ} → c ∷ w ≡ [] → ⊥
-not-nil e = let z : _≡_ {A = ℕ} 0 1 = cc in omega arith
-
 module _ (P : List ℕ → Type 0) where
   -- no copy
   pub turn-zero : (lo : ℕ) {m : Bool} {c : ℕ} → Turn (Times lo (upto 0) P) (λ w. ⊥) (λ w. ⊥) m c (eqb lo 0) false false
@@ -177,7 +175,7 @@ module _ (P : List ℕ → Type 0) where
       (told
       (λ e. record { count = 0; least = omega arith; most = zero-le; row = refl })
       (λ t. omega (arith, t .least, t .most)) (eqb-told lo 0))
-      (λ w t. let k : t .count ≡ 0 = omega (arith, t .most) in not-nil (rw k at (t .row)))
+      (λ w t. let k : t .count ≡ 0 = omega (arith, t .most) in cons-not (rw k at (t .row)))
 
   -- the last copy is followed by none
   pub turn-last : (lo : ℕ) {m : Bool} {c : ℕ} → Turn (Times (pred lo) (upto 0) P) (λ w. ⊥) (λ w. ⊥) m c (leb lo 1) false false
@@ -186,7 +184,7 @@ module _ (P : List ℕ → Type 0) where
       (told
       (λ e. record { count = 0; least = omega arith; most = zero-le; row = refl })
       (λ t. omega (arith, t .least, t .most)) (leb-told lo 1))
-      (λ w t. let k : t .count ≡ 0 = omega (arith, t .most) in not-nil (rw k at (t .row)))
+      (λ w t. let k : t .count ≡ 0 = omega (arith, t .most) in cons-not (rw k at (t .row)))
 
   more : (lo h : ℕ) (w : List ℕ) → Join P (Times (pred lo) (upto h) P) w → Times lo (upto (suc h)) P w
   more lo h w j =
@@ -222,7 +220,7 @@ module _ (P : List ℕ → Type 0) where
       (λ s. ⊎-elim (λ a. inl (a .0)) (λ j. inr (join-nil j)) (less lo h [] s))
       (either (eqb-told lo 0) (both (t .on-empty) (u .on-empty))))
       (λ w j. more lo h (c ∷ w) j)
-      (λ w s. ⊎-elim (λ a. absurd (not-nil (a .1))) (λ j. j) (less lo h (c ∷ w) s))
+      (λ w s. ⊎-elim (λ a. absurd (cons-not (a .1))) (λ j. j) (less lo h (c ∷ w) s))
       (turn-then t u)
 
   -- without end, from no copy or one on
@@ -247,7 +245,7 @@ module _ (P : List ℕ → Type 0) where
       back (suc n) a r = inr (join-nil r .0)
 
       up : (w : List ℕ) (n : ℕ) → Row P n (c ∷ w) → Times lo any P (c ∷ w)
-      up w zero r = absurd (not-nil r)
+      up w zero r = absurd (cons-not r)
       up w (suc n) r = record { count = suc n; least = omega arith; most = tt; row = r }
 
   -- without end, one copy more
@@ -290,7 +288,7 @@ turn-class comp gs F F' {m} c {v} {n} t u q =
       on-empty = fails (λ o. not-one (o .eq));
       on-was = told (λ f. (f, refl)) (λ f. f .0) t;
       on-now = told (λ f. (f, refl)) (λ f. f .0) u;
-      forth = λ w h. ⊎-elim (λ p. go w (p .0) (p .1)) (λ p. absurd (not-nil (p .1))) h;
+      forth = λ w h. ⊎-elim (λ p. go w (p .0) (p .1)) (λ p. absurd (cons-not (p .1))) h;
       back = λ w h. inl (back w h);
     }
   where

@@ -7,8 +7,8 @@ use mathlib.Core.Logic.{_⊎_}
 use Prim.Native.Nat.{ℕ, zero, suc, pred, _+_, _≤_, _<_}
 use lib.Dec.{eqb}
 use lib.ListN.{getD}
-use Rattle.regexps.specs.Words.{Join, Times, Most, upto, any, Told}
-use Rattle.regexps.specs.Regexp.{Regexp, empty, class, then, or, times, Describes}
+use Rattle.regex_definition.specs.Words.{Join, Times, Most, upto, any, Told}
+use Rattle.regex_definition.specs.Regexp.{Regexp, empty, class, then, or, times, Describes}
 
 -- how many marks h copies of n have, and copies without end
 abbrev pub copies : ℕ → ℕ → ℕ

@@ -5,8 +5,8 @@ use mathlib.Core.List.{List, [], _∷_}
 use mathlib.Core.Logic.{_⊎_}
 use Prim.Native.Nat.{ℕ, _+_, _≤_, _<_, _^_}
 use lib.ListN.{length, drop, getD}
-use Rattle.regexps.specs.Words.{Times, upto, any}
-use Rattle.regexps.specs.Regexp.{Regexp, times, Describes}
+use Rattle.regex_definition.specs.Words.{Times, upto, any}
+use Rattle.regex_definition.specs.Regexp.{Regexp, times, Describes}
 use Rattle.regex_code.specs.Flat.{flat}
 use Rattle.regex_marks.specs.Marks.{size, Rest, Good}
 use Rattle.regex_marks.specs.Turn.{Turn}

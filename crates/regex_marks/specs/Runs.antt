@@ -7,8 +7,8 @@ use Prim.Native.Nat.{ℕ, _+_, _≤_, _<_}
 use lib.ListN.{length, drop, getD}
 use lib.Seq.{slice}
 use Rattle.definition.specs.Utf8.{encodeAll}
-use Rattle.regexps.specs.Words.{Told}
-use Rattle.regexps.specs.Regexp.{Regexp, Range, hits, Describes}
+use Rattle.regex_definition.specs.Words.{Told}
+use Rattle.regex_definition.specs.Regexp.{Regexp, Range, hits, Describes}
 use Rattle.regex_code.specs.Flat.{flat, flag, flatRanges}
 use Rattle.regex_marks.specs.Marks.{size, Rest, Good}
 

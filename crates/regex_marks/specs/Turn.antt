@@ -5,7 +5,7 @@ use mathlib.Core.Bool.{Bool, true}
 use mathlib.Core.List.{List, [], _∷_}
 use mathlib.Core.Logic.{_⊎_}
 use Prim.Native.Nat.{ℕ}
-use Rattle.regexps.specs.Words.{Told}
+use Rattle.regex_definition.specs.Words.{Told}
 
 pub record Turn (P A A' : List ℕ → Type 0) (enter : Bool) (c : ℕ) (empty was now : Bool) : Type 0 where
   pub on-empty : Told (P []) empty

@@ -8,14 +8,15 @@ use native.Mathlib.Omega.{arith}
 use borrow.Author.Tests.{eqb-true, leb-true, le-leb}
 use lib.Dec.{eqb, leb}
 use lib.ListN.{length, drop, getD}
-use Rattle.regexps.specs.Chars.{within}
-use Rattle.regexps.specs.Words.{Join, Times, any}
-use Rattle.regexps.specs.Regexp.{Regexp, Range, class, then, One, Describes}
-use Rattle.regexps.specs.Laws.{join, join-map, join-left, nil-join}
-use Rattle.regexps.specs.Scope.{anything-all}
-use Rattle.regex_code.specs.Flat.{flat, flag, flatRanges, of-empty, of-class, of-then, of-any, word, word-of}
+use Rattle.regex_definition.specs.Chars.{within}
+use Rattle.regex_definition.specs.Words.{Join, Times, any}
+use Rattle.regex_definition.specs.Regexp.{Regexp, Range, class, then, One, Describes}
+use Rattle.regex_definition.specs.Laws.{join, join-map, join-left, nil-join}
+use Rattle.regex_definition.specs.Scope.{anything-all}
+use Rattle.regex_code.specs.Flat.{flat, flag, flatRanges, of-empty, of-class, of-then, of-any, word-of}
 use Rattle.regex_code.specs.Skips.{Skips}
 use Rattle.regex_plain.specs.Rows.{letters, Letter, Free, Every, Front, Past, Spelt, Row, Plainly, Sought, Open}
+use Rattle.basics.specs.Lists.{drop-at as word}
 
 -- one character more
 letters-snoc : (s : List ℕ) (at n : ℕ) → letters s at (suc n) ≡ letters s at n ++ (getD s (at + 6 * n + 4) 0 ∷ [])

@@ -10,10 +10,11 @@ use lib.Dec.{eqb}
 use lib.ListN.{length, drop, getD, drop-of-length-le}
 use lib.Seq.{drop-append-seam}
 use Rattle.definition.specs.Utf8.{encodeAll}
-use Rattle.regexps.specs.Words.{Join, Told, holds, fails}
-use Rattle.regexps.specs.Regexp.{Describes}
-use Rattle.regexps.specs.Laws.{join-cons, cons-join, nil-join, join-nil, join-map}
-use Rattle.regexps.specs.Agree.{told}
+use Rattle.basics.specs.Lists.{not-cons}
+use Rattle.regex_definition.specs.Words.{Join, Told, holds, fails}
+use Rattle.regex_definition.specs.Regexp.{Describes}
+use Rattle.regex_definition.specs.Laws.{join-cons, cons-join, nil-join, join-nil, join-map}
+use Rattle.regex_definition.specs.Agree.{told}
 use Rattle.regex_chars.specs.Chars.{Stands}
 use Rattle.regex_chars.specs.Laws.{slice-end, slice-nil, nil-slice, encodeAll-none, encodeAll-cons, encodeAll-nil}
 use Rattle.regex_plain.specs.Rows.{letters, Every, Front, Spells, Begins, Whole, Found, Sought, Plainly, Known}
@@ -29,12 +30,9 @@ eqb-told a b = go (eqb a b) refl
 append-left : (u v k : List ℕ) → u ++ v ≡ u ++ k → v ≡ k
 append-left u v k e = sym (drop-append-seam u v) ∙ ap (drop (length u)) e ∙ drop-append-seam u k
 
-not-nil : {c : ℕ} {w : List ℕ} → [] ≡ c ∷ w → ⊥
-not-nil e = let z : _≡_ {A = ℕ} 0 1 = cc in omega arith
-
 -- no empty text begins with a character, and a text that begins with one has it first
 front-nil : (c : ℕ) (l : List ℕ) → Front (c ∷ l) [] → ⊥
-front-nil c l j = not-nil (j .eq ∙ ap (λ u. u ++ j .back) (j .is-fore))
+front-nil c l j = not-cons (j .eq ∙ ap (λ u. u ++ j .back) (j .is-fore))
 
 front-cons : (c d : ℕ) (l w : List ℕ) → Front (c ∷ l) (d ∷ w) → d ≡ c
 front-cons c d l w j = let e = j .eq ∙ ap (λ u. u ++ j .back) (j .is-fore) in first e
@@ -235,7 +233,7 @@ module _ (s : List ℕ) (at n : ℕ) (t : List ℕ) (i : ℕ) (q : Hunting (lett
     where
       none : (m : ℕ) → letters s at m ≡ [] → m ≡ 0
       none zero e = refl
-      none (suc m) e = absurd (not-nil (sym e))
+      none (suc m) e = absurd (not-cons (sym e))
 
       go : (w : List ℕ) → Left (letters s at n) t i w → Told (Join Every (Front (letters s at n)) w) (eqb n 0)
       go w a =

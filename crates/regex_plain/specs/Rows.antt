@@ -7,8 +7,8 @@ use mathlib.Core.List.{List, [], _∷_, _++_}
 use lib.ListN.{length, drop, getD}
 use lib.Seq.{slice}
 use Rattle.definition.specs.Utf8.{encodeAll}
-use Rattle.regexps.specs.Words.{Join, Told}
-use Rattle.regexps.specs.Regexp.{Regexp, Describes}
+use Rattle.regex_definition.specs.Words.{Join, Told}
+use Rattle.regex_definition.specs.Regexp.{Regexp, Describes}
 use Rattle.regex_code.specs.Flat.{flat}
 
 -- n characters from `at` on

@@ -7,15 +7,15 @@ use Prim.Native.Nat.{ℕ, _+_, _-_, _≤_, _<_}
 use native.Mathlib.Omega.{arith}
 use lib.Dec.{eqb}
 use lib.ListN.{length, drop, getD, drop-of-length-le}
-use Rattle.reading.specs.Reads.{Wrote}
-use Rattle.regexps.specs.Chars.{isNormal}
-use Rattle.regexps.specs.Regexp.{Regexp}
-use Rattle.regexps.specs.Grammar.{char, dot}
-use Rattle.regexps.specs.Read.{begins, andThen, stops, readEscape, readBare, readLeaf}
+use Rattle.basics.specs.Reads.{Wrote}
+use Rattle.regex_definition.specs.Chars.{isNormal}
+use Rattle.regex_definition.specs.Regexp.{Regexp}
+use Rattle.regex_definition.specs.Grammar.{char, dot}
+use Rattle.regex_definition.specs.Read.{begins, andThen, stops, readEscape, readBare, readLeaf}
 use Rattle.regex_leaves.specs.Reads.{Is, ReadChar, Inserted}
 use Rattle.regex_leaves.specs.declared.chars.Char.{Char}
 use Rattle.regex_leaves.specs.declared.counts.Quant.the-variants as quant
-use Rattle.regex_leaves.proofs.OfChars.{drop-at, behind}
+use Rattle.regex_leaves.proofs.OfChars.{behind}
 use Rattle.regex_leaves.proofs.OfItems.{char-is, char-none}
 use Rattle.regex_reader.specs.Reads.{Post, PutChar, Repeats, outClass, outLeaf}
 use Rattle.regex_reader.specs.Reads.Post.{next, stop}
@@ -25,6 +25,7 @@ use Rattle.regex_reader.specs.declared.steps.State.{State}
 use Rattle.regex_reader.specs.declared.steps.Step.{Step}
 use Rattle.regex_reader.specs.declared.steps.Step.the-variants as step
 use Rattle.regex_reader.proofs.Parts.{same-post}
+use Rattle.basics.specs.Lists.{drop-at}
 
 -- ---- where no piece begins
 

@@ -6,10 +6,10 @@ use mathlib.Core.Option.{Option, none, some}
 use Prim.Native.Nat.{ℕ, zero, suc, _+_, _-_, _*_, _≤_, _<_}
 use native.Mathlib.Omega.{arith}
 use lib.ListN.{length, drop, set, length-append}
-use Rattle.reading.specs.Reads.{Wrote}
-use Rattle.regexps.specs.Regexp.{Range, class}
-use Rattle.regexps.specs.Grammar.{only}
-use Rattle.regexps.specs.Read.{begins, rest, readItem, readFirst, readItems, readRanges, readClass}
+use Rattle.basics.specs.Reads.{Wrote}
+use Rattle.regex_definition.specs.Regexp.{Range, class}
+use Rattle.regex_definition.specs.Grammar.{only}
+use Rattle.regex_definition.specs.Read.{begins, rest, readItem, readFirst, readItems, readRanges, readClass}
 use Rattle.regex_code.specs.Flat.{flag, flat, flatRanges, flat-ranges-append}
 use Rattle.regex_leaves.specs.Reads.{Is, ReadItem}
 use Rattle.regex_leaves.specs.Reads.ReadItem.{next as item-next, stop as item-stop}

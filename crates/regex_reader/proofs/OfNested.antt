@@ -9,15 +9,15 @@ use native.Mathlib.Nat.{le-refl}
 use borrow.Author.Tests.{ltb-true, ltb-false}
 use lib.Dec.{ltb}
 use lib.ListN.{length, drop, set, length-set, length-append, drop-of-length-le}
-use Rattle.reading.specs.Reads.{Wrote}
-use Rattle.regexps.specs.Words.{upto, any}
-use Rattle.regexps.specs.Regexp.{Regexp, empty, then, or, times}
-use Rattle.regexps.specs.Read.{begins, rest, andThen, stops, readQuantifier, readLeaf, readAtom, readPiece, readBranch, readAlternatives, readRegexp}
+use Rattle.basics.specs.Reads.{Wrote}
+use Rattle.regex_definition.specs.Words.{upto, any}
+use Rattle.regex_definition.specs.Regexp.{Regexp, empty, then, or, times}
+use Rattle.regex_definition.specs.Read.{begins, rest, andThen, stops, readQuantifier, readLeaf, readAtom, readPiece, readBranch, readAlternatives, readRegexp}
 use Rattle.regex_code.specs.Flat.{flat}
 use Rattle.regex_leaves.specs.Reads.{Is, ReadQuantifier, Inserted}
 use Rattle.regex_leaves.specs.Reads.ReadQuantifier.{bounded as quant-bounded, endless as quant-endless, once as quant-once, stop as quant-none}
 use Rattle.regex_leaves.specs.declared.counts.Quant.{Quant}
-use Rattle.regex_leaves.proofs.OfChars.{drop-at, behind}
+use Rattle.regex_leaves.proofs.OfChars.{behind}
 use Rattle.regex_reader.specs.Reads.{Room, Read, Post, Repeats, outLeaf, outAtom, outPiece, outBranch, outAlternatives, ReadsWhole}
 use Rattle.regex_reader.specs.Reads.Post.{next, stop}
 use Rattle.regex_reader.specs.Reads.Repeats.{once, endless, bounded, stop as repeat-none}
@@ -28,6 +28,7 @@ use Rattle.regex_reader.specs.declared.steps.Step.the-variants as step
 use Rattle.regex_reader.specs.declared.nested.Reading.the-variants as reading
 use Rattle.regex_reader.proofs.Parts.{flat-behind, wrote-then, wrote-length}
 use Rattle.regex_reader.proofs.OfAtoms.{stops-end}
+use Rattle.basics.specs.Lists.{drop-at}
 
 -- what an answer that is given says
 pub read-is : {out : ℕ → Option (Regexp × List ℕ)} {j k : ℕ} {s p q : List ℕ} {a b : State} → Post out j k s p q a (step.Next b) → Read out j k s p q a b

@@ -6,14 +6,14 @@ use Prim.Native.Nat.{ℕ, suc, _+_, _-_, _*_, _≤_}
 use native.Mathlib.Omega.{arith}
 use lib.ListN.{length, set}
 use lib.Seq.{sets, set-set, length-sets}
-use Rattle.reading.specs.Reads.{Wrote}
-use Rattle.regexps.specs.Words.{upto, any}
-use Rattle.regexps.specs.Regexp.{Range, Regexp, empty, class, then, or, times}
+use Rattle.basics.specs.Reads.{Wrote}
+use Rattle.regex_definition.specs.Words.{upto, any}
+use Rattle.regex_definition.specs.Regexp.{Range, Regexp, empty, class, then, or, times}
 use Rattle.regex_code.specs.Flat.{flag, flat, flatRanges}
-use Rattle.regex_leaves.proofs.Stores.{sets-append, set-sets}
 use Rattle.regex_reader.specs.Reads.{Post}
 use Rattle.regex_reader.specs.Reads.Post.{next, stop}
 use Rattle.regex_reader.specs.declared.steps.Step.{Step}
+use Rattle.basics.specs.Lists.{set-sets, sets-append}
 
 -- the words r behind those of ranges, and behind those of an expression
 pub ranges-behind : (gs : List Range) (r : List ℕ) → flatRanges gs r ≡ flatRanges gs [] ++ r

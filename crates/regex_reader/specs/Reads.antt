@@ -6,9 +6,9 @@ use mathlib.Core.Option.{Option, none, some}
 use Prim.Native.Nat.{ℕ, _+_, _-_, _*_, _≤_, _<_}
 use lib.Dec.{eqb}
 use lib.ListN.{length, drop}
-use Rattle.reading.specs.Reads.{Wrote}
-use Rattle.regexps.specs.Regexp.{Range, Regexp}
-use Rattle.regexps.specs.Read.{begins, rest, readItems, readClass, readRanges, readLeaf, readAtom, readPiece, readBranch, readAlternatives, readRegexp}
+use Rattle.basics.specs.Reads.{Wrote}
+use Rattle.regex_definition.specs.Regexp.{Range, Regexp}
+use Rattle.regex_definition.specs.Read.{begins, rest, readItems, readClass, readRanges, readLeaf, readAtom, readPiece, readBranch, readAlternatives, readRegexp}
 use Rattle.regex_code.specs.Flat.{flat, flatRanges}
 use Rattle.regex_leaves.specs.declared.chars.Char.{Char}
 use Rattle.regex_leaves.specs.declared.chars.Char.the-variants as char

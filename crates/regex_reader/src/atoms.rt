@@ -13,8 +13,8 @@ ghost use mathlib.Core.Path.{_≡_};
 ghost use mathlib.Core.List.{[], _∷_};
 ghost use Prim.Native.Nat.{_+_, _-_, _*_, _≤_, _<_};
 ghost use lib.ListN.{length, drop};
-ghost use Rattle.reading.specs.Reads.{Wrote};
-ghost use Rattle.regexps.specs.Read.{stops};
+ghost use Rattle.basics.specs.Reads.{Wrote};
+ghost use Rattle.regex_definition.specs.Read.{stops};
 ghost use Rattle.regex_reader.specs.Reads.{Room, Post, outLeaf, Repeats, PutChar};
 
 // Whether no piece begins at `at`.

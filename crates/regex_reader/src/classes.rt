@@ -11,8 +11,8 @@ ghost use Rattle.regex_code.specs.Flat.{flag};
 ghost use mathlib.Core.Bool.{true, false};
 ghost use Prim.Native.Nat.{_+_, _-_, _*_, _≤_, _<_};
 ghost use lib.ListN.{length};
-ghost use Rattle.reading.specs.Reads.{Wrote};
-ghost use Rattle.regexps.specs.Read.{readClass, readRanges};
+ghost use Rattle.basics.specs.Reads.{Wrote};
+ghost use Rattle.regex_definition.specs.Read.{readClass, readRanges};
 ghost use Rattle.regex_reader.specs.Reads.{IsEnd, PostRanges, Room, Post, isComplement, outClass, outRanges};
 
 // The place behind the "]" and the number of ranges behind the first; or there is none.

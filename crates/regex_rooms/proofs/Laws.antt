@@ -9,11 +9,11 @@ use borrow.Author.Tests.{lt-leb, ne-eqb}
 use lib.Dec.{eqb, leb}
 use lib.ListN.{length, take, drop, set, length-append}
 use lib.Seq.{sets-eq, take-at}
-use Rattle.regexps.specs.Regexp.{Regexp, described}
-use Rattle.regexps.specs.Scope.{Scope, whole, part, widen}
+use Rattle.regex_definition.specs.Regexp.{Regexp, described}
+use Rattle.regex_definition.specs.Scope.{Scope, whole, part, widen}
 use Rattle.definition.specs.Utf8.{isUtf8, scalarsOf}
 use Rattle.definition.specs.Regexps.{regexpOf, testBy, regexTest}
-use Rattle.reading.specs.Reads.{Wrote}
+use Rattle.basics.specs.Reads.{Wrote}
 use Rattle.regex_code.specs.Flat.{flat}
 use Rattle.regex_reader.proofs.Parts.{wrote-then, wrote-length, flat-behind}
 use Rattle.regex_bytes.specs.Bytes.{IsCode, ReadsBytes}

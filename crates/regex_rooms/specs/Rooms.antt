@@ -6,8 +6,8 @@ use mathlib.Core.Option.{none, some}
 use Prim.Native.Nat.{ℕ, _≤_}
 use lib.Dec.{eqb}
 use lib.ListN.{length, take}
-use Rattle.regexps.specs.Regexp.{Regexp}
-use Rattle.regexps.specs.Scope.{Scope, whole, part, widen}
+use Rattle.regex_definition.specs.Regexp.{Regexp}
+use Rattle.regex_definition.specs.Scope.{Scope, whole, part, widen}
 use Rattle.definition.specs.Plans.{scopeKind}
 use Rattle.definition.specs.Regexps.{regexpOf}
 use Rattle.regex_code.specs.Flat.{flat}

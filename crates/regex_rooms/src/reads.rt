@@ -1,4 +1,5 @@
 // The code of an expression as match or search asks for it. Search is match of the expression with any characters before it and behind it.
+use plan_format::kinds::SEARCH;
 use regex_bytes::read_bytes;
 use regex_reader::nested::Reading;
 ghost use mathlib.Core.Path.{_≡_};
@@ -7,12 +8,9 @@ ghost use mathlib.Core.List.{[], _∷_};
 ghost use Prim.Native.Nat.{_+_, _*_, _≤_};
 ghost use lib.ListN.{length};
 ghost use Rattle.definition.specs.Utf8.{isUtf8};
-ghost use Rattle.reading.specs.Reads.{Wrote};
-ghost use Rattle.regexps.specs.Scope.{part};
+ghost use Rattle.basics.specs.Reads.{Wrote};
+ghost use Rattle.regex_definition.specs.Scope.{part};
 ghost use Rattle.regex_rooms.specs.Rooms.{scopeFor, Widened};
-
-// The plan kind of search.
-const SEARCH: u8 = 0x1D;
 
 // The words of "any number of any characters".
 const ANYTHING: usize = 5;

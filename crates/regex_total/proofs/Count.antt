@@ -5,8 +5,8 @@ use Prim.Native.Nat.{ℕ, zero, suc, max, _+_, _-_, _≤_, zero-le}
 use native.Mathlib.Omega.{arith}
 use native.Mathlib.Nat.{le-refl}
 use lib.ListN.{length, length-append}
-use Rattle.regexps.specs.Words.{Join, Row, Times, upto, any}
-use Rattle.regexps.specs.Laws.{nil-join, join-map, row-add, row-split, times-split}
+use Rattle.regex_definition.specs.Words.{Join, Row, Times, upto, any}
+use Rattle.regex_definition.specs.Laws.{nil-join, join-map, row-add, row-split, times-split}
 
 module _ (P : List ℕ → Type 0) where
   -- l + l' to h + h' words are l to h, and then l' to h'

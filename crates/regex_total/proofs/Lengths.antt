@@ -6,19 +6,20 @@ use mathlib.Core.Logic.{_⊎_, ⊎-elim}
 use Prim.Native.Nat.{ℕ, zero, suc, min, max, _+_, _*_, _-_, _/_, _≤_, _<_, _^_, zero-le}
 use native.Mathlib.Omega.{arith}
 use native.Mathlib.Nat.{add-zero, mul-suc, mul-zero, mul-comm, mul-le-mul-left, le-of-lt, div-lt-iff-lt-mul, le-div-iff-mul-le}
-use lib.Dec.{leb, ltb}
+use lib.Dec.{leb}
 use borrow.Author.Tests.{leb-true}
 use lib.ListN.{length, length-append, drop, getD, length-drop, drop-of-length-le}
 use Rattle.definition.specs.Utf8.{encode, encodeAll}
-use Rattle.utf8.specs.Bytes.{by-test}
-use Rattle.utf8.specs.Encode.{encode-one}
-use Rattle.utf8.specs.Decode.{encode-long}
-use Rattle.regexps.specs.Chars.{within}
+use Rattle.basics.specs.Lists.{drop-at as word}
+use Rattle.utf8_laws.specs.Texts.{encode-most}
+use Rattle.utf8_laws.specs.Encode.{encode-one}
+use Rattle.utf8_laws.specs.Decode.{encode-long}
+use Rattle.regex_definition.specs.Chars.{within}
 use Rattle.regex_chars.specs.Laws.{encodeAll-append, encodeAll-none, encodeAll-cons}
 use Rattle.regex_code.specs.Skips.{SkipsClass}
-use Rattle.regexps.specs.Words.{Join, Row, Times, upto, any, fails}
-use Rattle.regexps.specs.Regexp.{Regexp, empty, class, then, or, times, Describes, Range, hits}
-use Rattle.regex_code.specs.Flat.{flat, head, of-empty, of-class, of-then, of-or, of-upto, of-any, of-other, of-nothing, word, word-of, flag, flatRanges}
+use Rattle.regex_definition.specs.Words.{Join, Row, Times, upto, any, fails}
+use Rattle.regex_definition.specs.Regexp.{Regexp, empty, class, then, or, times, Describes, Range, hits}
+use Rattle.regex_code.specs.Flat.{flat, head, of-empty, of-class, of-then, of-or, of-upto, of-any, of-other, of-nothing, word-of, flag, flatRanges}
 use Rattle.regex_total.specs.Answers.{Inside, Repeated, Widths, Capped, Apart, few, many, bytes, Reaches}
 use Rattle.regex_total.proofs.Parts.{spells-bytes}
 use Rattle.regex_total.proofs.Steps.{some-code}
@@ -308,14 +309,6 @@ module _ (n lo hi least most : ℕ) where
       let z : 0 < most = omega arith in
       let m = le-div-iff-mul-le z .0 (leb-true hi ((n - 1) / most) e) in
       many b (omega arith)
-
--- how many bytes a character of a class has
-encode-most : (c : ℕ) → length (encode c) ≤ 4
-unfolding encode
-encode-most c =
-    by-test (ltb c 0x80) (λ t. rw t (omega arith)) (λ f.
-    by-test (ltb c 0x800) (λ t. rw (f, t) (omega arith)) (λ g.
-    by-test (ltb c 0x10000) (λ t. rw (f, g, t) (omega arith)) (λ h. rw (f, g, h) (omega arith))))
 
 module _ (s : List ℕ) (at : ℕ) where
   pub reach-any : Reaches s at 4

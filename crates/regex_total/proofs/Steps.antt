@@ -9,16 +9,17 @@ use native.Mathlib.Nat.{le-refl}
 use lib.ListN.{length, length-append, drop, getD, length-drop, drop-of-length-le}
 use lib.Seq.{slice, slice-empty}
 use Rattle.definition.specs.Utf8.{encode, encodeAll}
+use Rattle.basics.specs.Lists.{drop-at as word}
 use Rattle.regex_chars.specs.Chars.{Stands}
 use Rattle.regex_chars.specs.Classes.{Hits}
 use Rattle.regex_chars.specs.Laws.{encodeAll-none, encodeAll-cons, encodeAll-nil, nil-slice, slice-nil}
 use lib.Dec.{eqb}
 use borrow.Author.Tests.{eqb-true, eqb-false}
-use Rattle.regexps.specs.Words.{Join, Row, Times, upto, any, Told, holds, fails}
-use Rattle.regexps.specs.Regexp.{Regexp, empty, class, then, or, times, Describes, One, Range, hits}
-use Rattle.regexps.specs.Laws.{join-map, join-nil}
-use Rattle.regexps.specs.Agree.{told, told-true, bool-told}
-use Rattle.regex_code.specs.Flat.{flat, head, of-empty, of-class, of-then, of-or, of-upto, of-any, of-other, of-nothing, word, word-of}
+use Rattle.regex_definition.specs.Words.{Join, Row, Times, upto, any, Told, holds, fails}
+use Rattle.regex_definition.specs.Regexp.{Regexp, empty, class, then, or, times, Describes, One, Range, hits}
+use Rattle.regex_definition.specs.Laws.{join-map, join-nil}
+use Rattle.regex_definition.specs.Agree.{told, told-true, bool-told}
+use Rattle.regex_code.specs.Flat.{flat, head, of-empty, of-class, of-then, of-or, of-upto, of-any, of-other, of-nothing, word-of}
 use Rattle.regex_code.specs.Skips.{Skips}
 use Rattle.regex_total.specs.Answers.{Inside, Spells, Matched, Repeated, Paired, Joined}
 use Rattle.regex_total.proofs.Count.{halves-join, halves-split, of-once, to-once, of-most-once, any-upto, upto-any, upto-more, row-nil}

@@ -8,8 +8,8 @@ use mathlib.Core.Logic.{_⊎_}
 use lib.ListN.{length, drop}
 use lib.Seq.{slice}
 use Rattle.definition.specs.Utf8.{encode, encodeAll}
-use Rattle.regexps.specs.Words.{Join, Times, upto, Told}
-use Rattle.regexps.specs.Regexp.{Regexp, Range, hits, Describes}
+use Rattle.regex_definition.specs.Words.{Join, Times, upto, Told}
+use Rattle.regex_definition.specs.Regexp.{Regexp, Range, hits, Describes}
 use Rattle.regex_code.specs.Flat.{flat, flag, flatRanges}
 use Rattle.regex_total.specs.declared.Width.{Width}
 

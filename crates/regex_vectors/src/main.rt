@@ -2,9 +2,9 @@
 // Each line of the input is an expression, a blank and a text, both UTF-8 in hexadecimal, a dash for an empty one.
 // For each line the program writes `outside` where the bytes are no expression of the part, and else what holds: `match and search`, `search`, `match` or `neither`.
 // A short text is tested twice, with room for marks and without; ` differs` stands behind answers that are not the same both times.
-use console::output;
-use lines::words;
-use lines::words::ByteWord;
+use program_console::output;
+use program_lines::words;
+use program_lines::words::ByteWord;
 use regex_reader::nested::Reading;
 ghost use Prim.Native.Nat.{_≤_};
 
@@ -148,7 +148,7 @@ fn run(buffer: &mut [u8], line: &mut [u8]) {
     let mut end = 0;
     let mut left = LINES;
     while 0 < left {
-        let next = console::input::next(buffer, at, end, line);
+        let next = program_console::input::next(buffer, at, end, line);
         if next.found {
             end_line(line, next.used);
             at = next.at;

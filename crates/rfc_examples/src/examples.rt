@@ -1,8 +1,8 @@
 // An example: its words are read one after the other, each into a room of its own, and what select answers is compared with what is wanted.
-use console::output;
-use lines::words;
-use lines::words::ByteWord;
-use refusals::Outcome;
+use program_console::output;
+use program_lines::words;
+use program_lines::words::ByteWord;
+use program_refusals::Outcome;
 use text::parts;
 ghost use Prim.Native.Nat.{_≤_};
 
@@ -70,7 +70,7 @@ fn with_text(line: &[u8], from: usize, query: &[u8], table: &[u8]) -> Verdict {
         ByteWord::Bytes(n, next) => {
             let mut list = [0u32; PLACES];
             let selection = select::select(query, table, words::first(&room, n), &mut list, 0);
-            judge(line, next, refusals::of_select(selection), &list)
+            judge(line, next, program_refusals::of_select(selection), &list)
         }
         _ => bad_line(line),
     }

@@ -16,8 +16,8 @@
 //     examples   what is read of a line, and how it is compared
 mod examples;
 
-use console::output;
 use examples::Verdict;
+use program_console::output;
 
 // How many lines are answered at most.
 const LINES: u64 = 1048576;
@@ -88,7 +88,7 @@ fn run(buffer: &mut [u8], line: &mut [u8]) {
     let mut end = 0;
     let mut left = LINES;
     while 0 < left {
-        let next = console::input::next(buffer, at, end, line);
+        let next = program_console::input::next(buffer, at, end, line);
         if next.found {
             tally = counted(tally, end_line(line, next.used));
             at = next.at;

@@ -5,7 +5,7 @@ use mathlib.Core.List.{List}
 use mathlib.Core.Bool.{cond}
 use lib.Dec.{eqb}
 use Rattle.definition.specs.Outcomes.{RunOutcome, Runs}
-use Rattle.spelled.specs.One.{runs-one}
+use Rattle.plan_laws.specs.One.{runs-one}
 use Rattle.run.specs.declared.Ran.{Ran}
 use Rattle.run.specs.declared.Ran.the-variants.{Selected, WrongPlan, WrongSize, WrongNode, WrongText, WrongStart, NoRoom}
 use Rattle.run.specs.Outcomes.{ran}

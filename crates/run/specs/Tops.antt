@@ -19,16 +19,16 @@ use Rattle.definition.specs.Evaluation.{evalQuery, evalSegments, selected}
 use Rattle.definition.specs.TableOutcomes.{TableOutcome, reportTable, tableOutcome}
 use Rattle.definition.specs.Outcomes.{Translates, spelled, notSpelled, RunOutcome, refuseRun, place, placeFrom, runTable, runBy, Runs}
 use Rattle.definition.specs.Outcomes.Reading.{form, refused}
-use Rattle.tables.specs.Bools.{and-left, and-right}
+use Rattle.basics.specs.Bools.{and-left, and-right}
 use Rattle.table.specs.Outcomes.{reported}
 use Rattle.table.specs.declared.TableChecked.{TableChecked}
 use Rattle.table.specs.declared.TableChecked.the-variants.{Accepted as Right, WrongSize as Sized, WrongNode as Wrong, WrongText as Text}
-use Rattle.walks.specs.Bytes.{holds-whole, holds-tail}
-use Rattle.walks.specs.States.{st, emit, emit-whole}
-use Rattle.walks.specs.Segments.{ids}
-use Rattle.walks.specs.Emits.{go}
-use Rattle.walks.specs.Items.{SegmentsAt}
-use Rattle.plan.specs.Checks.{Accepts}
+use Rattle.eval_laws.specs.Bytes.{holds-whole, holds-tail}
+use Rattle.eval_laws.specs.States.{st, emit, emit-whole}
+use Rattle.eval_laws.specs.Segments.{ids}
+use Rattle.eval_laws.specs.Emits.{go}
+use Rattle.eval_laws.specs.Items.{SegmentsAt}
+use Rattle.plan_check.specs.Checks.{Accepts}
 use Rattle.run.specs.declared.Ran.the-variants.{Selected, WrongPlan, WrongSize, WrongNode, WrongText, WrongStart, NoRoom}
 use Rattle.run.specs.Outcomes.{ran, Planned, RunsForm, DonePlacing}
 

@@ -87,7 +87,7 @@ pub fn run<'a>(
 ) -> Ran
     ensures { λ r. ⌜ Runs (now (plan .entry)) (now (pool .entry)) (now (table .entry)) (now (text .entry)) (now (list .entry)) start (ran r (now (list .exit))) ⌝ }
 {
-    if plan::check_plan(plan, pool) {
+    if plan_check::check_plan(plan, pool) {
         return run_form(plan, pool, table, text, list, start);
     }
     Ran::WrongPlan

@@ -10,9 +10,9 @@ use Rattle.definition.specs.Plans.{planOf, poolOf}
 use Rattle.definition.specs.Walk.{walk}
 use Rattle.definition.specs.Outcomes.{Translates, early, judge, runBy, refuseRun}
 use Rattle.definition.specs.Outcomes.Reading.{refused, form}
-use Rattle.keeps.specs.Keeps.{compiled-keeps}
-use Rattle.readings.specs.Readings.{OneReading, OneSelect, none-only, early-only, selects-only}
-use Rattle.items.specs.declared.State.{State}
+use Rattle.compile_forms.specs.Keeps.{compiled-keeps}
+use Rattle.compile_unique.specs.Readings.{OneReading, OneSelect, none-only, early-only, selects-only}
+use Rattle.parser_items.specs.declared.State.{State}
 use Rattle.compile.specs.Steps.{Parsed, verdictOf}
 use Rattle.compile.proofs.Answers.{reading, judged, formed}
 use Rattle.run.specs.Outcomes.{ran, Planned, RunsForm}

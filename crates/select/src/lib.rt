@@ -5,7 +5,7 @@ ghost use Prim.Native.Nat.{_≤_};
 ghost use lib.ListN.{length};
 ghost use Rattle.definition.specs.Outcomes.{RunOutcome, Selects, early};
 ghost use Rattle.compile.specs.Steps.{Rooms};
-ghost use Rattle.readings.specs.Readings.{OneSelect};
+ghost use Rattle.compile_unique.specs.Readings.{OneSelect};
 ghost use Rattle.select.specs.Selections.{selected};
 use compile::rooms::BRIEF;
 use compile::rooms::BRIEF_PLAN_ROOM;
@@ -25,7 +25,7 @@ use compile::rooms::TINY_POOL_ROOM;
 use compile::rooms::early_refusal;
 use compile::rooms::parse;
 use compile::rooms::verdict;
-use items::Step;
+use parser_items::Step;
 use run::Ran;
 use run::run_form;
 

@@ -8,11 +8,11 @@
 // docs/DIFFERENCES.md by which document 01's answer, which stands here, differs from it. REFUSAL is 0 where the query selects, and the nodes follow in order.
 // For each line the program writes `ok` and the nodes, or `refused` and the number; and `differs` behind an answer that is not the line's.
 // The last line counts the cases and the answers that differ.
-use console::output;
-use lines::words;
-use lines::words::ByteWord;
-use lines::words::NumberWord;
-use refusals::Outcome;
+use program_console::output;
+use program_lines::words;
+use program_lines::words::ByteWord;
+use program_lines::words::NumberWord;
+use program_refusals::Outcome;
 
 // How many places the list of selected nodes has.
 const PLACES: usize = 1024;
@@ -89,7 +89,7 @@ fn with_text(line: &[u8], from: usize, query: &[u8], table: &[u8]) -> bool {
         ByteWord::Bytes(n, next) => {
             let mut list = [NOT_SET; PLACES];
             let selection = select::select(query, table, words::first(&room, n), &mut list, 0);
-            judge(line, next, refusals::of_select(selection), &list)
+            judge(line, next, program_refusals::of_select(selection), &list)
         }
         _ => bad_line(),
     }
@@ -145,7 +145,7 @@ fn run(buffer: &mut [u8], line: &mut [u8]) {
     let mut end = 0;
     let mut left = LINES;
     while 0 < left {
-        let next = console::input::next(buffer, at, end, line);
+        let next = program_console::input::next(buffer, at, end, line);
         if next.found {
             other = more_unless(other, end_line(line, next.used));
             count = more(count);

@@ -7,8 +7,8 @@ use borrow.Author.Tests.{eq-eqb, ne-eqb}
 use Rattle.definition.specs.Tables.{checkTable}
 use Rattle.definition.specs.Tables.Checked.{accepted, sized, wrongAt, textAt}
 use Rattle.definition.specs.TableOutcomes.{TableOutcome, PartOutcome, reportTable, tableOutcome}
-use Rattle.tables.specs.Outcomes.{report-accepted, report-sized, report-wrong, report-text}
-use Rattle.tables.specs.Places.{Begins, partStart}
+use Rattle.table_laws.specs.Outcomes.{report-accepted, report-sized, report-wrong, report-text}
+use Rattle.table_laws.specs.Places.{Begins, partStart}
 use Rattle.table.specs.declared.TableChecked.{TableChecked}
 use Rattle.table.specs.declared.TableChecked.the-variants.{Accepted, WrongSize, WrongNode, WrongText}
 use Rattle.table.specs.Outcomes.{reported, answered}

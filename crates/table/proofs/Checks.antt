@@ -12,14 +12,14 @@ use borrow.Author.Tests.{ltb-true, ltb-false}
 use Rattle.definition.specs.Tables.{Checked, nodeCount, childCount, firstChild, keyStart, keyLength, goodPart, recordRight, leastRecord, leastText, badSize, byRecord, byText, andThen, checkRecords, checkTexts, checkTable}
 use Rattle.definition.specs.Tables.Checked.{textAt}
 use Rattle.definition.specs.TableOutcomes.{TableOutcome, reportTable, recordsOutcome, textsOutcome, tableOutcome}
-use Rattle.tables.specs.Counts.{counts-next}
-use Rattle.tables.specs.Failing.{below-more}
-use Rattle.tables.specs.Joined.{leastWrong, byLeast}
-use Rattle.tables.specs.Least.{none-right}
-use Rattle.tables.specs.Rights.{good-inside}
-use Rattle.tables.specs.Records.{RecordsBelow, record-payload, counts-reach}
-use Rattle.tables.specs.Pair.{least-text, right-pair, records-sized, records-by, texts-sized, texts-by, check-sized, check-record, check-text}
-use Rattle.tables.specs.Starts.{leastStart, keys-inside}
+use Rattle.table_laws.specs.Counts.{counts-next}
+use Rattle.table_laws.specs.Failing.{below-more}
+use Rattle.table_laws.specs.Joined.{leastWrong, byLeast}
+use Rattle.table_laws.specs.Least.{none-right}
+use Rattle.table_laws.specs.Rights.{good-inside}
+use Rattle.table_laws.specs.Records.{RecordsBelow, record-payload, counts-reach}
+use Rattle.table_laws.specs.Pair.{least-text, right-pair, records-sized, records-by, texts-sized, texts-by, check-sized, check-record, check-text}
+use Rattle.table_laws.specs.Starts.{leastStart, keys-inside}
 use Rattle.table.specs.declared.TableChecked.{TableChecked}
 use Rattle.table.specs.declared.TableChecked.the-variants.{Accepted, WrongSize, WrongNode, WrongText}
 use Rattle.table.specs.declared.structure.Pass.{Pass}

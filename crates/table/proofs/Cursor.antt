@@ -8,11 +8,11 @@ use native.Mathlib.Omega.{arith}
 use native.Mathlib.Numerals.{add-one}
 use borrow.Author.Tests.{ltb-true, ltb-false}
 use Rattle.definition.specs.Tables.{nodeCount, kindAt, depthAt, highWord, kindMap, childCount, countsBefore, firstChild}
-use Rattle.tables.specs.Joined.{nodeRight}
-use Rattle.tables.specs.Counts.{counts-root, counts-next, counts-monotone}
-use Rattle.tables.specs.Parents.{InRange}
-use Rattle.tables.specs.Least.{RightBelow, right-more}
-use Rattle.tables.specs.Rights.{member-inside, map-members, count-map, right-payload}
+use Rattle.table_laws.specs.Joined.{nodeRight}
+use Rattle.table_laws.specs.Counts.{counts-root, counts-next, counts-monotone}
+use Rattle.table_laws.specs.Parents.{InRange}
+use Rattle.table_laws.specs.Least.{RightBelow, right-more}
+use Rattle.table_laws.specs.Rights.{member-inside, map-members, count-map, right-payload}
 use Rattle.definition.specs.Limits.{maxNodes, maxMembers}
 use Rattle.table.specs.declared.scan.Cursor.{Cursor}
 use Rattle.table.specs.Words.{Child, KeysInside, MembersBefore, HasParent, CursorAt, ParentAt}

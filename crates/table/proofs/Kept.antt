@@ -9,7 +9,7 @@ use native.Mathlib.Omega.{arith}
 use borrow.Author.Tests.{ltb-true, ltb-false}
 use Rattle.definition.specs.Limits.{maxMembers}
 use Rattle.definition.specs.Tables.{nodeCount, firstChild}
-use Rattle.tables.specs.Counts.{counts-monotone}
+use Rattle.table_laws.specs.Counts.{counts-monotone}
 use Rattle.table.specs.declared.scan.Cursor.{Cursor}
 use Rattle.table.specs.Buckets.{bucketAt}
 use Rattle.table.specs.Chains.{HeadsBelow, Chained, Roomy}

@@ -8,8 +8,8 @@ use native.Mathlib.Omega.{arith}
 use borrow.Author.Tests.{ltb-true, ltb-false}
 use Rattle.definition.specs.Bytes.{sameBytes}
 use Rattle.definition.specs.Tables.{keyBytes, keyDiffers}
-use Rattle.tables.specs.Bools.{and-not-left, and-not-right}
-use Rattle.text.proofs.Same.{same-true}
+use Rattle.definition_bytes.specs.Same.{same-true}
+use Rattle.basics.specs.Bools.{and-not-left, and-not-right}
 use Rattle.table.specs.Buckets.{bucketOf, bucketAt}
 use Rattle.table.specs.Chains.{Latest, Linked}
 

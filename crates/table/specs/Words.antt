@@ -6,7 +6,7 @@ use mathlib.Core.Bool.{Bool, true, false}
 use lib.ListN.{length}
 use Rattle.definition.specs.Limits.{maxNodes, maxMembers}
 use Rattle.definition.specs.Tables.{nodeCount, kindAt, depthAt, kindMap, highWord, firstChild, keyStart, keyLength, keyDiffers, textRight}
-use Rattle.tables.specs.Joined.{nodeRight}
+use Rattle.table_laws.specs.Joined.{nodeRight}
 use Rattle.table.specs.Buckets.{bucketAt}
 use Rattle.table.specs.Chains.{HeadsBelow, Chained, Roomy}
 use Rattle.table.specs.declared.scan.Cursor.{Cursor}

@@ -14,7 +14,7 @@ ghost use mathlib.Core.Path.{_≡_};
 ghost use Rattle.definition.specs.Tables.{badSize, lowWord, keyStart};
 ghost use Rattle.definition.specs.TableOutcomes.{recordsOutcome, textsOutcome, tableOutcome, textOutcome, keyOutcome};
 ghost use Rattle.table.specs.Outcomes.{reported, answered};
-ghost use Rattle.tables.specs.Places.{Begins, partStart};
+ghost use Rattle.table_laws.specs.Places.{Begins, partStart};
 ghost use denote.Ref.{ptr};
 
 mod buckets;
@@ -28,9 +28,8 @@ mod scan;
 mod structure;
 mod texts;
 
+use crate::records::RECORD;
 use structure::Pass;
-
-const RECORD: usize = 24;
 
 const MAX_NODES: usize = 65535;
 

@@ -4,17 +4,14 @@ ghost use Prim.Native.Nat.{_<_, _≤_, _+_};
 ghost use lib.ListN.{length};
 ghost use Rattle.definition.specs.Tables.{nodeCount, keyStart, keyLength, lowWord, highWord, keyBytes, textBytesAt};
 ghost use Rattle.definition.specs.TableOutcomes.{hasText, hasKey, textOutcome, keyOutcome};
-ghost use Rattle.tables.specs.Accepted.{Parented};
-ghost use Rattle.tables.specs.Places.{Begins};
+ghost use Rattle.table_laws.specs.Accepted.{Parented};
+ghost use Rattle.table_laws.specs.Places.{Begins};
 ghost use denote.Ref.{ptr};
 use crate::TableChecked;
 use crate::records;
-
-const RECORD: usize = 24;
-
-const KIND_TEXT: u8 = 5;
-
-const KIND_MAP: u8 = 7;
+use crate::records::KIND_MAP;
+use crate::records::KIND_TEXT;
+use crate::records::RECORD;
 
 const FOUND: u8 = 0;
 

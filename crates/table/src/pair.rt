@@ -6,7 +6,7 @@ ghost use Rattle.definition.specs.Limits.{maxNodes};
 ghost use Rattle.definition.specs.Tables.{nodeCount, leastRecord, leastText, byRecord, byText, andThen};
 ghost use Rattle.definition.specs.Tables.Checked.{textAt};
 ghost use Rattle.definition.specs.TableOutcomes.{reportTable};
-ghost use Rattle.tables.specs.Joined.{leastWrong};
+ghost use Rattle.table_laws.specs.Joined.{leastWrong};
 ghost use Rattle.table.specs.Outcomes.{reported, found};
 use crate::TableChecked;
 use crate::scan;

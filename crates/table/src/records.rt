@@ -4,11 +4,27 @@ ghost use Prim.Native.Nat.{_<_};
 ghost use Rattle.definition.specs.Tables.{nodeCount, field, kindAt, depthAt, keyStart, keyLength, parentAt, payload as payloadAt, lowWord, highWord, childCount};
 use text::bytes;
 
-const RECORD: usize = 24;
+// A record is 24 bytes long, and its number, bits, text or range of children begins at byte 16.
+pub const RECORD: usize = 24;
 
-const KIND_LIST: u8 = 6;
+pub const PAYLOAD: usize = 16;
 
-const KIND_MAP: u8 = 7;
+// The kinds of values.
+pub const KIND_NULL: u8 = 0;
+
+pub const KIND_FALSE: u8 = 1;
+
+pub const KIND_TRUE: u8 = 2;
+
+pub const KIND_INTEGER: u8 = 3;
+
+pub const KIND_FLOAT: u8 = 4;
+
+pub const KIND_TEXT: u8 = 5;
+
+pub const KIND_LIST: u8 = 6;
+
+pub const KIND_MAP: u8 = 7;
 
 // Byte 0: the kind.
 pub fn kind(table: &[u8], node: usize) -> u8

@@ -4,25 +4,19 @@ ghost use mathlib.Core.Option.{some};
 ghost use Prim.Native.Nat.{_<_, _+_};
 ghost use lib.Dec.{ltb};
 ghost use Rattle.definition.specs.Tables.{nodeCount, kindAt, kindMap, firstChild, goodPart, headRight, isFinite, rangeRight, noKey};
-ghost use Rattle.tables.specs.Joined.{payloadRight, memberRight, placeRight, nodeRight};
+ghost use Rattle.table_laws.specs.Joined.{payloadRight, memberRight, placeRight, nodeRight};
 ghost use Rattle.text.specs.Known.{Known};
 ghost use Rattle.table.specs.Words.{Child, MembersBefore, Kept};
 use crate::keys;
 use crate::records;
+use crate::records::KIND_FLOAT;
+use crate::records::KIND_INTEGER;
+use crate::records::KIND_LIST;
+use crate::records::KIND_MAP;
+use crate::records::KIND_TEXT;
+use crate::records::RECORD;
 use crate::scan::Cursor;
 use text::encoding;
-
-const RECORD: usize = 24;
-
-const KIND_INTEGER: u8 = 3;
-
-const KIND_FLOAT: u8 = 4;
-
-const KIND_TEXT: u8 = 5;
-
-const KIND_LIST: u8 = 6;
-
-const KIND_MAP: u8 = 7;
 
 const MAX_DEPTH: u8 = 63;
 

@@ -4,8 +4,8 @@ ghost use Prim.Native.Nat.{_<_, _≤_, _+_};
 ghost use Rattle.definition.specs.Limits.{maxNodes};
 ghost use Rattle.definition.specs.Tables.{nodeCount, firstChild};
 ghost use Rattle.definition.specs.TableOutcomes.{reportTable};
-ghost use Rattle.tables.specs.Joined.{leastWrong, byLeast};
-ghost use Rattle.tables.specs.Least.{RightBelow};
+ghost use Rattle.table_laws.specs.Joined.{leastWrong, byLeast};
+ghost use Rattle.table_laws.specs.Least.{RightBelow};
 ghost use Rattle.text.specs.Known.{Known};
 ghost use Rattle.table.specs.Words.{NodeAt, HasParent, CursorAt, ParentAt, Moved, Surely, Before, NodeFound};
 ghost use Rattle.table.specs.Outcomes.{reported};
@@ -13,10 +13,9 @@ use crate::TableChecked;
 use crate::buckets;
 use crate::distinct;
 use crate::records;
+use crate::records::RECORD;
 use crate::rules;
 use text::encoding;
-
-const RECORD: usize = 24;
 
 const MAX_MEMBERS: usize = 1024;
 

@@ -7,21 +7,16 @@ ghost use mathlib.Core.Bool.{true, false};
 ghost use Prim.Native.Nat.{_<_, _≤_};
 ghost use Rattle.definition.specs.Limits.{maxNodes};
 ghost use Rattle.definition.specs.Tables.{nodeCount, firstChild, payloadRecord, standsRecord, recordRight, leastRecord};
-ghost use Rattle.tables.specs.Parents.{InRange};
-ghost use Rattle.tables.specs.Records.{RecordsBelow};
+ghost use Rattle.table_laws.specs.Parents.{InRange};
+ghost use Rattle.table_laws.specs.Records.{RecordsBelow};
 ghost use Rattle.table.specs.Outcomes.{found};
 use crate::records;
+use crate::records::KIND_FLOAT;
+use crate::records::KIND_INTEGER;
+use crate::records::KIND_LIST;
+use crate::records::KIND_MAP;
+use crate::records::RECORD;
 use crate::rules;
-
-const RECORD: usize = 24;
-
-const KIND_INTEGER: u8 = 3;
-
-const KIND_FLOAT: u8 = 4;
-
-const KIND_LIST: u8 = 6;
-
-const KIND_MAP: u8 = 7;
 
 const MAX_MEMBERS: u32 = 1024;
 

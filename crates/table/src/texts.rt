@@ -6,20 +6,17 @@ ghost use mathlib.Core.Path.{_≡_};
 ghost use Prim.Native.Nat.{_<_, _+_};
 ghost use Rattle.definition.specs.Tables.{nodeCount, textInside, keysRight, textRight, leastText, byText};
 ghost use Rattle.definition.specs.TableOutcomes.{reportTable};
-ghost use Rattle.tables.specs.Starts.{leastStart};
+ghost use Rattle.table_laws.specs.Starts.{leastStart};
 ghost use Rattle.table.specs.Words.{TextsBelow};
 ghost use Rattle.table.specs.Outcomes.{reported};
 use crate::TableChecked;
 use crate::keys;
 use crate::records;
+use crate::records::KIND_MAP;
+use crate::records::KIND_TEXT;
+use crate::records::RECORD;
 use crate::rules;
 use text::encoding;
-
-const RECORD: usize = 24;
-
-const KIND_TEXT: u8 = 5;
-
-const KIND_MAP: u8 = 7;
 
 // Whether the text of a node, if it is one, lies inside the text and is UTF-8.
 fn text_inside(table: &[u8], text: &[u8], node: usize) -> bool

@@ -10,10 +10,10 @@ use lib.Dec.{eqb, leb, ltb}
 use lib.ListN.{length, drop, getD, set, replicate, length-set, length-replicate, getD-replicate}
 use lib.Seq.{drop-cons, drop-drop, getD-set-same, getD-set-other, ext-getD}
 use borrow.Author.Tests.{ne-eqb, eqb-true, eqb-false, ltb-true, ltb-false, le-leb, lt-leb}
-use Rattle.utf8.specs.Bytes.{by-test}
+use Rattle.utf8_laws.specs.Bytes.{by-test}
 use Rattle.definition.specs.Limits.{maxInt}
-use Rattle.tallies.specs.Items.{hasTwo, hasFour, hasEight, hasOne, bodyLength, kindsWithin, kindsOf, occurrences}
-use Rattle.tallies.specs.Tallies.{everyBelow}
+use Rattle.tally_laws.specs.Items.{hasTwo, hasFour, hasEight, hasOne, bodyLength, kindsWithin, kindsOf, occurrences}
+use Rattle.tally_laws.specs.Tallies.{everyBelow}
 use Rattle.tally.specs.Counts.{CountsOf, Sums}
 
 -- ---- a body

@@ -11,11 +11,11 @@ use lib.Seq.{ext-getD}
 use borrow.Author.Tests.{le-leb, lt-leb}
 use Rattle.definition.specs.Limits.{maxInt}
 use Rattle.definition.specs.Outcomes.{ChecksPlan}
-use Rattle.spelled.specs.One.{checks-one}
-use Rattle.plan.specs.Checks.{Accepts, accepted, refused, refusal}
-use Rattle.tallies.specs.Items.{kindsOf, occurrences}
-use Rattle.tallies.specs.Tallies.{TallyOutcome, Tallies, tallyBy, fits, everyBelow, sumAt, withPlan}
-use Rattle.tallies.specs.Series.{length-tabulate, getD-tabulate}
+use Rattle.plan_laws.specs.One.{checks-one}
+use Rattle.plan_check.specs.Checks.{Accepts, accepted, refused, refusal}
+use Rattle.tally_laws.specs.Items.{kindsOf, occurrences}
+use Rattle.tally_laws.specs.Tallies.{TallyOutcome, Tallies, tallyBy, fits, everyBelow, sumAt, withPlan}
+use Rattle.tally_laws.specs.Series.{length-tabulate, getD-tabulate}
 use Rattle.tally.specs.Counts.{CountsOf, Fits, Sums}
 
 -- an accepted plan has at most 65,535 bytes

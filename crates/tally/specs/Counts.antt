@@ -6,8 +6,8 @@ use mathlib.Core.List.{List}
 use lib.Dec.{leb}
 use lib.ListN.{length, getD}
 use Rattle.definition.specs.Limits.{maxInt}
-use Rattle.tallies.specs.Items.{occurrences}
-use Rattle.tallies.specs.Tallies.{TallyOutcome, everyBelow}
+use Rattle.tally_laws.specs.Items.{occurrences}
+use Rattle.tally_laws.specs.Tallies.{TallyOutcome, everyBelow}
 
 -- R holds the occurrences of every kind among the items l
 pub record CountsOf (l R : List ℕ) : Type 0 where

@@ -4,10 +4,12 @@ ghost use mathlib.Core.Path.{_≡_};
 ghost use mathlib.Core.Bool.{true};
 ghost use Prim.Native.Nat.{ℕ, _≤_};
 ghost use lib.ListN.{length};
-ghost use Rattle.tallies.specs.Items.{hasTwo, hasFour, hasEight, hasOne, bodyLength, kindsOf};
-ghost use Rattle.tallies.specs.Tallies.{TallyOutcome, Tallies};
+ghost use Rattle.tally_laws.specs.Items.{hasTwo, hasFour, hasEight, hasOne, bodyLength, kindsOf};
+ghost use Rattle.tally_laws.specs.Tallies.{TallyOutcome, Tallies};
 ghost use Rattle.tally.specs.Counts.{CountsOf, Fits, Sums, tallied};
-use plan::check_plan;
+use plan_check::check_plan;
+use plan_format::kinds;
+use plan_format::lengths;
 
 // As many counts as a byte has values.
 pub const KINDS: usize = 256;
@@ -18,49 +20,49 @@ const MAX_COUNT: u64 = 9007199254740991;
 fn has_two(kind: u8) -> bool
     ensures { λ r. ⌜ r ≡ hasTwo kind ⌝ }
 {
-    if kind == 0x03 {
+    if kind == kinds::CHILD {
         return true;
     }
-    if kind == 0x04 {
+    if kind == kinds::DESCENDANT {
         return true;
     }
-    if kind == 0x09 {
+    if kind == kinds::FILTER {
         return true;
     }
-    if kind == 0x16 {
+    if kind == kinds::AND {
         return true;
     }
-    kind == 0x17
+    kind == kinds::OR
 }
 
 fn has_four(kind: u8) -> bool
     ensures { λ r. ⌜ r ≡ hasFour kind ⌝ }
 {
-    if kind == 0x05 {
+    if kind == kinds::NAME {
         return true;
     }
-    kind == 0x12
+    kind == kinds::TEXT
 }
 
 fn has_eight(kind: u8) -> bool
     ensures { λ r. ⌜ r ≡ hasEight kind ⌝ }
 {
-    if kind == 0x06 {
+    if kind == kinds::INDEX {
         return true;
     }
-    if kind == 0x10 {
+    if kind == kinds::INTEGER {
         return true;
     }
-    kind == 0x11
+    kind == kinds::FLOAT
 }
 
 fn has_one(kind: u8) -> bool
     ensures { λ r. ⌜ r ≡ hasOne kind ⌝ }
 {
-    if kind == 0x13 {
+    if kind == kinds::CONSTANT {
         return true;
     }
-    kind == 0x14
+    kind == kinds::COMPARE
 }
 
 // How many bytes follow the byte of a kind.
@@ -68,18 +70,22 @@ fn body_length(kind: u8) -> usize
     ensures { λ r. ⌜ (r ≡ bodyLength kind) × (r ≤ 25) ⌝ }
 {
     if has_two(kind) {
-        return 2;
+        return lengths::SIZE_BODY;
     }
     if has_four(kind) {
-        return 4;
+        return lengths::POOLED_BODY;
     }
     if has_eight(kind) {
-        return 8;
+        return lengths::NUMBER_BODY;
     }
     if has_one(kind) {
-        return 1;
+        return lengths::BYTE_BODY;
     }
-    if kind == 0x07 { 25 } else { 0 }
+    if kind == kinds::SLICE {
+        lengths::SLICE_BODY
+    } else {
+        0
+    }
 }
 
 // How often each kind occurs among the items of a plan.

@@ -11,8 +11,8 @@ use lib.ListN.{length, take, drop, getD, drop-of-length-le, length-drop}
 use lib.Seq.{drop-cons, getD-drop}
 use Rattle.definition.specs.Bytes.{within, every, part}
 use Rattle.definition.specs.Utf8.{isUtf8From, isUtf8}
-use Rattle.utf8.specs.Bytes.{by-test, inside, inside-low, inside-high, low3, high3, low4, high4}
-use Rattle.utf8.specs.Encode.{utf8-ascii, utf8-two, utf8-three, utf8-four}
+use Rattle.utf8_laws.specs.Bytes.{by-test, inside, inside-low, inside-high, low3, high3, low4, high4}
+use Rattle.utf8_laws.specs.Encode.{utf8-ascii, utf8-two, utf8-three, utf8-four}
 use Rattle.text.specs.Chars.{isAscii}
 use Rattle.text.specs.Placed.{isTail, isAskedPlain, isAsked, Bounded, Unbound, Placed, Plain, PlacedAt, PlacedIn, Ends}
 

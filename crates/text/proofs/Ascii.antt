@@ -11,10 +11,11 @@ use lib.Dec.{eqb, ltb}
 use lib.ListN.{length, take, drop, getD, replicate, length-drop, take-append-drop}
 use lib.Seq.{take-add, take-all, drop-drop}
 use Rattle.definition.specs.Bytes.{every, part, number}
-use Rattle.utf8.specs.Bytes.{by-test}
+use Rattle.definition_bytes.specs.Same.{part-length}
+use Rattle.utf8_laws.specs.Bytes.{by-test}
 use Rattle.text.specs.Chars.{isAscii}
 use Rattle.text.specs.Words.{Word}
-use Rattle.text.proofs.Numbers.{length-part, part-one}
+use Rattle.text.proofs.Numbers.{part-one}
 
 -- ---- bytes
 
@@ -84,7 +85,7 @@ ascii-bits (b ∷ s) e =
 pub ascii-at : {s : List ℕ} {at n r : ℕ} → at + n ≤ length s → ((i : ℕ) → getD s i 0 < 256) → Word n s at r → eqb (bitAnd r (highBits n)) 0 ≡ every isAscii (part s at n)
 ascii-at {s} {at} {n} {r} h b w =
     let e = ascii-bits (part s at n) (every-part isByte s at n (are-bytes s b)) in
-    rw (w .is) (rw (length-part s at n h) at e)
+    rw (w .is) (rw (part-length s at n h) at e)
 
 -- ---- whole texts, from their parts
 

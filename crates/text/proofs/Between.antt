@@ -10,8 +10,8 @@ use lib.ListN.{length, drop, getD, drop-of-length-le}
 use lib.Seq.{drop-cons}
 use Rattle.definition.specs.Bytes.{part, within}
 use Rattle.definition.specs.Utf8.{isUtf8From, isUtf8}
-use Rattle.utf8.specs.Bytes.{by-test}
-use Rattle.utf8.specs.Boundaries.{beginsFresh, isBetween, part-between}
+use Rattle.utf8_laws.specs.Bytes.{by-test}
+use Rattle.utf8_laws.specs.Boundaries.{beginsFresh, isBetween, part-between}
 
 -- the end of a text is between characters
 pub between-end : (s : List ℕ) (at : ℕ) → length s ≤ at → isBetween s at ≡ true

@@ -11,12 +11,13 @@ use lib.Dec.{ltb}
 use lib.ListN.{length, drop, getD, replicate}
 use Rattle.definition.specs.Bytes.{every, part, number}
 use Rattle.definition.specs.Utf8.{continues, scalarsOf}
-use Rattle.utf8.specs.Bytes.{by-test}
-use Rattle.utf8.specs.Scalars.{continuing, continues-inside, begins-below, begins-above, scalars-count, continuing-append, continuing-few}
+use Rattle.definition_bytes.specs.Same.{part-length}
+use Rattle.utf8_laws.specs.Bytes.{by-test}
+use Rattle.utf8_laws.specs.Scalars.{continuing, continues-inside, begins-below, begins-above, scalars-count, continuing-append, continuing-few}
 use Rattle.text.specs.Words.{Word}
 use Rattle.text.specs.Continuing.{Continuing}
 use Rattle.text.proofs.Ascii.{isByte, are-bytes, every-part}
-use Rattle.text.proofs.Numbers.{length-part, part-add, part-one}
+use Rattle.text.proofs.Numbers.{part-add, part-one}
 
 -- ---- a word of bits
 
@@ -115,7 +116,7 @@ pub marked-at : (s : List ℕ) (at r : ℕ) → at + 8 ≤ length s → ((i : �
     → (x y : ℕ) → x ≡ bitAnd (r / 2 ^ 7) 0x0101010101010101 → y ≡ bitAnd (r / 2 ^ 6) 0x0101010101010101 → Continuing (part s at 8) 1 (x - bitAnd x y)
 unfolding marked high next lowBits number
 marked-at s at r h f w x y e g =
-    let l = length-part s at 8 h in
+    let l = part-length s at 8 h in
     let d = marked-sum (part s at 8) (every-part isByte s at 8 (are-bytes s f)) in
     let m : marked (part s at 8) ≡ x - bitAnd x y = rw (e, g, w .is, l) in
     record { sum = rw (← m) (d .0); low = rw (← m) (low-eight (part s at 8) l (d .1)) }
@@ -150,7 +151,7 @@ one-more s at i a b x y =
 -- up to 31 words have fewer such bytes than 255
 pub block-sum : (s : List ℕ) (at i a : ℕ) → at + 8 * i ≤ length s → i ≤ 31 → Continuing (part s at (8 * i)) i a → a % 255 ≡ continuing (part s at (8 * i))
 block-sum s at i a h l x =
-    few-mod a (continuing (part s at (8 * i))) (omega (arith, continuing-few (part s at (8 * i)), length-part s at (8 * i) h)) (x .sum)
+    few-mod a (continuing (part s at (8 * i))) (omega (arith, continuing-few (part s at (8 * i)), part-length s at (8 * i) h)) (x .sum)
   where
     few-mod : (a k : ℕ) → k < 255 → a % 255 ≡ k % 255 → a % 255 ≡ k
     few-mod a k l e = omega arith
@@ -167,5 +168,5 @@ scalars-by s from n w c f h l e g =
     let m : 8 * w + (n - 8 * w) ≡ n = omega arith in
     let k : continuing (part s from n) ≡ continuing (part s from (8 * w)) + continuing (part s (from + 8 * w) (n - 8 * w)) = ap (λ (x : ℕ). continuing (part s from x)) (sym m) ∙ continuing-part s from (8 * w) (n - 8 * w) in
     let p = scalars-count (part s from n) in
-    let q = length-part s from n h in
+    let q = part-length s from n h in
     (omega arith, omega arith)

@@ -1,14 +1,14 @@
 -- Little-endian numbers in a list of bytes, over any width: a number and its bytes, read or written in two pieces.
 -- Assumes nothing.
 use Prim.Native.Nat.{ℕ, zero, suc, _+_, _-_, _*_, _/_, _%_, _^_, _≤_, _<_}
-use native.Mathlib.Nat.{zero-add, suc-add, add-zero, mul-assoc, mul-comm, pow-zero, pow-succ', div-one, div-div-eq-div-mul}
+use native.Mathlib.Nat.{zero-add, suc-add, mul-assoc, mul-comm, pow-zero, pow-succ', div-one, div-div-eq-div-mul}
 use native.Mathlib.Omega.{arith}
 use mathlib.Core.Path.{_≡_, refl, ap, _∙_}
 use mathlib.Core.List.{List, [], _∷_, _++_}
 use lib.Arith.{digits-lt}
-use lib.ListN.{length, drop, getD, set, length-drop}
+use lib.ListN.{length, drop, getD, set}
 use lib.Pow.{pow-add}
-use lib.Seq.{sets, take-add, drop-drop, drop-cons, length-take-le}
+use lib.Seq.{sets, take-add, drop-drop, drop-cons}
 use mir.Syntax.{w64}
 use mir.Facts.{toZ-pos}
 use mir.Val.{SFits, toZ, ofZ}
@@ -20,15 +20,14 @@ use lib.Ieee.Bits.{nanBits-above}
 use mathlib.Core.Bool.{true, false, true≢false}
 use borrow.Author.Tests.{le-ltb, ltb-true}
 use Rattle.definition.specs.Bytes.{part, number, littleEndian, signed64, unsigned64}
-use Rattle.utf8.specs.Bytes.{by-test}
-use Rattle.reading.specs.Reads.{Wrote}
+use Rattle.definition_bytes.specs.Numbers.{little-endian-length}
+use Rattle.definition_bytes.specs.Same.{part-length}
+use Rattle.basics.specs.Lists.{sets-append}
+use Rattle.utf8_laws.specs.Bytes.{by-test}
+use Rattle.basics.specs.Reads.{Wrote}
 use Rattle.text.specs.Words.{Word}
 
 -- ---- parts
-
--- a part that the text holds has the length that was asked
-pub length-part : (s : List ℕ) (at n : ℕ) → at + n ≤ length s → length (part s at n) ≡ n
-length-part s at n h = length-take-le n (drop at s) (rw length-drop (omega arith))
 
 -- a part that is lent from its start to its end
 pub part-lent : (s : List ℕ) (at n : ℕ) → part s at (at + n - at) ≡ part s at n
@@ -52,7 +51,7 @@ number-append (x ∷ a) b = rw (number-append a b, pow-succ', mul-assoc) (omega 
 
 -- the number of a part in two pieces
 pub number-halves : (s : List ℕ) (at n m : ℕ) → at + n ≤ length s → number (part s at (n + m)) ≡ number (part s at n) + 256 ^ n * number (part s (at + n) m)
-number-halves s at n m h = rw (part-add s at n m, number-append (part s at n) (part s (at + n) m), length-part s at n h)
+number-halves s at n m h = rw (part-add s at n m, number-append (part s at n) (part s (at + n) m), part-length s at n h)
 
 -- a word in two pieces
 pub word-halves : {s : List ℕ} {at n m a b : ℕ} → at + n ≤ length s → Word n s at a → Word m s (at + n) b → Word (n + m) s at (a + b * 256 ^ n)
@@ -71,12 +70,6 @@ word-one s at h f = record { is = rw (part-one s at h) (omega arith); fits = f }
 
 -- ---- bytes
 
--- a number of w bytes has w bytes
-pub length-littleEndian : (w n : ℕ) → length (littleEndian w n) ≡ w
-unfolding littleEndian
-length-littleEndian zero n = refl
-length-littleEndian (suc w) n = ap suc (length-littleEndian w (n / 256))
-
 -- the bytes of a number in two pieces
 pub littleEndian-add : (v w n : ℕ) → littleEndian (v + w) n ≡ littleEndian v n ++ littleEndian w (n / 256 ^ v)
 unfolding littleEndian
@@ -85,23 +78,16 @@ littleEndian-add (suc v) w n = rw (suc-add, pow-succ', ← div-div-eq-div-mul n 
 
 -- ---- stores
 
--- two runs of stores, one behind the other
-pub sets-append : (p : List ℕ) (n : ℕ) (c d : List ℕ) → sets (sets p n c) (n + length c) d ≡ sets p n (c ++ d)
-sets-append p n [] d = rw add-zero
-sets-append p n (x ∷ c) d =
-    let e : n + suc (length c) ≡ suc n + length c = omega arith in
-    rw e (sets-append (set p n x) (suc n) c d)
-
 -- one more byte of a copy
 pub copy-step : (s p : List ℕ) (from at i : ℕ) → from + i < length s → set (sets p at (part s from i)) (at + i) (getD s (from + i) 0) ≡ sets p at (part s from (i + 1))
 copy-step s p from at i h =
-    let l : length (part s from i) ≡ i = length-part s from i (omega arith) in
+    let l : length (part s from i) ≡ i = part-length s from i (omega arith) in
     rw (part-add s from i 1, part-one s (from + i) h, ← sets-append p at (part s from i) (getD s (from + i) 0 ∷ []), l)
 
 -- a number stored in two pieces
 pub wrote-halves : {p q r : List ℕ} {at : ℕ} (v w n : ℕ) → Wrote p at (littleEndian v n) q → Wrote q (at + v) (littleEndian w (n / 256 ^ v)) r → Wrote p at (littleEndian (v + w) n) r
 wrote-halves {p} {q} {r} {at} v w n a b =
-    let l = length-littleEndian v n in
+    let l = little-endian-length v n in
     record { is = b .is ∙ rw (a .is, littleEndian-add v w n, ← sets-append p at (littleEndian v n) (littleEndian w (n / 256 ^ v)), l) }
 
 -- ---- signed numbers and floats

@@ -4,36 +4,21 @@ use Prim.Native.Nat.{ℕ, _+_, _-_, _≤_, _<_}
 use native.Mathlib.Nat.{suc-inj, suc-ne-zero}
 use native.Mathlib.Omega.{arith}
 use mathlib.Core.Path.{_≡_, refl, sym, ap, _∙_}
-use mathlib.Core.Bool.{true, false, and-eq-true-iff, false≢true}
+use mathlib.Core.Bool.{true, false, and-eq-true-iff}
 use mathlib.Core.List.{List, [], _∷_, _++_}
 use borrow.Author.Tests.{eq-eqb, eqb-true, eqb-false, ltb-true}
 use lib.Dec.{eqb}
 use lib.ListN.{length, take, drop, getD, take-append-drop, drop-of-length-le, length-drop}
 use lib.Seq.{drop-drop, take-all}
 use Rattle.definition.specs.Bytes.{every, part, number, sameBytes}
-use Rattle.utf8.specs.Bytes.{by-test}
+use Rattle.definition_bytes.specs.Same.{part-length, same-self, same-true, unlike-length}
+use Rattle.utf8_laws.specs.Bytes.{by-test}
 use Rattle.text.specs.Words.{Word}
 use Rattle.text.specs.Ends.{EndsOf}
-use Rattle.text.proofs.Numbers.{length-part, part-one}
+use Rattle.text.proofs.Numbers.{part-one}
 use Rattle.text.proofs.Ascii.{isByte, are-bytes, every-part}
 
 -- ---- what the test says
-
--- a text is the same as itself
-pub same-self : (s : List ℕ) → sameBytes s s ≡ true
-unfolding sameBytes
-same-self [] = refl
-same-self (x ∷ s) = rw (eq-eqb x x refl) (same-self s)
-
--- texts that pass the test are equal
-pub same-true : (s t : List ℕ) → sameBytes s t ≡ true → s ≡ t
-unfolding sameBytes
-same-true [] [] e = refl
-same-true [] (y ∷ t) e = absurd (false≢true e)
-same-true (x ∷ s) [] e = absurd (false≢true e)
-same-true (x ∷ s) (y ∷ t) e =
-    let b = and-eq-true-iff (eqb x y) (sameBytes s t) .0 e in
-    rw (eqb-true x y (b .0), same-true s t (b .1))
 
 -- equal texts pass the test
 pub same-equal : (s t : List ℕ) → s ≡ t → sameBytes s t ≡ true
@@ -42,10 +27,6 @@ same-equal s t e = rw (← e) (same-self s)
 -- texts that are not equal fail it
 pub same-unlike : (s t : List ℕ) → (s ≡ t → ⊥) → sameBytes s t ≡ false
 same-unlike s t n = by-test (sameBytes s t) (λ e. absurd (n (same-true s t e))) (λ e. e)
-
--- texts of unlike lengths fail it
-pub same-lengths : (s t : List ℕ) → (length s ≡ length t → ⊥) → sameBytes s t ≡ false
-same-lengths s t n = same-unlike s t (λ e. n (ap length e))
 
 -- a common front makes no difference
 pub same-append : (p s t : List ℕ) → sameBytes (p ++ s) (p ++ t) ≡ sameBytes s t
@@ -93,7 +74,7 @@ module _ {s t : List ℕ} {i n x y : ℕ} (hs : i + n ≤ length s) (ht : i + n 
   pub words-equal : x ≡ y → part s i n ≡ part t i n
   words-equal e =
       number-injective (part s i n) (part t i n) (every-part isByte s i n (are-bytes s bs)) (every-part isByte t i n (are-bytes t bt))
-      (length-part s i n hs ∙ sym (length-part t i n ht)) (sym (ws .is) ∙ e ∙ wt .is)
+      (part-length s i n hs ∙ sym (part-length t i n ht)) (sym (ws .is) ∙ e ∙ wt .is)
 
 -- parts of unlike numbers are not
 pub words-unlike : {s t : List ℕ} {i n x y : ℕ} → Word n s i x → Word n t i y → (x ≡ y → ⊥) → part s i n ≡ part t i n → ⊥
@@ -140,7 +121,7 @@ ends-as p q e = rw (← p, ← q) e
 
 module _ (s : List ℕ) {t : List ℕ} {n low high : ℕ} (e : EndsOf n t low high) where
   pub ends-lengths : (length s ≡ n → ⊥) → false ≡ sameBytes s t
-  ends-lengths d = sym (same-lengths s t (λ l. d (l ∙ e .long)))
+  ends-lengths d = sym (unlike-length s t (λ l. d (l ∙ e .long)))
 
   pub ends-first : {x : ℕ} → Word 4 s 0 x → (x ≡ low → ⊥) → false ≡ sameBytes s t
   ends-first w d = sym (same-stop s t 0 4 (words-unlike w (e .first) d))

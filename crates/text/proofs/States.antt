@@ -13,9 +13,9 @@ use lib.Seq.{drop-cons, drop-drop}
 use Rattle.definition.specs.Bytes.{every, within, part}
 use Rattle.definition.specs.Utf8.{Wait, afterFirst, afterByte, moreTails, isUtf8From, isUtf8}
 use Rattle.definition.specs.Utf8.Wait.{ready, tail, bad}
-use Rattle.utf8.specs.Bytes.{by-test, Lead, lead, after-one, after-two, after-three, after-four, stays-bad}
-use Rattle.utf8.specs.Bytes.Lead.{one, two, three, four, wrong}
-use Rattle.utf8.specs.Encode.{utf8-ascii}
+use Rattle.utf8_laws.specs.Bytes.{by-test, Lead, lead, after-one, after-two, after-three, after-four, stays-bad}
+use Rattle.utf8_laws.specs.Bytes.Lead.{one, two, three, four, wrong}
+use Rattle.utf8_laws.specs.Encode.{utf8-ascii}
 use Rattle.text.specs.Chars.{tailsPass, tailsLength, lengthAfter, charLength, isAscii, asciiRun, stepLength}
 use Rattle.text.proofs.Ascii.{every-part}
 

@@ -6,7 +6,7 @@ ghost use Prim.Native.Nat.{_+_, _≤_};
 ghost use lib.Ieee.{binary64, nanBits, ofBits};
 ghost use lib.ListN.{length};
 ghost use Rattle.definition.specs.Bytes.{part, number, littleEndian, signed64, unsigned64};
-ghost use Rattle.reading.specs.Reads.{Wrote};
+ghost use Rattle.basics.specs.Reads.{Wrote};
 ghost use Rattle.text.specs.Words.{Word};
 
 // The highest bit of eight bytes, which is set in a negative number.

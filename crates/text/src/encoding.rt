@@ -10,11 +10,11 @@ ghost use Prim.Native.Nat.{_+_, _-_, _*_, _<_, _≤_};
 ghost use lib.ListN.{length, drop};
 ghost use Rattle.definition.specs.Bytes.{every, part};
 ghost use Rattle.definition.specs.Utf8.{afterFirst, isUtf8, scalarsOf};
-ghost use Rattle.utf8.specs.Scalars.{continuing};
+ghost use Rattle.utf8_laws.specs.Scalars.{continuing};
 ghost use Rattle.text.specs.Chars.{waitOf, isAscii, tailsPass, tailsLength, charLength, stepLength};
 ghost use Rattle.text.specs.Continuing.{Continuing};
 ghost use Rattle.text.specs.Known.{Known};
-ghost use Rattle.utf8.specs.Boundaries.{isBetween};
+ghost use Rattle.utf8_laws.specs.Boundaries.{isBetween};
 
 // What is known of a text: nothing, that it is UTF-8, or that it is ASCII throughout.
 pub const NOT_KNOWN: u8 = 0;

@@ -5,7 +5,7 @@ ghost use Prim.Native.Nat.{ℕ, _+_, _≤_};
 ghost use mathlib.Core.List.{List};
 ghost use lib.ListN.{length};
 ghost use Rattle.definition.specs.Bytes.{part, sameBytes, orderBytes};
-ghost use Rattle.reading.specs.Reads.{Wrote};
+ghost use Rattle.basics.specs.Reads.{Wrote};
 ghost use Rattle.text.specs.Orders.{answer, Front};
 ghost use Rattle.text.specs.Ends.{EndsOf};
 

@@ -5,9 +5,9 @@ use mathlib.Core.List.{List}
 use lib.ListN.{length}
 use lib.Seq.{length-take-le}
 use borrow.Author.Needs.{needs}
-use Rattle.lines.specs.Words.{DecodedAs}
-use Rattle.lines.specs.declared.Decoded.{Decoded}
-use Rattle.lines.specs.declared.Decoded.the-variants.{Bytes}
+use Rattle.program_lines.specs.Words.{DecodedAs}
+use Rattle.program_lines.specs.declared.Decoded.{Decoded}
+use Rattle.program_lines.specs.declared.Decoded.the-variants.{Bytes}
 use Rattle.compile_vectors.proofs.decoded.Statement.{statement}
 use Rattle.compile_vectors.proofs.decoded.Tie as tie
 

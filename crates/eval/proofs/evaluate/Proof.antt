@@ -5,10 +5,10 @@ use Rattle.eval.proofs.evaluate.Tie as tie
 use Rattle.eval.proofs.evaluate.Reads as reads
 use Rattle.eval.proofs.evaluate.Lts as lts
 use Rattle.eval.proofs.enter.Reads as enter-reads
-use Rattle.shortcuts.proofs.straight.is_last_slice.Reads as is-last-slice-reads
-use Rattle.shortcuts.proofs.straight.push_slice.Reads as push-slice-reads
-use Rattle.visits.proofs.front.Reads as front-reads
-use Rattle.visits.proofs.push.Reads as push-reads
+use Rattle.eval_shortcuts.proofs.straight.is_last_slice.Reads as is-last-slice-reads
+use Rattle.eval_shortcuts.proofs.straight.push_slice.Reads as push-slice-reads
+use Rattle.eval_front.proofs.front.Reads as front-reads
+use Rattle.eval_front.proofs.push.Reads as push-reads
 use mathlib.Core.Path.{refl}
 use native.Mathlib.Omega.{arith}
 use borrow.Author.Tests.{not-true, not-false}

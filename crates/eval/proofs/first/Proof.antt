@@ -19,7 +19,7 @@ use lib.ListN.{getD}
 use native.Mathlib.Omega.{arith}
 use Rattle.eval.specs.Lent.{planOf}
 use borrow.Author.Tests.{not-true, not-false}
-use Rattle.walks.specs.Ranges.{range-of}
+use Rattle.eval_laws.specs.Ranges.{range-of}
 use Rattle.eval.specs.Steady.{steady-then, asked-later}
 use Rattle.eval.specs.Kinds.{rest-in, each-asked, wildcard-done, kept-after, kept-room}
 use Rattle.eval.specs.Aheads.{ahead-each, ahead-then}

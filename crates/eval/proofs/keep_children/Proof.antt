@@ -4,14 +4,14 @@ use Rattle.eval.proofs.keep_children.Statement.{statement}
 use Rattle.eval.proofs.keep_children.Tie as tie
 use Rattle.eval.proofs.keep_children.Reads as reads
 use Rattle.eval.proofs.keep_children.Lts as lts
-use Rattle.filters.proofs.kept.keep.Reads as keep-reads
-use Rattle.filters.proofs.kept.read_form.Reads as read-form-reads
+use Rattle.eval_filters.proofs.kept.keep.Reads as keep-reads
+use Rattle.eval_filters.proofs.kept.read_form.Reads as read-form-reads
 use Rattle.table.proofs.records.child_count.Reads as child-count-reads
 use Rattle.table.proofs.records.low_word.Reads as low-word-reads
 use Rattle.text.proofs.bytes.word16.Reads as word16-reads
 use mathlib.Core.Path.{refl}
 use native.Mathlib.Omega.{arith}
-use Rattle.filters.specs.Keeps.{test-code, tail-asked}
+use Rattle.eval_filters.specs.Keeps.{test-code, tail-asked}
 use Rattle.eval.specs.Steady.{steady-refl, steady-wrote}
 use Rattle.eval.specs.Kinds.{filter-bound, filter-inside, test-asked, rest-asked, rest-in, keep-asked, keep-done, kept-none, kept-done}
 

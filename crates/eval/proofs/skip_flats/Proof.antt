@@ -4,8 +4,8 @@ use Rattle.eval.proofs.skip_flats.Statement.{statement}
 use Rattle.eval.proofs.skip_flats.Tie as tie
 use Rattle.eval.proofs.skip_flats.Reads as reads
 use Rattle.eval.proofs.skip_flats.Lts as lts
-use Rattle.shortcuts.proofs.flats.flat_start.Reads as flat-start-reads
-use Rattle.visits.proofs.next_container.Reads as next-container-reads
+use Rattle.eval_shortcuts.proofs.flats.flat_start.Reads as flat-start-reads
+use Rattle.eval_front.proofs.next_container.Reads as next-container-reads
 use mathlib.Core.Path.{refl}
 use Rattle.eval.specs.Steady.{steady-refl, steady-wrote}
 use Rattle.eval.specs.Calls.{flats-full, flats-asked, flats-done}

@@ -1,7 +1,7 @@
 -- The exported key of a node hands out the place of the part that `key_of_node` answers with. Assumes nothing.
 use borrow.Author.Needs.{needs}
 use Rattle.definition.specs.TableOutcomes.{keyOutcome}
-use Rattle.tables.specs.Outcomes.{key-has}
+use Rattle.table_laws.specs.Outcomes.{key-has}
 use Rattle.exports.proofs.Answers.{has-part, hands-part, hands-none}
 use Rattle.exports.proofs.stewpebble_key_of_node.Statement.{statement}
 use Rattle.exports.proofs.stewpebble_key_of_node.Tie as tie

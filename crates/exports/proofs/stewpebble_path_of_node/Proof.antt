@@ -1,6 +1,6 @@
 -- The numbers are those that document 02 names for each answer of path of a node. Assumes nothing.
 use borrow.Author.Needs.{needs}
-use Rattle.address.specs.Outcomes.{told}
+use Rattle.table_path.specs.Outcomes.{told}
 use Rattle.exports.proofs.Answers.{path-told}
 use Rattle.exports.proofs.stewpebble_path_of_node.Statement.{statement}
 use Rattle.exports.proofs.stewpebble_path_of_node.Tie as tie

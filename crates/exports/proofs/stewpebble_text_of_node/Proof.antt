@@ -1,7 +1,7 @@
 -- The exported text of a node hands out the place of the part that `text_of_node` answers with. Assumes nothing.
 use borrow.Author.Needs.{needs}
 use Rattle.definition.specs.TableOutcomes.{textOutcome}
-use Rattle.tables.specs.Outcomes.{text-has}
+use Rattle.table_laws.specs.Outcomes.{text-has}
 use Rattle.exports.proofs.Answers.{has-part, hands-part, hands-none}
 use Rattle.exports.proofs.stewpebble_text_of_node.Statement.{statement}
 use Rattle.exports.proofs.stewpebble_text_of_node.Tie as tie

@@ -1,7 +1,7 @@
 -- The rooms are as large as every query may need: so demands says. Assumes nothing.
 use native.Mathlib.Omega.{arith}
 use borrow.Author.Needs.{needs}
-use Rattle.demands.specs.Demands.{rooms-for-all}
+use Rattle.promises_stated.specs.Demands.{rooms-for-all}
 use Rattle.kinds.proofs.compile_query.Statement.{statement}
 use Rattle.kinds.proofs.compile_query.Tie as tie
 

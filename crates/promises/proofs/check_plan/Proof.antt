@@ -1,6 +1,6 @@
 -- The contract of `check_plan` below leaves one answer, since a plan and a pool spell one form at most. Assumes nothing.
 use borrow.Author.Needs.{needs}
-use Rattle.demands.specs.Running.{checks-settled}
+use Rattle.promises_stated.specs.Running.{checks-settled}
 use Rattle.promises.proofs.check_plan.Statement.{statement}
 use Rattle.promises.proofs.check_plan.Tie as tie
 

@@ -1,6 +1,6 @@
 -- The contract of `run` below leaves one outcome, since a plan and a pool spell one form at most. Assumes nothing.
 use borrow.Author.Needs.{needs}
-use Rattle.demands.specs.Running.{runs-settled}
+use Rattle.promises_stated.specs.Running.{runs-settled}
 use Rattle.promises.proofs.run.Statement.{statement}
 use Rattle.promises.proofs.run.Tie as tie
 

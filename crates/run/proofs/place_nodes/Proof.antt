@@ -5,7 +5,7 @@ use Rattle.run.proofs.place_nodes.Tie as tie
 use Prim.Native.Nat.{_-_}
 use native.Mathlib.Omega.{arith}
 use lib.ListN.{length, drop, length-drop, length-take}
-use Rattle.tables.specs.Accepted.{accepted-gives}
+use Rattle.table_laws.specs.Accepted.{accepted-gives}
 use Rattle.run.specs.Tops.{planned-at, places-beyond, places-selected, places-full}
 
 returns : tie.Need-returns

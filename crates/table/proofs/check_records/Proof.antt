@@ -1,6 +1,6 @@
 -- The sizes first, and then the pass over the records. Assumes nothing.
 use mathlib.Core.Path.{sym, _∙_}
-use Rattle.tables.specs.Sizes.{right-size}
+use Rattle.table_laws.specs.Sizes.{right-size}
 use Rattle.table.proofs.Checks.{records-size, records-right, records-wrong}
 use borrow.Author.Needs.{needs}
 use Rattle.table.proofs.check_records.Statement.{statement}

@@ -1,6 +1,6 @@
 -- The sizes first, and then the pass over all rules, behind which a wrong record decides. Assumes nothing.
 use mathlib.Core.Path.{sym, _∙_}
-use Rattle.tables.specs.Sizes.{right-size}
+use Rattle.table_laws.specs.Sizes.{right-size}
 use Rattle.table.proofs.Checks.{pair-size, pair-right, pair-behind}
 use borrow.Author.Needs.{needs}
 use Rattle.table.proofs.check_table.Statement.{statement}

@@ -1,6 +1,6 @@
 -- The sizes first, and then the pass over all rules, behind which the texts and keys are known. Assumes nothing.
 use mathlib.Core.Path.{sym, _∙_}
-use Rattle.tables.specs.Sizes.{right-size}
+use Rattle.table_laws.specs.Sizes.{right-size}
 use Rattle.table.proofs.Checks.{found-wrong, texts-size, texts-right, texts-are}
 use borrow.Author.Needs.{needs}
 use Rattle.table.proofs.check_texts.Statement.{statement}

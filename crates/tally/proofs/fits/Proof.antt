@@ -7,7 +7,7 @@ use lib.Dec.{leb}
 use lib.ListN.{getD}
 use borrow.Author.Tests.{le-leb, lt-leb}
 use Rattle.definition.specs.Limits.{maxInt}
-use Rattle.tallies.specs.Tallies.{everyBelow}
+use Rattle.tally_laws.specs.Tallies.{everyBelow}
 use Rattle.tally.proofs.Laws.{every-none, every-more, every-not}
 use borrow.Author.Needs.{needs}
 use Rattle.tally.proofs.fits.Statement.{statement}

@@ -1,5 +1,5 @@
 -- `compile::rooms::compile_in` meets its contract: the outcome of a query that no early refusal meets.
-use Rattle.items.specs.Laws.{whole}
+use Rattle.parser_items.specs.Laws.{whole}
 use Rattle.compile.proofs.Answers.{rooms-whole, parse-whole, whole-of, none-of, outcome-refused, outcome-form, outcome-none}
 use borrow.Author.Needs.{needs}
 use Rattle.compile.proofs.rooms.compile_in.Statement.{statement}

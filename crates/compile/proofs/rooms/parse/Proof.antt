@@ -1,6 +1,6 @@
 -- `compile::rooms::parse` meets its contract: a query is read from its first byte to its last.
 use borrow.Author.Tests.{not-true, not-false}
-use Rattle.items.specs.Laws.{read-of, none-of, whole, start-whole, post-whole}
+use Rattle.parser_items.specs.Laws.{read-of, none-of, whole, start-whole, post-whole}
 use Rattle.compile.proofs.Answers.{no-root, root-start, no-segments, some-left, all-read}
 use borrow.Author.Needs.{needs}
 use Rattle.compile.proofs.rooms.parse.Statement.{statement}

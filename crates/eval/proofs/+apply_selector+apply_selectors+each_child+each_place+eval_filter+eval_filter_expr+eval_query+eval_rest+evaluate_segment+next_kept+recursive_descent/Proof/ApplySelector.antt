@@ -7,14 +7,14 @@ use Rattle.eval.proofs.each_place.Reads as each-place
 use Rattle.eval.proofs.eval_filter.Reads as eval-filter
 use Rattle.eval.proofs.evaluate_segment.Reads as evaluate-segment
 use Rattle.eval.proofs.keep_children.Reads as keep-children-reads
-use Rattle.steps.proofs.leaves.select_one.Reads as select-one-reads
+use Rattle.eval_items.proofs.leaves.select_one.Reads as select-one-reads
 use Rattle.table.proofs.records.child_count.Reads as child-count-reads
 use Rattle.table.proofs.records.first_child.Reads as first-child-reads
 use Rattle.eval.proofs.+apply_selector+apply_selectors+each_child+each_place+eval_filter+eval_filter_expr+eval_query+eval_rest+evaluate_segment+next_kept+recursive_descent.Proof.Base.{apply-selector-at, each-child-below, each-place-below, eval-filter-below, evaluate-segment-below}
 use borrow.Author.Needs.{needs}
 use native.Mathlib.Omega.{arith}
 use borrow.Author.Tests.{not-true, not-false}
-use Rattle.walks.specs.Ranges.{range-of}
+use Rattle.eval_laws.specs.Ranges.{range-of}
 use Rattle.eval.specs.Steady.{steady-refl, steady-then, asked-later}
 use Rattle.eval.specs.Kinds.{one-asked, rest-in, selector-absent, found-asked, selector-found, each-asked, wildcard-done, kept-after, kept-room, kind-filter}
 

@@ -3,8 +3,8 @@ use Rattle.eval.proofs.+apply_selector+apply_selectors+each_child+each_
 use Prim.Native.Nat.{ℕ}
 use Rattle.eval.proofs.apply_selector.Reads as apply-selector
 use Rattle.eval.proofs.apply_selectors.Reads as apply-selectors
-use Rattle.steps.proofs.plans.next_selector.Reads as next-selector-reads
-use Rattle.steps.proofs.plans.skip_selectors.Reads as skip-selectors-reads
+use Rattle.eval_items.proofs.plans.next_selector.Reads as next-selector-reads
+use Rattle.eval_items.proofs.plans.skip_selectors.Reads as skip-selectors-reads
 use Rattle.text.proofs.bytes.word16.Reads as word16-reads
 use Rattle.eval.proofs.+apply_selector+apply_selectors+each_child+each_place+eval_filter+eval_filter_expr+eval_query+eval_rest+evaluate_segment+next_kept+recursive_descent.Proof.Base.{apply-selector-below, apply-selectors-at}
 use borrow.Author.Needs.{needs}

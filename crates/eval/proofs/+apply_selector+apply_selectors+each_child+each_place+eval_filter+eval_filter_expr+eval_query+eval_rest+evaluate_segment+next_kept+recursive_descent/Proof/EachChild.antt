@@ -6,15 +6,15 @@ use Rattle.eval.proofs.evaluate_segment.Reads as evaluate-segment
 use Rattle.table.proofs.records.child_count.Reads as child-count-reads
 use Rattle.table.proofs.records.first_child.Reads as first-child-reads
 use Rattle.text.proofs.bytes.word32.Reads as word32-reads
-use Rattle.visits.proofs.push_each.Reads as push-each-reads
+use Rattle.eval_front.proofs.push_each.Reads as push-each-reads
 use Rattle.eval.proofs.+apply_selector+apply_selectors+each_child+each_place+eval_filter+eval_filter_expr+eval_query+eval_rest+evaluate_segment+next_kept+recursive_descent.Proof.Base.{each-child-at, each-child-below, evaluate-segment-below}
 use borrow.Author.Needs.{needs}
 use Prim.Native.Nat.{_<_, _-_}
 use mathlib.Core.Path.{refl}
 use native.Mathlib.Omega.{arith}
 use lib.ListN.{getD}
-use Rattle.walks.specs.Items.{segments-in}
-use Rattle.walks.specs.Ranges.{range-of}
+use Rattle.eval_laws.specs.Items.{segments-in}
+use Rattle.eval_laws.specs.Ranges.{range-of}
 use Rattle.eval.specs.Lent.{planOf}
 use Rattle.eval.specs.Steady.{steady-refl, steady-wrote, going-start}
 use Rattle.eval.specs.Calls.{segment-room}

@@ -3,11 +3,11 @@ use Rattle.eval.proofs.+apply_selector+apply_selectors+each_child+each_
 use Prim.Native.Nat.{ℕ}
 use Rattle.eval.proofs.each_place.Reads as each-place
 use Rattle.eval.proofs.evaluate_segment.Reads as evaluate-segment
-use Rattle.steps.proofs.leaves.slice_at.Reads as slice-at-reads
+use Rattle.eval_items.proofs.leaves.slice_at.Reads as slice-at-reads
 use Rattle.table.proofs.records.low_word.Reads as low-word-reads
-use Rattle.visits.proofs.further.Reads as further-reads
-use Rattle.visits.proofs.placed.Reads as placed-reads
-use Rattle.visits.proofs.push_places.Reads as push-places-reads
+use Rattle.eval_front.proofs.further.Reads as further-reads
+use Rattle.eval_front.proofs.placed.Reads as placed-reads
+use Rattle.eval_front.proofs.push_places.Reads as push-places-reads
 use Rattle.eval.proofs.+apply_selector+apply_selectors+each_child+each_place+eval_filter+eval_filter_expr+eval_query+eval_rest+evaluate_segment+next_kept+recursive_descent.Proof.Base.{each-place-at, evaluate-segment-below}
 use borrow.Author.Needs.{needs}
 use mathlib.Core.Path.{refl}

@@ -3,17 +3,17 @@ use Rattle.eval.proofs.+apply_selector+apply_selectors+each_child+each_
 use Prim.Native.Nat.{ℕ}
 use Rattle.eval.proofs.eval_filter_expr.Reads as eval-filter-expr
 use Rattle.eval.proofs.eval_rest.Reads as eval-rest
-use Rattle.filters.proofs.is_logic.Reads as is-logic-reads
-use Rattle.filters.proofs.logic_expr.Reads as logic-expr-reads
-use Rattle.filters.proofs.plain_test.Reads as plain-test-reads
+use Rattle.eval_filters.proofs.is_logic.Reads as is-logic-reads
+use Rattle.eval_filters.proofs.logic_expr.Reads as logic-expr-reads
+use Rattle.eval_filters.proofs.plain_test.Reads as plain-test-reads
 use Rattle.eval.proofs.+apply_selector+apply_selectors+each_child+each_place+eval_filter+eval_filter_expr+eval_query+eval_rest+evaluate_segment+next_kept+recursive_descent.Proof.Base.{eval-filter-expr-at, eval-rest-below}
 use borrow.Author.Needs.{needs}
 use Prim.Native.Nat.{_-_}
 use native.Mathlib.Omega.{arith}
 use mathlib.Core.Path.{sym, _∙_}
 use borrow.Author.Tests.{not-false}
-use Rattle.walks.specs.Todos.{todo-start, todo-in, todo-end}
-use Rattle.filters.specs.Tests.{logic-kind}
+use Rattle.eval_laws.specs.Todos.{todo-start, todo-in, todo-end}
+use Rattle.eval_filters.specs.Tests.{logic-kind}
 use Rattle.eval.specs.Lent.{planOf, poolOf, tableOf, textOf}
 use Rattle.eval.specs.Loops.{InTest}
 

@@ -4,18 +4,18 @@ use Prim.Native.Nat.{ℕ}
 use Rattle.eval.proofs.eval_query.Reads as eval-query
 use Rattle.eval.proofs.evaluate_segment.Reads as evaluate-segment
 use Rattle.eval.proofs.answers.to_registers.Reads as to-registers-reads
-use Rattle.steps.proofs.leaves.begins.Reads as begins-reads
-use Rattle.steps.proofs.leaves.cap_of.Reads as cap-of-reads
-use Rattle.steps.proofs.plans.past_query.Reads as past-query-reads
-use Rattle.visits.proofs.reach.Reads as reach-reads
+use Rattle.eval_items.proofs.leaves.begins.Reads as begins-reads
+use Rattle.eval_items.proofs.leaves.cap_of.Reads as cap-of-reads
+use Rattle.eval_items.proofs.plans.past_query.Reads as past-query-reads
+use Rattle.eval_front.proofs.reach.Reads as reach-reads
 use Rattle.eval.proofs.+apply_selector+apply_selectors+each_child+each_place+eval_filter+eval_filter_expr+eval_query+eval_rest+evaluate_segment+next_kept+recursive_descent.Proof.Base.{eval-query-at, evaluate-segment-below}
 use borrow.Author.Needs.{needs}
 use mathlib.Core.Path.{refl}
 use native.Mathlib.Omega.{arith}
 use borrow.Author.Tests.{not-true, not-false}
 use lib.ListN.{getD}
-use Rattle.walks.specs.Items.{segments-in}
-use Rattle.filters.specs.Queries.{begins-in, past-of, found-lost, found-one}
+use Rattle.eval_laws.specs.Items.{segments-in}
+use Rattle.eval_filters.specs.Queries.{begins-in, past-of, found-lost, found-one}
 use Rattle.eval.specs.Lent.{planOf}
 use Rattle.eval.specs.Queries.{cap-small, query-done, here, nested-found, nested-head, walk-found}
 

@@ -3,12 +3,12 @@ use Rattle.eval.proofs.+apply_selector+apply_selectors+each_child+each_
 use Prim.Native.Nat.{ℕ}
 use Rattle.eval.proofs.eval_query.Reads as eval-query
 use Rattle.eval.proofs.eval_rest.Reads as eval-rest
-use Rattle.steps.proofs.leaves.plain_expr.Reads as plain-expr-reads
+use Rattle.eval_items.proofs.leaves.plain_expr.Reads as plain-expr-reads
 use Rattle.eval.proofs.+apply_selector+apply_selectors+each_child+each_place+eval_filter+eval_filter_expr+eval_query+eval_rest+evaluate_segment+next_kept+recursive_descent.Proof.Base.{eval-query-below, eval-rest-at}
 use borrow.Author.Needs.{needs}
 use Prim.Native.Nat.{_-_}
 use native.Mathlib.Omega.{arith}
-use Rattle.walks.specs.Todos.{todo-in, todo-end}
+use Rattle.eval_laws.specs.Todos.{todo-in, todo-end}
 use Rattle.eval.specs.Lent.{planOf, poolOf, tableOf, textOf}
 use Rattle.eval.specs.Loops.{InRest}
 

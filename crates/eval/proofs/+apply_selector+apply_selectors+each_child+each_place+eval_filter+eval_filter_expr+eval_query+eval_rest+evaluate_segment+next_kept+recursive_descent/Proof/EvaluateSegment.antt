@@ -4,8 +4,8 @@ use Prim.Native.Nat.{ℕ}
 use Rattle.eval.proofs.apply_selectors.Reads as apply-selectors
 use Rattle.eval.proofs.evaluate_segment.Reads as evaluate-segment
 use Rattle.eval.proofs.recursive_descent.Reads as recursive-descent
-use Rattle.visits.proofs.push.Reads as push-reads
-use Rattle.visits.proofs.reach.Reads as reach-reads
+use Rattle.eval_front.proofs.push.Reads as push-reads
+use Rattle.eval_front.proofs.reach.Reads as reach-reads
 use Rattle.eval.proofs.+apply_selector+apply_selectors+each_child+each_place+eval_filter+eval_filter_expr+eval_query+eval_rest+evaluate_segment+next_kept+recursive_descent.Proof.Base.{apply-selectors-below, evaluate-segment-at, recursive-descent-below}
 use borrow.Author.Needs.{needs}
 use mathlib.Core.Path.{refl}

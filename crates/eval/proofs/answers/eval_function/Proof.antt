@@ -13,15 +13,15 @@ cast-count c = search needs
 returns : tie.Need-returns
 returns c = function-count _ _ _ _ _ (c .if1 .taken) _ (toZ-pos w64 _ (omega (arith, c .before .before .before .pre .few)))
 
-node-value-requires : tie.Need-node-value-requires
-node-value-requires c κs = (c .before .before .before .before .pre .tab, c .before .before .before .before .pre .inside (omega arith))
+get-value-requires : tie.Need-get-value-requires
+get-value-requires c κs = (c .before .before .before .before .pre .tab, c .before .before .before .before .pre .inside (omega arith))
 
 returns-2 : tie.Need-returns-2
-returns-2 c = function-value _ _ _ _ _ (c .before .before .if1 .left) (c .before .if2 .taken) _ (c .node-value .ensures)
+returns-2 c = function-value _ _ _ _ _ (c .before .before .if1 .left) (c .before .if2 .taken) _ (c .get-value .ensures)
 
 returns-3 : tie.Need-returns-3
 returns-3 c = function-null _ _ _ _ _ (c .before .if1 .left) (c .if2 .left)
 
 pub eval-function-spec : {M : Type 1} → statement M
 eval-function-spec =
-    tie.close (tie.spec cast-count returns node-value-requires returns-2 returns-3)
+    tie.close (tie.spec cast-count returns get-value-requires returns-2 returns-3)

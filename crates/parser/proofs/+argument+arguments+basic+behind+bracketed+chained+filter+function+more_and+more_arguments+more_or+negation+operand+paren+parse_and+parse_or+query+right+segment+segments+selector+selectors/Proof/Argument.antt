@@ -2,8 +2,8 @@
 use borrow.Author.Needs.{needs}
 use Rattle.parser.proofs.Chains.{argument-at-logical, argument-no-operand, argument-at-literal, argument-by-flag, argument-by-operator, argument-at-chain}
 use Rattle.parser.proofs.Operands.{known-operand, start-operand}
-use Rattle.items.specs.Laws.{read-of, none-of, whole, start-whole, post-whole}
-use Rattle.items.specs.Reads.{next}
+use Rattle.parser_items.specs.Laws.{read-of, none-of, whole, start-whole, post-whole}
+use Rattle.parser_items.specs.Reads.{next}
 use borrow.Author.Tests.{not-true, not-false}
 use native.Mathlib.Omega.{arith}
 use mathlib.Core.Logic.{⊎-elim}
@@ -15,9 +15,9 @@ use Rattle.parser.proofs.argument.Reads as argument
 use Rattle.parser.proofs.chained.Reads as chained
 use Rattle.parser.proofs.operand.Reads as operand
 use Rattle.parser.proofs.parse_or.Reads as parse-or
-use Rattle.items.proofs.begins_operator.Reads as begins-operator-reads
-use Rattle.scan.proofs.is.Reads as is-reads
-use Rattle.scan.proofs.skip_blanks.Reads as skip-blanks-reads
+use Rattle.parser_items.proofs.begins_operator.Reads as begins-operator-reads
+use Rattle.parser_scan.proofs.is.Reads as is-reads
+use Rattle.parser_scan.proofs.skip_blanks.Reads as skip-blanks-reads
 use Rattle.parser.proofs.+argument+arguments+basic+behind+bracketed+chained+filter+function+more_and+more_arguments+more_or+negation+operand+paren+parse_and+parse_or+query+right+segment+segments+selector+selectors.Proof.Base.{argument-at, chained-below, operand-below, parse-or-below}
 
 abbrev pub calls : ℕ → lts.Claims

@@ -5,15 +5,15 @@ use Prim.Native.Nat.{ℕ}
 use Rattle.parser.proofs.argument.Reads as argument
 use Rattle.parser.proofs.arguments.Reads as arguments
 use Rattle.parser.proofs.more_arguments.Reads as more-arguments
-use Rattle.items.proofs.one_more.Reads as one-more-reads
-use Rattle.scan.proofs.is.Reads as is-reads
+use Rattle.parser_items.proofs.one_more.Reads as one-more-reads
+use Rattle.parser_scan.proofs.is.Reads as is-reads
 use Rattle.parser.proofs.+argument+arguments+basic+behind+bracketed+chained+filter+function+more_and+more_arguments+more_or+negation+operand+paren+parse_and+parse_or+query+right+segment+segments+selector+selectors.Proof.Base.{argument-below, arguments-at, more-arguments-below}
 use native.Mathlib.Omega.{arith}
 use lib.Dec.{lit≤}
-use Rattle.writing.specs.Sorts.{sortArgument}
-use Rattle.items.specs.Reads.{next, stop}
-use Rattle.items.specs.Laws.{read-of, none-of}
-use Rattle.rules.specs.Arguments.{arguments-none}
+use Rattle.compile_writes.specs.Sorts.{sortArgument}
+use Rattle.parser_items.specs.Reads.{next, stop}
+use Rattle.parser_items.specs.Laws.{read-of, none-of}
+use Rattle.parser_laws.specs.Arguments.{arguments-none}
 use Rattle.parser.proofs.Logic.{read-small, arguments-nothing, start-argument, arguments-post}
 
 abbrev pub calls : ℕ → lts.Claims

@@ -2,7 +2,7 @@
 use borrow.Author.Needs.{needs}
 use Rattle.parser.proofs.Basics.{basic-at-paren, basic-at-negation, basic-no-operand, basic-at-operand}
 use Rattle.parser.proofs.Operands.{known-operand, start-operand, start-byte, opens}
-use Rattle.items.specs.Laws.{read-of, none-of}
+use Rattle.parser_items.specs.Laws.{read-of, none-of}
 use native.Mathlib.Omega.{arith}
 use mathlib.Core.Path.{refl}
 use Rattle.parser.proofs.+argument+arguments+basic+behind+bracketed+chained+filter+function+more_and+more_arguments+more_or+negation+operand+paren+parse_and+parse_or+query+right+segment+segments+selector+selectors.Lts-basic as lts
@@ -12,8 +12,8 @@ use Rattle.parser.proofs.behind.Reads as behind
 use Rattle.parser.proofs.negation.Reads as negation
 use Rattle.parser.proofs.operand.Reads as operand
 use Rattle.parser.proofs.paren.Reads as paren
-use Rattle.items.proofs.moved.Reads as moved-reads
-use Rattle.scan.proofs.is.Reads as is-reads
+use Rattle.parser_items.proofs.moved.Reads as moved-reads
+use Rattle.parser_scan.proofs.is.Reads as is-reads
 use Rattle.parser.proofs.+argument+arguments+basic+behind+bracketed+chained+filter+function+more_and+more_arguments+more_or+negation+operand+paren+parse_and+parse_or+query+right+segment+segments+selector+selectors.Proof.Base.{basic-at, behind-below, negation-below, operand-below, paren-below}
 
 abbrev pub calls : ℕ → lts.Claims

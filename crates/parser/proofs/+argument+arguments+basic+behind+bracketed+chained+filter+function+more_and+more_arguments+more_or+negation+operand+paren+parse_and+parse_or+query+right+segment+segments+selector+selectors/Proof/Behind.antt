@@ -1,8 +1,8 @@
 -- The answers of `behind` in the cycle of calls {argument, arguments, basic, behind, bracketed, chained, filter, function, more_and, more_arguments, more_or, negation, operand, paren, parse_and, parse_or, query, right, segment, segments, selector, selectors}.
 use borrow.Author.Needs.{needs}
 use Rattle.parser.proofs.Basics.{start-operator, behind-a-literal, behind-nothing, behind-not-compared, behind-by-operator}
-use Rattle.items.specs.Laws.{operator-of, no-operator-of}
-use Rattle.items.specs.Reads.{next}
+use Rattle.parser_items.specs.Laws.{operator-of, no-operator-of}
+use Rattle.parser_items.specs.Reads.{next}
 use borrow.Author.Tests.{not-true, not-false}
 use native.Mathlib.Omega.{arith}
 use mathlib.Core.Path.{sym, _∙_}
@@ -10,11 +10,11 @@ use Rattle.parser.proofs.+argument+arguments+basic+behind+bracketed+cha
 use Prim.Native.Nat.{ℕ}
 use Rattle.parser.proofs.behind.Reads as behind
 use Rattle.parser.proofs.right.Reads as right
-use Rattle.items.proofs.comparable.Reads as comparable-reads
-use Rattle.items.proofs.moved.Reads as moved-reads
-use Rattle.items.proofs.plain_sort.Reads as plain-sort-reads
-use Rattle.scan.proofs.read_operator.Reads as read-operator-reads
-use Rattle.scan.proofs.skip_blanks.Reads as skip-blanks-reads
+use Rattle.parser_items.proofs.comparable.Reads as comparable-reads
+use Rattle.parser_items.proofs.moved.Reads as moved-reads
+use Rattle.parser_items.proofs.plain_sort.Reads as plain-sort-reads
+use Rattle.parser_scan.proofs.read_operator.Reads as read-operator-reads
+use Rattle.parser_scan.proofs.skip_blanks.Reads as skip-blanks-reads
 use Rattle.parser.proofs.+argument+arguments+basic+behind+bracketed+chained+filter+function+more_and+more_arguments+more_or+negation+operand+paren+parse_and+parse_or+query+right+segment+segments+selector+selectors.Proof.Base.{behind-at, right-below}
 
 abbrev pub calls : ℕ → lts.Claims

@@ -2,18 +2,18 @@
 use borrow.Author.Needs.{needs}
 use borrow.Author.Tests.{not-true, not-false}
 use native.Mathlib.Omega.{arith}
-use Rattle.items.specs.Laws.{loose-of, loose-none-of}
+use Rattle.parser_items.specs.Laws.{loose-of, loose-none-of}
 use Rattle.parser.proofs.Lists.{brackets-none, brackets-room, brackets-begin, brackets-stop, brackets-more, brackets-stop-more, brackets-few, brackets-plan, brackets-pool, brackets-written, brackets-open, brackets-length, brackets-read}
 use Rattle.parser.proofs.+argument+arguments+basic+behind+bracketed+chained+filter+function+more_and+more_arguments+more_or+negation+operand+paren+parse_and+parse_or+query+right+segment+segments+selector+selectors.Lts-bracketed as lts
 use Prim.Native.Nat.{ℕ}
 use Rattle.parser.proofs.bracketed.Reads as bracketed
 use Rattle.parser.proofs.selector.Reads as selector
 use Rattle.parser.proofs.selectors.Reads as selectors
-use Rattle.items.proofs.brackets_flag.Reads as brackets-flag-reads
-use Rattle.items.proofs.moved.Reads as moved-reads
-use Rattle.items.proofs.opened.Reads as opened-reads
-use Rattle.scan.proofs.is.Reads as is-reads
-use Rattle.scan.proofs.skip_blanks.Reads as skip-blanks-reads
+use Rattle.parser_items.proofs.brackets_flag.Reads as brackets-flag-reads
+use Rattle.parser_items.proofs.moved.Reads as moved-reads
+use Rattle.parser_items.proofs.opened.Reads as opened-reads
+use Rattle.parser_scan.proofs.is.Reads as is-reads
+use Rattle.parser_scan.proofs.skip_blanks.Reads as skip-blanks-reads
 use Rattle.text.proofs.bytes.put16.Reads as put16-reads
 use Rattle.parser.proofs.+argument+arguments+basic+behind+bracketed+chained+filter+function+more_and+more_arguments+more_or+negation+operand+paren+parse_and+parse_or+query+right+segment+segments+selector+selectors.Proof.Base.{bracketed-at, selector-below, selectors-below}
 

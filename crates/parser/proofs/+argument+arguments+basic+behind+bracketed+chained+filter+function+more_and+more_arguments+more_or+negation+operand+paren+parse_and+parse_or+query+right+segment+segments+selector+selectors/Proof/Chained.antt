@@ -2,13 +2,13 @@
 use borrow.Author.Needs.{needs}
 use Rattle.parser.proofs.Chains.{chained-end, chained-no-behind, chained-no-and, start-chained, chained-then}
 use Rattle.parser.proofs.Operands.{told-behind, start-behind}
-use Rattle.items.specs.Laws.{read-of, none-of}
+use Rattle.parser_items.specs.Laws.{read-of, none-of}
 use native.Mathlib.Omega.{arith}
 use Rattle.parser.proofs.+argument+arguments+basic+behind+bracketed+chained+filter+function+more_and+more_arguments+more_or+negation+operand+paren+parse_and+parse_or+query+right+segment+segments+selector+selectors.Lts-chained as lts
 use Prim.Native.Nat.{ℕ}
-use Rattle.scan.proofs.skip_blanks.Reads as skip-blanks-reads
-use Rattle.scan.proofs.is.Reads as is-reads
-use Rattle.items.proofs.plain_sort.Reads as plain-sort-reads
+use Rattle.parser_scan.proofs.skip_blanks.Reads as skip-blanks-reads
+use Rattle.parser_scan.proofs.is.Reads as is-reads
+use Rattle.parser_items.proofs.plain_sort.Reads as plain-sort-reads
 use Rattle.parser.proofs.behind.Reads as behind
 use Rattle.parser.proofs.chained.Reads as chained
 use Rattle.parser.proofs.more_and.Reads as more-and

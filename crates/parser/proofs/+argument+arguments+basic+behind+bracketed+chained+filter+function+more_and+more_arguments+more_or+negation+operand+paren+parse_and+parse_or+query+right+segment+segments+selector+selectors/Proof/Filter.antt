@@ -1,16 +1,16 @@
 -- The answers of `filter` in the cycle of calls {argument, arguments, basic, behind, bracketed, chained, filter, function, more_and, more_arguments, more_or, negation, operand, paren, parse_and, parse_or, query, right, segment, segments, selector, selectors}.
 use borrow.Author.Needs.{needs}
 use native.Mathlib.Omega.{arith}
-use Rattle.items.specs.Laws.{read-of, none-of}
+use Rattle.parser_items.specs.Laws.{read-of, none-of}
 use Rattle.parser.proofs.Picks.{filter-begin, filter-stop, filter-room, filter-known, filter-longer, filter-length, filter-read}
 use Rattle.parser.proofs.+argument+arguments+basic+behind+bracketed+chained+filter+function+more_and+more_arguments+more_or+negation+operand+paren+parse_and+parse_or+query+right+segment+segments+selector+selectors.Lts-filter as lts
 use Prim.Native.Nat.{ℕ}
 use Rattle.parser.proofs.filter.Reads as filter
 use Rattle.parser.proofs.parse_or.Reads as parse-or
-use Rattle.items.proofs.moved.Reads as moved-reads
-use Rattle.items.proofs.opened.Reads as opened-reads
-use Rattle.items.proofs.test_tail.Reads as test-tail-reads
-use Rattle.scan.proofs.skip_blanks.Reads as skip-blanks-reads
+use Rattle.parser_items.proofs.moved.Reads as moved-reads
+use Rattle.parser_items.proofs.opened.Reads as opened-reads
+use Rattle.parser_items.proofs.test_tail.Reads as test-tail-reads
+use Rattle.parser_scan.proofs.skip_blanks.Reads as skip-blanks-reads
 use Rattle.text.proofs.bytes.put16.Reads as put16-reads
 use Rattle.parser.proofs.+argument+arguments+basic+behind+bracketed+chained+filter+function+more_and+more_arguments+more_or+negation+operand+paren+parse_and+parse_or+query+right+segment+segments+selector+selectors.Proof.Base.{filter-at, parse-or-below}
 

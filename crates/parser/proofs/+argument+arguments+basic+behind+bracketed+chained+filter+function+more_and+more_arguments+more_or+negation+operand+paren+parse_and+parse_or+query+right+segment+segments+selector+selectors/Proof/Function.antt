@@ -4,17 +4,17 @@ use Rattle.parser.proofs.+argument+arguments+basic+behind+bracketed+cha
 use Prim.Native.Nat.{ℕ}
 use Rattle.parser.proofs.arguments.Reads as arguments
 use Rattle.parser.proofs.function.Reads as function
-use Rattle.items.proofs.call_sort.Reads as call-sort-reads
-use Rattle.items.proofs.moved.Reads as moved-reads
-use Rattle.items.proofs.write_call.Reads as write-call-reads
-use Rattle.scan.proofs.is.Reads as is-reads
-use Rattle.scan.proofs.skip_blanks.Reads as skip-blanks-reads
+use Rattle.parser_items.proofs.call_sort.Reads as call-sort-reads
+use Rattle.parser_items.proofs.moved.Reads as moved-reads
+use Rattle.parser_items.proofs.write_call.Reads as write-call-reads
+use Rattle.parser_scan.proofs.is.Reads as is-reads
+use Rattle.parser_scan.proofs.skip_blanks.Reads as skip-blanks-reads
 use Rattle.parser.proofs.+argument+arguments+basic+behind+bracketed+chained+filter+function+more_and+more_arguments+more_or+negation+operand+paren+parse_and+parse_or+query+right+segment+segments+selector+selectors.Proof.Base.{arguments-below, function-at}
 use native.Mathlib.Omega.{arith}
 use borrow.Author.Tests.{not-true, not-false}
 use lib.Dec.{lit≤}
-use Rattle.items.specs.Reads.{next, stop}
-use Rattle.items.specs.Laws.{read-of, none-of}
+use Rattle.parser_items.specs.Reads.{next, stop}
+use Rattle.parser_items.specs.Laws.{read-of, none-of}
 use Rattle.parser.proofs.Steps.{start-skipped}
 use Rattle.parser.proofs.Logic.{room, arguments-small, call-stop, call-start, call-unclosed, start-call, call-closed}
 

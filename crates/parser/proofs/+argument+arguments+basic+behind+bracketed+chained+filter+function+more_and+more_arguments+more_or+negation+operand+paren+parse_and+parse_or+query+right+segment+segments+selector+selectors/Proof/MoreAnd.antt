@@ -4,13 +4,13 @@ use Rattle.parser.proofs.+argument+arguments+basic+behind+bracketed+cha
 use Prim.Native.Nat.{ℕ}
 use Rattle.parser.proofs.basic.Reads as basic
 use Rattle.parser.proofs.more_and.Reads as more-and
-use Rattle.items.proofs.compared.Reads as compared-reads
-use Rattle.items.proofs.judged.Reads as judged-reads
-use Rattle.items.proofs.moved.Reads as moved-reads
-use Rattle.items.proofs.opened.Reads as opened-reads
-use Rattle.items.proofs.test_tail.Reads as test-tail-reads
-use Rattle.scan.proofs.both.Reads as both-reads
-use Rattle.scan.proofs.skip_blanks.Reads as skip-blanks-reads
+use Rattle.parser_items.proofs.compared.Reads as compared-reads
+use Rattle.parser_items.proofs.judged.Reads as judged-reads
+use Rattle.parser_items.proofs.moved.Reads as moved-reads
+use Rattle.parser_items.proofs.opened.Reads as opened-reads
+use Rattle.parser_items.proofs.test_tail.Reads as test-tail-reads
+use Rattle.parser_scan.proofs.both.Reads as both-reads
+use Rattle.parser_scan.proofs.skip_blanks.Reads as skip-blanks-reads
 use Rattle.text.proofs.bytes.put16.Reads as put16-reads
 use Rattle.parser.proofs.+argument+arguments+basic+behind+bracketed+chained+filter+function+more_and+more_arguments+more_or+negation+operand+paren+parse_and+parse_or+query+right+segment+segments+selector+selectors.Proof.Base.{basic-below, more-and-at}
 use mathlib.Core.Path.{_∙_}
@@ -19,10 +19,10 @@ use native.Mathlib.Omega.{arith}
 use borrow.Author.Tests.{not-true, not-false}
 use lib.Dec.{lit≤, lit<}
 use lib.ListN.{length}
-use Rattle.writing.specs.Sorts.{sortBasic}
-use Rattle.writing.specs.Writes.{testTail}
-use Rattle.items.specs.Reads.{sortOf}
-use Rattle.items.specs.Laws.{read-of, none-of, done-plan, done-pool, start-less}
+use Rattle.compile_writes.specs.Sorts.{sortBasic}
+use Rattle.compile_writes.specs.Writes.{testTail}
+use Rattle.parser_items.specs.Reads.{sortOf}
+use Rattle.parser_items.specs.Laws.{read-of, none-of, done-plan, done-pool, start-less}
 use Rattle.parser.proofs.Logic.{room, small-known, read-known, Ready, Framed, start-operator, start-tailed, ready, ready-plan, ready-less, framed-place, framed-order, framed-length, framed-room, AndLoop, and-loop, and-end, and-stop, and-behind, and-framed, and-more}
 
 abbrev pub calls : ℕ → lts.Claims

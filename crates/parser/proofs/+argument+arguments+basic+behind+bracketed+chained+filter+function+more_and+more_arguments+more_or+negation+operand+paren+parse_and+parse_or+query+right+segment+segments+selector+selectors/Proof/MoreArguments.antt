@@ -4,19 +4,19 @@ use Rattle.parser.proofs.+argument+arguments+basic+behind+bracketed+cha
 use Prim.Native.Nat.{ℕ}
 use Rattle.parser.proofs.argument.Reads as argument
 use Rattle.parser.proofs.more_arguments.Reads as more-arguments
-use Rattle.items.proofs.moved.Reads as moved-reads
-use Rattle.items.proofs.one_more.Reads as one-more-reads
-use Rattle.scan.proofs.is.Reads as is-reads
-use Rattle.scan.proofs.skip_blanks.Reads as skip-blanks-reads
+use Rattle.parser_items.proofs.moved.Reads as moved-reads
+use Rattle.parser_items.proofs.one_more.Reads as one-more-reads
+use Rattle.parser_scan.proofs.is.Reads as is-reads
+use Rattle.parser_scan.proofs.skip_blanks.Reads as skip-blanks-reads
 use Rattle.parser.proofs.+argument+arguments+basic+behind+bracketed+chained+filter+function+more_and+more_arguments+more_or+negation+operand+paren+parse_and+parse_or+query+right+segment+segments+selector+selectors.Proof.Base.{argument-below, more-arguments-at}
 use mathlib.Core.Path.{_∙_}
 use Prim.Native.Nat.{_-_}
 use native.Mathlib.Omega.{arith}
 use borrow.Author.Tests.{not-true, not-false}
 use lib.ListN.{length}
-use Rattle.writing.specs.Sorts.{sortArgument}
-use Rattle.items.specs.Reads.{next, stop}
-use Rattle.items.specs.Laws.{read-of, none-of, done-plan, done-pool}
+use Rattle.compile_writes.specs.Sorts.{sortArgument}
+use Rattle.parser_items.specs.Reads.{next, stop}
+use Rattle.parser_items.specs.Laws.{read-of, none-of, done-plan, done-pool}
 use Rattle.parser.proofs.Logic.{read-small, ArgumentsLoop, arguments-loop, arguments-last, start-comma, arguments-stop, arguments-more, arguments-less}
 
 abbrev pub calls : ℕ → lts.Claims

@@ -3,18 +3,18 @@ use borrow.Author.Needs.{needs}
 use Rattle.parser.proofs.Basics.{negation-at-paren, negation-no-paren, negation-no-operand, negation-of-literal, negation-at-operand}
 use Rattle.parser.proofs.Operands.{known-operand, known-paren, operand-room, paren-room, opens}
 use Rattle.parser.proofs.Steps.{start-skipped}
-use Rattle.items.specs.Laws.{read-of, none-of}
-use Rattle.items.specs.Reads.{next}
+use Rattle.parser_items.specs.Laws.{read-of, none-of}
+use Rattle.parser_items.specs.Reads.{next}
 use native.Mathlib.Omega.{arith}
 use Rattle.parser.proofs.+argument+arguments+basic+behind+bracketed+chained+filter+function+more_and+more_arguments+more_or+negation+operand+paren+parse_and+parse_or+query+right+segment+segments+selector+selectors.Lts-negation as lts
 use Prim.Native.Nat.{ℕ}
 use Rattle.parser.proofs.negation.Reads as negation
 use Rattle.parser.proofs.operand.Reads as operand
 use Rattle.parser.proofs.paren.Reads as paren
-use Rattle.items.proofs.moved.Reads as moved-reads
-use Rattle.items.proofs.not_tail.Reads as not-tail-reads
-use Rattle.scan.proofs.is.Reads as is-reads
-use Rattle.scan.proofs.skip_blanks.Reads as skip-blanks-reads
+use Rattle.parser_items.proofs.moved.Reads as moved-reads
+use Rattle.parser_items.proofs.not_tail.Reads as not-tail-reads
+use Rattle.parser_scan.proofs.is.Reads as is-reads
+use Rattle.parser_scan.proofs.skip_blanks.Reads as skip-blanks-reads
 use Rattle.parser.proofs.+argument+arguments+basic+behind+bracketed+chained+filter+function+more_and+more_arguments+more_or+negation+operand+paren+parse_and+parse_or+query+right+segment+segments+selector+selectors.Proof.Base.{negation-at, operand-below, paren-below}
 
 abbrev pub calls : ℕ → lts.Claims

@@ -1,7 +1,7 @@
 -- The answers of `operand` in the cycle of calls {argument, arguments, basic, behind, bracketed, chained, filter, function, more_and, more_arguments, more_or, negation, operand, paren, parse_and, parse_or, query, right, segment, segments, selector, selectors}.
 use borrow.Author.Needs.{needs}
 use Rattle.parser.proofs.Operands.{start-byte, start-call, word-room, operand-at-current, operand-at-root, operand-at-call, operand-at-keyword, operand-at-constant}
-use Rattle.items.specs.Laws.{word-of, no-word-of, whole, start-whole, post-whole}
+use Rattle.parser_items.specs.Laws.{word-of, no-word-of, whole, start-whole, post-whole}
 use mathlib.Core.Path.{ap}
 use lib.ListN.{length}
 use native.Mathlib.Omega.{arith}
@@ -10,12 +10,12 @@ use Prim.Native.Nat.{ℕ}
 use Rattle.parser.proofs.function.Reads as function
 use Rattle.parser.proofs.operand.Reads as operand
 use Rattle.parser.proofs.query.Reads as query
-use Rattle.items.proofs.moved.Reads as moved-reads
-use Rattle.items.proofs.write_keyword.Reads as write-keyword-reads
-use Rattle.items.proofs.write_literal.Reads as write-literal-reads
-use Rattle.scan.proofs.is.Reads as is-reads
-use Rattle.scan.proofs.named_at.Reads as named-at-reads
-use Rattle.scan.proofs.read_word.Reads as read-word-reads
+use Rattle.parser_items.proofs.moved.Reads as moved-reads
+use Rattle.parser_items.proofs.write_keyword.Reads as write-keyword-reads
+use Rattle.parser_items.proofs.write_literal.Reads as write-literal-reads
+use Rattle.parser_scan.proofs.is.Reads as is-reads
+use Rattle.parser_scan.proofs.named_at.Reads as named-at-reads
+use Rattle.parser_scan.proofs.read_word.Reads as read-word-reads
 use Rattle.parser.proofs.+argument+arguments+basic+behind+bracketed+chained+filter+function+more_and+more_arguments+more_or+negation+operand+paren+parse_and+parse_or+query+right+segment+segments+selector+selectors.Proof.Base.{function-below, operand-at, query-below}
 
 abbrev pub calls : ℕ → lts.Claims

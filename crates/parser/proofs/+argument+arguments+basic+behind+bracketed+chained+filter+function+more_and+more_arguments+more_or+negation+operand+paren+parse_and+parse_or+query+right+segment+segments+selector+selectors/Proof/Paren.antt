@@ -4,14 +4,14 @@ use Rattle.parser.proofs.+argument+arguments+basic+behind+bracketed+cha
 use Prim.Native.Nat.{ℕ}
 use Rattle.parser.proofs.paren.Reads as paren
 use Rattle.parser.proofs.parse_or.Reads as parse-or
-use Rattle.items.proofs.moved.Reads as moved-reads
-use Rattle.scan.proofs.is.Reads as is-reads
-use Rattle.scan.proofs.skip_blanks.Reads as skip-blanks-reads
+use Rattle.parser_items.proofs.moved.Reads as moved-reads
+use Rattle.parser_scan.proofs.is.Reads as is-reads
+use Rattle.parser_scan.proofs.skip_blanks.Reads as skip-blanks-reads
 use Rattle.parser.proofs.+argument+arguments+basic+behind+bracketed+chained+filter+function+more_and+more_arguments+more_or+negation+operand+paren+parse_and+parse_or+query+right+segment+segments+selector+selectors.Proof.Base.{paren-at, parse-or-below}
 use native.Mathlib.Omega.{arith}
 use borrow.Author.Tests.{not-true, not-false}
-use Rattle.items.specs.Reads.{next, stop}
-use Rattle.items.specs.Laws.{read-of, none-of}
+use Rattle.parser_items.specs.Reads.{next, stop}
+use Rattle.parser_items.specs.Laws.{read-of, none-of}
 use Rattle.parser.proofs.Logic.{opens-is, start-paren, paren-stop, paren-unclosed, paren-closed}
 
 abbrev pub calls : ℕ → lts.Claims

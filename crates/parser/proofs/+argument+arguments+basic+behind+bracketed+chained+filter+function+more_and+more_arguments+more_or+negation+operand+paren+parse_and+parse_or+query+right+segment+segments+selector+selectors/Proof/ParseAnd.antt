@@ -5,14 +5,14 @@ use Prim.Native.Nat.{ℕ}
 use Rattle.parser.proofs.basic.Reads as basic
 use Rattle.parser.proofs.more_and.Reads as more-and
 use Rattle.parser.proofs.parse_and.Reads as parse-and
-use Rattle.items.proofs.compared.Reads as compared-reads
-use Rattle.items.proofs.judged.Reads as judged-reads
+use Rattle.parser_items.proofs.compared.Reads as compared-reads
+use Rattle.parser_items.proofs.judged.Reads as judged-reads
 use Rattle.parser.proofs.+argument+arguments+basic+behind+bracketed+chained+filter+function+more_and+more_arguments+more_or+negation+operand+paren+parse_and+parse_or+query+right+segment+segments+selector+selectors.Proof.Base.{basic-below, more-and-below, parse-and-at}
 use native.Mathlib.Omega.{arith}
-use Rattle.writing.specs.Sorts.{sortBasic}
-use Rattle.items.specs.Reads.{stop}
-use Rattle.items.specs.Laws.{read-of, none-of}
-use Rattle.rules.specs.And.{and-none}
+use Rattle.compile_writes.specs.Sorts.{sortBasic}
+use Rattle.parser_items.specs.Reads.{stop}
+use Rattle.parser_items.specs.Laws.{read-of, none-of}
+use Rattle.parser_laws.specs.And.{and-none}
 use Rattle.parser.proofs.Logic.{read-known, read-small, start-operand, and-post}
 
 abbrev pub calls : ℕ → lts.Claims

@@ -7,10 +7,10 @@ use Rattle.parser.proofs.parse_and.Reads as parse-and
 use Rattle.parser.proofs.parse_or.Reads as parse-or
 use Rattle.parser.proofs.+argument+arguments+basic+behind+bracketed+chained+filter+function+more_and+more_arguments+more_or+negation+operand+paren+parse_and+parse_or+query+right+segment+segments+selector+selectors.Proof.Base.{more-or-below, parse-and-below, parse-or-at}
 use native.Mathlib.Omega.{arith}
-use Rattle.writing.specs.Sorts.{sortAnd}
-use Rattle.items.specs.Reads.{stop}
-use Rattle.items.specs.Laws.{read-of, none-of}
-use Rattle.rules.specs.Or.{or-none}
+use Rattle.compile_writes.specs.Sorts.{sortAnd}
+use Rattle.parser_items.specs.Reads.{stop}
+use Rattle.parser_items.specs.Laws.{read-of, none-of}
+use Rattle.parser_laws.specs.Or.{or-none}
 use Rattle.parser.proofs.Logic.{read-small, start-chain, or-post}
 
 abbrev pub calls : ℕ → lts.Claims

@@ -2,15 +2,15 @@
 use borrow.Author.Needs.{needs}
 use Rattle.parser.proofs.Operands.{told-segments, segments-room, query-none, query-read}
 use Rattle.parser.proofs.Steps.{start-put}
-use Rattle.items.specs.Laws.{read-of, none-of}
-use Rattle.items.specs.Reads.{next}
+use Rattle.parser_items.specs.Laws.{read-of, none-of}
+use Rattle.parser_items.specs.Reads.{next}
 use native.Mathlib.Omega.{arith}
 use Rattle.parser.proofs.+argument+arguments+basic+behind+bracketed+chained+filter+function+more_and+more_arguments+more_or+negation+operand+paren+parse_and+parse_or+query+right+segment+segments+selector+selectors.Lts-query as lts
 use Prim.Native.Nat.{ℕ}
 use Rattle.parser.proofs.query.Reads as query
 use Rattle.parser.proofs.segments.Reads as segments
-use Rattle.items.proofs.item.Reads as item-reads
-use Rattle.items.proofs.query_flag.Reads as query-flag-reads
+use Rattle.parser_items.proofs.item.Reads as item-reads
+use Rattle.parser_items.proofs.query_flag.Reads as query-flag-reads
 use Rattle.parser.proofs.+argument+arguments+basic+behind+bracketed+chained+filter+function+more_and+more_arguments+more_or+negation+operand+paren+parse_and+parse_or+query+right+segment+segments+selector+selectors.Proof.Base.{query-at, segments-below}
 
 abbrev pub calls : ℕ → lts.Claims

@@ -3,8 +3,8 @@ use borrow.Author.Needs.{needs}
 use Rattle.parser.proofs.Basics.{right-none, right-not-compared, right-read}
 use Rattle.parser.proofs.Operands.{known-operand, operand-room}
 use Rattle.parser.proofs.Steps.{start-skipped}
-use Rattle.items.specs.Laws.{read-of, none-of}
-use Rattle.items.specs.Reads.{next}
+use Rattle.parser_items.specs.Laws.{read-of, none-of}
+use Rattle.parser_items.specs.Reads.{next}
 use borrow.Author.Tests.{not-true, not-false}
 use native.Mathlib.Omega.{arith}
 use mathlib.Core.Path.{sym, _∙_}
@@ -12,11 +12,11 @@ use Rattle.parser.proofs.+argument+arguments+basic+behind+bracketed+cha
 use Prim.Native.Nat.{ℕ}
 use Rattle.parser.proofs.operand.Reads as operand
 use Rattle.parser.proofs.right.Reads as right
-use Rattle.items.proofs.comparable.Reads as comparable-reads
-use Rattle.items.proofs.moved.Reads as moved-reads
-use Rattle.items.proofs.plain_sort.Reads as plain-sort-reads
-use Rattle.items.proofs.write_compare.Reads as write-compare-reads
-use Rattle.scan.proofs.skip_blanks.Reads as skip-blanks-reads
+use Rattle.parser_items.proofs.comparable.Reads as comparable-reads
+use Rattle.parser_items.proofs.moved.Reads as moved-reads
+use Rattle.parser_items.proofs.plain_sort.Reads as plain-sort-reads
+use Rattle.parser_items.proofs.write_compare.Reads as write-compare-reads
+use Rattle.parser_scan.proofs.skip_blanks.Reads as skip-blanks-reads
 use Rattle.parser.proofs.+argument+arguments+basic+behind+bracketed+chained+filter+function+more_and+more_arguments+more_or+negation+operand+paren+parse_and+parse_or+query+right+segment+segments+selector+selectors.Proof.Base.{operand-below, right-at}
 
 abbrev pub calls : ℕ → lts.Claims

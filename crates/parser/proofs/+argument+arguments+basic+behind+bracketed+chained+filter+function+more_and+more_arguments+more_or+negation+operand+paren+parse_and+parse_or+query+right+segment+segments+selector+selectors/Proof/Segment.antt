@@ -6,11 +6,11 @@ use Rattle.parser.proofs.+argument+arguments+basic+behind+bracketed+cha
 use Prim.Native.Nat.{ℕ}
 use Rattle.parser.proofs.bracketed.Reads as bracketed
 use Rattle.parser.proofs.segment.Reads as segment
-use Rattle.items.proofs.lowered.Reads as lowered-reads
-use Rattle.items.proofs.moved.Reads as moved-reads
-use Rattle.items.proofs.write_dotted.Reads as write-dotted-reads
-use Rattle.scan.proofs.both.Reads as both-reads
-use Rattle.scan.proofs.is.Reads as is-reads
+use Rattle.parser_items.proofs.lowered.Reads as lowered-reads
+use Rattle.parser_items.proofs.moved.Reads as moved-reads
+use Rattle.parser_items.proofs.write_dotted.Reads as write-dotted-reads
+use Rattle.parser_scan.proofs.both.Reads as both-reads
+use Rattle.parser_scan.proofs.is.Reads as is-reads
 use Rattle.parser.proofs.+argument+arguments+basic+behind+bracketed+chained+filter+function+more_and+more_arguments+more_or+negation+operand+paren+parse_and+parse_or+query+right+segment+segments+selector+selectors.Proof.Base.{bracketed-below, segment-at}
 
 abbrev pub calls : ℕ → lts.Claims

@@ -4,16 +4,16 @@ use borrow.Author.Tests.{not-true, not-false}
 use native.Mathlib.Omega.{arith}
 use Prim.Native.Nat.{_-_}
 use lib.ListN.{length}
-use Rattle.items.specs.Laws.{read-of, none-of, done-plan, done-pool}
+use Rattle.parser_items.specs.Laws.{read-of, none-of, done-plan, done-pool}
 use Rattle.parser.proofs.Picks.{SegmentsLoop, segments-start, segments-over, segments-begin, segments-stop, segments-again, segment-long}
 use Rattle.parser.proofs.+argument+arguments+basic+behind+bracketed+chained+filter+function+more_and+more_arguments+more_or+negation+operand+paren+parse_and+parse_or+query+right+segment+segments+selector+selectors.Lts-segments as lts
 use Prim.Native.Nat.{ℕ}
 use Rattle.parser.proofs.segment.Reads as segment
 use Rattle.parser.proofs.segments.Reads as segments
-use Rattle.items.proofs.begins_segment.Reads as begins-segment-reads
-use Rattle.items.proofs.least.Reads as least-reads
-use Rattle.items.proofs.moved.Reads as moved-reads
-use Rattle.scan.proofs.skip_blanks.Reads as skip-blanks-reads
+use Rattle.parser_items.proofs.begins_segment.Reads as begins-segment-reads
+use Rattle.parser_items.proofs.least.Reads as least-reads
+use Rattle.parser_items.proofs.moved.Reads as moved-reads
+use Rattle.parser_scan.proofs.skip_blanks.Reads as skip-blanks-reads
 use Rattle.parser.proofs.+argument+arguments+basic+behind+bracketed+chained+filter+function+more_and+more_arguments+more_or+negation+operand+paren+parse_and+parse_or+query+right+segment+segments+selector+selectors.Proof.Base.{segment-below, segments-at}
 
 abbrev pub calls : ℕ → lts.Claims

@@ -6,9 +6,9 @@ use Rattle.parser.proofs.+argument+arguments+basic+behind+bracketed+cha
 use Prim.Native.Nat.{ℕ}
 use Rattle.parser.proofs.filter.Reads as filter
 use Rattle.parser.proofs.selector.Reads as selector
-use Rattle.items.proofs.moved.Reads as moved-reads
-use Rattle.items.proofs.write_selector.Reads as write-selector-reads
-use Rattle.scan.proofs.is.Reads as is-reads
+use Rattle.parser_items.proofs.moved.Reads as moved-reads
+use Rattle.parser_items.proofs.write_selector.Reads as write-selector-reads
+use Rattle.parser_scan.proofs.is.Reads as is-reads
 use Rattle.parser.proofs.+argument+arguments+basic+behind+bracketed+chained+filter+function+more_and+more_arguments+more_or+negation+operand+paren+parse_and+parse_or+query+right+segment+segments+selector+selectors.Proof.Base.{filter-below, selector-at}
 
 abbrev pub calls : ℕ → lts.Claims

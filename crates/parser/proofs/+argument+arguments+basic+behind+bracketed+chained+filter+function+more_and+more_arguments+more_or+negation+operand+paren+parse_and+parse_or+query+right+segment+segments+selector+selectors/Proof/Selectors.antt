@@ -4,15 +4,15 @@ use borrow.Author.Tests.{not-true, not-false}
 use native.Mathlib.Omega.{arith}
 use Prim.Native.Nat.{_-_}
 use lib.ListN.{length}
-use Rattle.items.specs.Laws.{loose-of, loose-none-of, done-plan, done-pool}
+use Rattle.parser_items.specs.Laws.{loose-of, loose-none-of, done-plan, done-pool}
 use Rattle.parser.proofs.Lists.{SelectorsLoop, selectors-start, selectors-over, selectors-begin, selectors-stop, selectors-again}
 use Rattle.parser.proofs.+argument+arguments+basic+behind+bracketed+chained+filter+function+more_and+more_arguments+more_or+negation+operand+paren+parse_and+parse_or+query+right+segment+segments+selector+selectors.Lts-selectors as lts
 use Prim.Native.Nat.{ℕ}
 use Rattle.parser.proofs.selector.Reads as selector
 use Rattle.parser.proofs.selectors.Reads as selectors
-use Rattle.items.proofs.moved.Reads as moved-reads
-use Rattle.scan.proofs.is.Reads as is-reads
-use Rattle.scan.proofs.skip_blanks.Reads as skip-blanks-reads
+use Rattle.parser_items.proofs.moved.Reads as moved-reads
+use Rattle.parser_scan.proofs.is.Reads as is-reads
+use Rattle.parser_scan.proofs.skip_blanks.Reads as skip-blanks-reads
 use Rattle.parser.proofs.+argument+arguments+basic+behind+bracketed+chained+filter+function+more_and+more_arguments+more_or+negation+operand+paren+parse_and+parse_or+query+right+segment+segments+selector+selectors.Proof.Base.{selector-below, selectors-at}
 
 abbrev pub calls : ℕ → lts.Claims

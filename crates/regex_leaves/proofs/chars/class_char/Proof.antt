@@ -1,6 +1,6 @@
 -- `regex_leaves::chars::class_char` meets its contract. Assumes nothing.
 use Rattle.regex_leaves.proofs.OfChars.{class-escape, class-bare, bare-end, bare-next, bare-none}
-use Rattle.regexps.specs.Chars.{isClassChar}
+use Rattle.regex_definition.specs.Chars.{isClassChar}
 use Rattle.regex_leaves.proofs.OfChars.{class-escape, class-bare, bare-end, bare-next, bare-none}
 use mathlib.Core.Path.{sym, _∙_}
 use borrow.Author.Needs.{needs}

@@ -1,5 +1,5 @@
 -- `regex_leaves::chars::normal` meets its contract. Assumes nothing.
-use Rattle.regexps.specs.Chars.{isNormal}
+use Rattle.regex_definition.specs.Chars.{isNormal}
 use Rattle.regex_leaves.proofs.OfChars.{bare-end, bare-next, bare-none}
 use mathlib.Core.Path.{sym, _∙_}
 use borrow.Author.Needs.{needs}

@@ -4,7 +4,7 @@ use mathlib.Core.Path.{refl, sym, ap, _∙_, subst}
 use Prim.Native.Nat.{ℕ, _+_, _-_, _<_}
 use lib.ListN.{length, getD, set, length-set}
 use lib.Dec.{ltb}
-use Rattle.tables.specs.Keys.{key-span}
+use Rattle.table_laws.specs.Keys.{key-span}
 use Rattle.table.specs.Buckets.{bucketOf, bucketAt}
 use Rattle.table.specs.Chains.{Latest, Chained}
 use Rattle.table.proofs.Chains.{chain-joined}

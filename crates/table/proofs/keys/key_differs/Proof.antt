@@ -5,7 +5,7 @@ use mathlib.Core.Path.{_≡_, refl, sym, _∙_, ap}
 use Prim.Native.Nat.{_+_, _-_, _≤_}
 use Rattle.definition.specs.Bytes.{sameBytes}
 use Rattle.definition.specs.Tables.{keyBytes, keyDiffers}
-use Rattle.tables.specs.Keys.{key-span, differs-same, differs-step, differs-end}
+use Rattle.table_laws.specs.Keys.{key-span, differs-same, differs-step, differs-end}
 use Rattle.table.proofs.Inside.{one-key}
 use Rattle.table.proofs.keys.key_differs.Statement.{statement}
 use Rattle.table.proofs.keys.key_differs.Tie as tie

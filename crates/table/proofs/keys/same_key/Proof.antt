@@ -4,7 +4,7 @@ use mathlib.Core.Path.{sym, _∙_, ap}
 use mathlib.Core.List.{List}
 use Prim.Native.Nat.{ℕ, _+_}
 use Rattle.definition.specs.Bytes.{sameBytes}
-use Rattle.tables.specs.Keys.{key-unlike, key-span}
+use Rattle.table_laws.specs.Keys.{key-unlike, key-span}
 use borrow.Author.Needs.{needs}
 use Rattle.table.proofs.keys.same_key.Statement.{statement}
 use Rattle.table.proofs.keys.same_key.Tie as tie

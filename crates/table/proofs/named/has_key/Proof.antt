@@ -4,8 +4,8 @@ use Prim.Native.Nat.{ℕ}
 use lib.Dec.{eqb}
 use native.Mathlib.Omega.{arith}
 use Rattle.definition.specs.Tables.{kindAt, parentAt}
-use Rattle.tables.specs.Parents.{parent-found}
-use Rattle.tables.specs.Outcomes.{key-beyond, key-root, key-under}
+use Rattle.table_laws.specs.Parents.{parent-found}
+use Rattle.table_laws.specs.Outcomes.{key-beyond, key-root, key-under}
 use borrow.Author.Needs.{needs}
 use Rattle.table.proofs.named.has_key.Statement.{statement}
 use Rattle.table.proofs.named.has_key.Tie as tie

@@ -2,7 +2,7 @@
 use mathlib.Core.Path.{sym, _∙_, ap}
 use Prim.Native.Nat.{ℕ}
 use lib.Dec.{eqb}
-use Rattle.tables.specs.Outcomes.{text-beyond, text-by-kind}
+use Rattle.table_laws.specs.Outcomes.{text-beyond, text-by-kind}
 use borrow.Author.Needs.{needs}
 use Rattle.table.proofs.named.has_text.Statement.{statement}
 use Rattle.table.proofs.named.has_text.Tie as tie

@@ -2,7 +2,7 @@
 use native.Mathlib.Omega.{arith}
 use Prim.Native.Nat.{_+_}
 use mathlib.Core.Path.{refl}
-use Rattle.tables.specs.Keys.{key-span}
+use Rattle.table_laws.specs.Keys.{key-span}
 use borrow.Author.Needs.{needs}
 use Rattle.table.proofs.named.key_part.Statement.{statement}
 use Rattle.table.proofs.named.key_part.Tie as tie

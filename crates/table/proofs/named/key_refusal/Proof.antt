@@ -2,9 +2,9 @@
 use mathlib.Core.Path.{sym, _∙_}
 use Rattle.definition.specs.Tables.{checkTable, keyBytes}
 use Rattle.definition.specs.TableOutcomes.{hasKey, keyOutcome}
-use Rattle.tables.specs.Outcomes.{number-sized, number-wrong, number-text, number-lacking, number-found}
+use Rattle.table_laws.specs.Outcomes.{number-sized, number-wrong, number-text, number-lacking, number-found}
 use Rattle.table.proofs.Answers.{says-accepted, says-sized, says-wrong, says-text}
-use Rattle.tables.specs.Accepted.{accepted-gives, accepted-parented}
+use Rattle.table_laws.specs.Accepted.{accepted-gives, accepted-parented}
 use borrow.Author.Needs.{needs}
 use Rattle.table.proofs.named.key_refusal.Statement.{statement}
 use Rattle.table.proofs.named.key_refusal.Tie as tie

@@ -2,7 +2,7 @@
 use native.Mathlib.Omega.{arith}
 use Prim.Native.Nat.{_+_}
 use mathlib.Core.Path.{refl}
-use Rattle.tables.specs.Keys.{text-span}
+use Rattle.table_laws.specs.Keys.{text-span}
 use borrow.Author.Needs.{needs}
 use Rattle.table.proofs.named.text_part.Statement.{statement}
 use Rattle.table.proofs.named.text_part.Tie as tie

@@ -2,7 +2,7 @@
 use mathlib.Core.Path.{sym, _∙_}
 use Rattle.definition.specs.Tables.{checkTable, textBytesAt}
 use Rattle.definition.specs.TableOutcomes.{hasText, textOutcome}
-use Rattle.tables.specs.Outcomes.{number-sized, number-wrong, number-text, number-lacking, number-found}
+use Rattle.table_laws.specs.Outcomes.{number-sized, number-wrong, number-text, number-lacking, number-found}
 use Rattle.table.proofs.Answers.{says-accepted, says-sized, says-wrong, says-text}
 use borrow.Author.Needs.{needs}
 use Rattle.table.proofs.named.text_refusal.Statement.{statement}

@@ -1,7 +1,7 @@
 -- The count is that of a list or a map by the kind that was read. Assumes nothing.
 use native.Mathlib.Omega.{arith}
 use mathlib.Core.Path.{sym, _∙_}
-use Rattle.tables.specs.Rights.{count-list, count-map, count-other}
+use Rattle.table_laws.specs.Rights.{count-list, count-map, count-other}
 use borrow.Author.Needs.{needs}
 use Rattle.table.proofs.records.child_count.Statement.{statement}
 use Rattle.table.proofs.records.child_count.Tie as tie

@@ -4,8 +4,8 @@ use mathlib.Core.Path.{_≡_, refl, sym, ap, _∙_}
 use Prim.Native.Nat.{ℕ, _+_, _-_}
 use Rattle.definition.specs.Bytes.{part}
 use Rattle.definition.specs.Utf8.{isUtf8}
-use Rattle.tables.specs.Rights.{part-past, part-inside}
-use Rattle.tables.specs.Keys.{part-tested}
+use Rattle.table_laws.specs.Rights.{part-past, part-inside}
+use Rattle.table_laws.specs.Keys.{part-tested}
 use Rattle.text.proofs.States.{utf8-plain-part}
 use borrow.Author.Needs.{needs}
 use Rattle.table.proofs.rules.good_part.Statement.{statement}

@@ -1,7 +1,7 @@
 -- Each return is one way in which a head is wrong, or right. Assumes nothing.
 use native.Mathlib.Omega.{arith}
 use mathlib.Core.Path.{sym, _∙_}
-use Rattle.tables.specs.Rights.{head-kind, head-depth, head-low, head-all}
+use Rattle.table_laws.specs.Rights.{head-kind, head-depth, head-low, head-all}
 use borrow.Author.Needs.{needs}
 use Rattle.table.proofs.rules.head_right.Statement.{statement}
 use Rattle.table.proofs.rules.head_right.Tie as tie

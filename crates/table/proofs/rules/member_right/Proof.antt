@@ -4,7 +4,7 @@ use mathlib.Core.Path.{sym, _∙_, ap, ap₂}
 use Prim.Native.Nat.{ℕ, _-_}
 use borrow.Author.Tests.{not-true, not-false}
 use Rattle.definition.specs.Tables.{goodPart, keyDiffers, keyStart, keyLength}
-use Rattle.tables.specs.Rights.{good-inside, member-bad, member-good}
+use Rattle.table_laws.specs.Rights.{good-inside, member-bad, member-good}
 use Rattle.table.proofs.Cursor.{found-count}
 use Rattle.table.proofs.Inside.{more-keys}
 use Rattle.table.proofs.Kept.{kept-plain, kept-chained, roomy-same}

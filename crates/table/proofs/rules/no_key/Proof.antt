@@ -4,7 +4,7 @@ use mathlib.Core.Path.{sym, _∙_}
 use mathlib.Core.Path.{ap}
 use lib.Dec.{eqb}
 use Prim.Native.Nat.{ℕ}
-use Rattle.tables.specs.Rights.{key-start, key-length}
+use Rattle.table_laws.specs.Rights.{key-start, key-length}
 use borrow.Author.Needs.{needs}
 use Rattle.table.proofs.rules.no_key.Statement.{statement}
 use Rattle.table.proofs.rules.no_key.Tie as tie

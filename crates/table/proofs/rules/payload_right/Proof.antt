@@ -4,7 +4,7 @@ use mathlib.Core.Path.{sym, _∙_, ap, ap₂}
 use Prim.Native.Nat.{ℕ}
 use lib.Dec.{eqb}
 use Rattle.definition.specs.Tables.{isFinite, goodPart}
-use Rattle.tables.specs.Rights.{payload-plain, payload-integer, payload-float, payload-text, payload-list, payload-many, payload-few}
+use Rattle.table_laws.specs.Rights.{payload-plain, payload-integer, payload-float, payload-text, payload-list, payload-many, payload-few}
 use borrow.Author.Needs.{needs}
 use Rattle.table.proofs.rules.payload_right.Statement.{statement}
 use Rattle.table.proofs.rules.payload_right.Tie as tie

@@ -1,7 +1,7 @@
 -- The parent's number, the depth, and then the rule that the kind of the parent asks. Assumes nothing.
 use native.Mathlib.Omega.{arith}
 use mathlib.Core.Path.{sym, _∙_}
-use Rattle.tables.specs.Rights.{place-parent, place-depth, place-member, place-plain}
+use Rattle.table_laws.specs.Rights.{place-parent, place-depth, place-member, place-plain}
 use Rattle.table.proofs.Kept.{kept-plain}
 use borrow.Author.Needs.{needs}
 use Rattle.table.proofs.rules.place_right.Statement.{statement}

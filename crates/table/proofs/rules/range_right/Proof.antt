@@ -4,7 +4,7 @@ use mathlib.Core.Path.{sym, _∙_, ap, ap₂}
 use Prim.Native.Nat.{ℕ, _+_}
 use lib.Dec.{eqb, leb}
 use Rattle.definition.specs.Tables.{nodeCount}
-use Rattle.tables.specs.Rights.{range-empty, range-unlike, range-like}
+use Rattle.table_laws.specs.Rights.{range-empty, range-unlike, range-like}
 use borrow.Author.Needs.{needs}
 use Rattle.table.proofs.rules.range_right.Statement.{statement}
 use Rattle.table.proofs.rules.range_right.Tie as tie

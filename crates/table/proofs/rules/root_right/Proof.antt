@@ -2,8 +2,8 @@
 use native.Mathlib.Omega.{arith}
 use borrow.Author.Tests.{not-true, not-false}
 use mathlib.Core.Path.{sym, _∙_}
-use Rattle.tables.specs.Counts.{counts-root}
-use Rattle.tables.specs.Rights.{wrong-head, wrong-payload, wrong-place, right-by-place, root-number, root-depth, root-key}
+use Rattle.table_laws.specs.Counts.{counts-root}
+use Rattle.table_laws.specs.Rights.{wrong-head, wrong-payload, wrong-place, right-by-place, root-number, root-depth, root-key}
 use borrow.Author.Needs.{needs}
 use Rattle.table.proofs.rules.root_right.Statement.{statement}
 use Rattle.table.proofs.rules.root_right.Tie as tie

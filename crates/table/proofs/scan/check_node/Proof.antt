@@ -4,7 +4,7 @@ use borrow.Author.Tests.{not-true, not-false, lt-ltb}
 use mathlib.Core.Path.{sym, ap, _∙_}
 use Prim.Native.Nat.{_+_, _<_}
 use lib.Dec.{ltb}
-use Rattle.tables.specs.Rights.{wrong-head, wrong-payload, wrong-place, all-right, stands-alone, stands-under}
+use Rattle.table_laws.specs.Rights.{wrong-head, wrong-payload, wrong-place, all-right, stands-alone, stands-under}
 use Rattle.table.proofs.Cursor.{found-range, found-child, found-members}
 use Rattle.table.proofs.Kept.{kept-moved, before-next, before-surely}
 use borrow.Author.Needs.{needs}

@@ -6,10 +6,10 @@ use mathlib.Core.Option.{Option}
 use Prim.Native.Nat.{ℕ, _-_, _+_}
 use lib.ListN.{length}
 use Rattle.definition.specs.Tables.{nodeCount, firstChild}
-use Rattle.tables.specs.Joined.{byLeast}
+use Rattle.table_laws.specs.Joined.{byLeast}
 use Rattle.definition.specs.TableOutcomes.{reportTable}
-use Rattle.tables.specs.Least.{RightBelow, least-wrong, least-none}
-use Rattle.tables.specs.Rights.{first-inside}
+use Rattle.table_laws.specs.Least.{RightBelow, least-wrong, least-none}
+use Rattle.table_laws.specs.Rights.{first-inside}
 use Rattle.table.specs.Words.{Before, NodeFound}
 use Rattle.table.specs.Outcomes.{reported}
 use Rattle.table.proofs.Cursor.{next-first, right-next}

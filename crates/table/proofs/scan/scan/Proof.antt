@@ -5,9 +5,9 @@ use mathlib.Core.Path.{refl, sym, _∙_, ap}
 use Prim.Native.Nat.{ℕ}
 use mathlib.Core.Option.{Option}
 use Rattle.definition.specs.Tables.{nodeCount}
-use Rattle.tables.specs.Joined.{byLeast}
+use Rattle.table_laws.specs.Joined.{byLeast}
 use Rattle.definition.specs.TableOutcomes.{reportTable}
-use Rattle.tables.specs.Least.{least-wrong}
+use Rattle.table_laws.specs.Least.{least-wrong}
 use Rattle.table.specs.Outcomes.{reported}
 use Rattle.table.proofs.Cursor.{root-first, root-cursor, root-below}
 use borrow.Author.Needs.{needs}

@@ -3,7 +3,7 @@ use native.Mathlib.Omega.{arith}
 use borrow.Author.Tests.{ltb-true, ltb-false}
 use mathlib.Core.Bool.{false≢true}
 use Prim.Native.Nat.{_+_}
-use Rattle.tables.specs.Records.{written-range, range-written}
+use Rattle.table_laws.specs.Records.{written-range, range-written}
 use borrow.Author.Needs.{needs}
 use Rattle.table.proofs.structure.is_child.Statement.{statement}
 use Rattle.table.proofs.structure.is_child.Tie as tie

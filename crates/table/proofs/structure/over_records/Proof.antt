@@ -4,9 +4,9 @@ use borrow.Author.Tests.{not-true, not-false}
 use mathlib.Core.Path.{_≡_, sym, _∙_}
 use Prim.Native.Nat.{_-_, _≤_}
 use Rattle.definition.specs.Tables.{nodeCount, firstChild, recordRight}
-use Rattle.tables.specs.Counts.{counts-root}
-use Rattle.tables.specs.Failing.{least-found, none-fails}
-use Rattle.tables.specs.Records.{RecordsBelow}
+use Rattle.table_laws.specs.Counts.{counts-root}
+use Rattle.table_laws.specs.Failing.{least-found, none-fails}
+use Rattle.table_laws.specs.Records.{RecordsBelow}
 use Rattle.table.specs.Outcomes.{found}
 use Rattle.table.proofs.Checks.{record-next}
 use borrow.Author.Needs.{needs}

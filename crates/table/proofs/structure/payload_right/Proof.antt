@@ -4,7 +4,7 @@ use mathlib.Core.Path.{sym, _∙_, ap}
 use Prim.Native.Nat.{ℕ}
 use lib.Dec.{eqb}
 use Rattle.definition.specs.Tables.{isFinite}
-use Rattle.tables.specs.Records.{record-plain, record-float, record-free, record-list, record-many, record-few}
+use Rattle.table_laws.specs.Records.{record-plain, record-float, record-free, record-list, record-many, record-few}
 use borrow.Author.Needs.{needs}
 use Rattle.table.proofs.structure.payload_right.Statement.{statement}
 use Rattle.table.proofs.structure.payload_right.Tie as tie

@@ -3,8 +3,8 @@ use native.Mathlib.Omega.{arith}
 use borrow.Author.Tests.{not-true, not-false}
 use mathlib.Core.Path.{sym, _∙_, subst}
 use Prim.Native.Nat.{ℕ}
-use Rattle.tables.specs.Parents.{InRange}
-use Rattle.tables.specs.Records.{placed-depth, placed-member, placed-plain, stands-under, stands-unlike}
+use Rattle.table_laws.specs.Parents.{InRange}
+use Rattle.table_laws.specs.Records.{placed-depth, placed-member, placed-plain, stands-under, stands-unlike}
 use borrow.Author.Needs.{needs}
 use Rattle.table.proofs.structure.place_right.Statement.{statement}
 use Rattle.table.proofs.structure.place_right.Tie as tie

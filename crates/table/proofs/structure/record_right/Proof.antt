@@ -2,7 +2,7 @@
 use borrow.Author.Tests.{not-true, not-false}
 use mathlib.Core.Path.{sym, _∙_, ap}
 use Rattle.definition.specs.Tables.{standsRecord}
-use Rattle.tables.specs.Records.{wrong-head, wrong-payload, record-by-place}
+use Rattle.table_laws.specs.Records.{wrong-head, wrong-payload, record-by-place}
 use borrow.Author.Needs.{needs}
 use Rattle.table.proofs.structure.record_right.Statement.{statement}
 use Rattle.table.proofs.structure.record_right.Tie as tie

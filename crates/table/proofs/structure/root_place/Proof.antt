@@ -1,7 +1,7 @@
 -- The root is wrong by its parent, by its depth or by its key. Assumes nothing.
 use native.Mathlib.Omega.{arith}
 use mathlib.Core.Path.{sym, _∙_}
-use Rattle.tables.specs.Records.{stands-number, stands-depth, stands-key}
+use Rattle.table_laws.specs.Records.{stands-number, stands-depth, stands-key}
 use borrow.Author.Needs.{needs}
 use Rattle.table.proofs.structure.root_place.Statement.{statement}
 use Rattle.table.proofs.structure.root_place.Tie as tie

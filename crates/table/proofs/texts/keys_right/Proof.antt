@@ -4,7 +4,7 @@ use borrow.Author.Tests.{not-true, not-false}
 use mathlib.Core.Path.{sym, _∙_, ap₂}
 use mathlib.Core.Bool.{false≢true}
 use Rattle.definition.specs.Tables.{goodPart}
-use Rattle.tables.specs.Starts.{keys-none, keys-bad, keys-compared}
+use Rattle.table_laws.specs.Starts.{keys-none, keys-bad, keys-compared}
 use Rattle.table.proofs.Checks.{keys-up-to}
 use borrow.Author.Needs.{needs}
 use Rattle.table.proofs.texts.keys_right.Statement.{statement}

@@ -2,7 +2,7 @@
 use native.Mathlib.Omega.{arith}
 use mathlib.Core.Path.{_≡_, ap, _∙_}
 use Prim.Native.Nat.{_-_, _≤_}
-use Rattle.tables.specs.Starts.{leastStart}
+use Rattle.table_laws.specs.Starts.{leastStart}
 use Rattle.table.proofs.Checks.{start-none}
 use borrow.Author.Needs.{needs}
 use Rattle.table.proofs.texts.least_start.Statement.{statement}

@@ -1,7 +1,7 @@
 -- A node that is no map, a later start, a range that ends before the node, and an earlier start. Assumes nothing.
 use native.Mathlib.Omega.{arith}
 use mathlib.Core.Path.{sym, _∙_}
-use Rattle.tables.specs.Starts.{start-other, start-later, start-past, start-earlier, start-near}
+use Rattle.table_laws.specs.Starts.{start-other, start-later, start-past, start-earlier, start-near}
 use Rattle.table.proofs.Checks.{start-next}
 use borrow.Author.Needs.{needs}
 use Rattle.table.proofs.texts.lesser_start.Statement.{statement}

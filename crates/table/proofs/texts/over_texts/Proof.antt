@@ -6,7 +6,7 @@ use mathlib.Core.Option.{Option}
 use Prim.Native.Nat.{ℕ, _-_}
 use Rattle.definition.specs.Tables.{nodeCount, textRight, byText}
 use Rattle.definition.specs.TableOutcomes.{reportTable}
-use Rattle.tables.specs.Failing.{below-more, least-found, none-fails}
+use Rattle.table_laws.specs.Failing.{below-more, least-found, none-fails}
 use Rattle.table.specs.Outcomes.{reported}
 use Rattle.table.specs.Words.{TextsBelow}
 use borrow.Author.Needs.{needs}

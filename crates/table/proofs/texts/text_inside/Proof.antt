@@ -3,7 +3,7 @@ use native.Mathlib.Omega.{arith}
 use mathlib.Core.Path.{sym, _∙_, ap₂}
 use mathlib.Core.Bool.{false≢true}
 use Rattle.definition.specs.Tables.{goodPart}
-use Rattle.tables.specs.Starts.{inside-none, inside-text}
+use Rattle.table_laws.specs.Starts.{inside-none, inside-text}
 use borrow.Author.Needs.{needs}
 use Rattle.table.proofs.texts.text_inside.Statement.{statement}
 use Rattle.table.proofs.texts.text_inside.Tie as tie

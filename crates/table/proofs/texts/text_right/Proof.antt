@@ -1,7 +1,7 @@
 -- The text, and then the key. Assumes nothing.
 use borrow.Author.Tests.{not-true, not-false}
 use mathlib.Core.Path.{sym, _∙_}
-use Rattle.tables.specs.Starts.{text-wrong, text-by-keys}
+use Rattle.table_laws.specs.Starts.{text-wrong, text-by-keys}
 use borrow.Author.Needs.{needs}
 use Rattle.table.proofs.texts.text_right.Statement.{statement}
 use Rattle.table.proofs.texts.text_right.Tie as tie

@@ -4,7 +4,7 @@ use Rattle.text.proofs.encoding.after_first.Tie as tie
 use native.Mathlib.Omega.{arith}
 use mathlib.Core.Path.{sym, ap}
 use Rattle.definition.specs.Utf8.{afterFirst}
-use Rattle.utf8.specs.Bytes.{after-one, after-low, after-two, after-high}
+use Rattle.utf8_laws.specs.Bytes.{after-one, after-low, after-two, after-high}
 use Rattle.text.proofs.States.{after-three-plain, after-four-plain}
 
 returns : tie.Need-returns

@@ -1,7 +1,7 @@
 -- `text::encoding::continues` meets its contract. Assumes nothing.
 use native.Mathlib.Omega.{arith}
 use Prim.Native.Nat.{_≤_}
-use Rattle.utf8.specs.Scalars.{continuing, continues-inside, begins-below, begins-above}
+use Rattle.utf8_laws.specs.Scalars.{continuing, continues-inside, begins-below, begins-above}
 use Rattle.text.proofs.encoding.continues.Statement.{statement}
 use Rattle.text.proofs.encoding.continues.Tie as tie
 

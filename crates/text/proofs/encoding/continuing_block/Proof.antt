@@ -4,7 +4,7 @@ use native.Mathlib.Omega.{arith}
 use mathlib.Core.Path.{_≡_, ap, _∙_}
 use Prim.Native.Nat.{ℕ, _*_, _-_, _≤_}
 use Rattle.definition.specs.Bytes.{part}
-use Rattle.utf8.specs.Scalars.{continuing}
+use Rattle.utf8_laws.specs.Scalars.{continuing}
 use Rattle.text.specs.Continuing.{Continuing}
 use Rattle.text.proofs.Continuing.{none-so-far, one-more, block-sum}
 use Rattle.text.proofs.encoding.continuing_block.Statement.{statement}

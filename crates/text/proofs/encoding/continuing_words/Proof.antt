@@ -4,8 +4,8 @@ use native.Mathlib.Omega.{arith}
 use mathlib.Core.Path.{_≡_, refl, ap, sym, _∙_}
 use Prim.Native.Nat.{ℕ, _+_, _*_, _≤_}
 use Rattle.definition.specs.Bytes.{part}
-use Rattle.utf8.specs.Scalars.{continuing, continuing-few}
-use Rattle.text.proofs.Numbers.{length-part}
+use Rattle.definition_bytes.specs.Same.{part-length}
+use Rattle.utf8_laws.specs.Scalars.{continuing, continuing-few}
 use Rattle.text.proofs.Continuing.{words-more}
 use Rattle.text.proofs.encoding.continuing_words.Statement.{statement}
 use Rattle.text.proofs.encoding.continuing_words.Tie as tie
@@ -41,7 +41,7 @@ add-count : tie.Need-add-count Inv-loop μ-loop
 add-count c =
     let a = c .before .before .before .before .args in
     let l = c .before .before .loop in
-    omega (arith, next c, continuing-few (part (a .s .now) (a .at) (8 * (l .i + 31))), length-part (a .s .now) (a .at) (8 * (l .i + 31)) (omega arith))
+    omega (arith, next c, continuing-few (part (a .s .now) (a .at) (8 * (l .i + 31))), part-length (a .s .now) (a .at) (8 * (l .i + 31)) (omega arith))
 
 add-i : tie.Need-add-i Inv-loop μ-loop
 add-i c = omega arith
@@ -72,7 +72,7 @@ last c =
 add-result : tie.Need-add-result Inv-loop μ-loop
 add-result c =
     let a = c .before .before .before .before .args in
-    omega (arith, last c, continuing-few (part (a .s .now) (a .at) (8 * a .words)), length-part (a .s .now) (a .at) (8 * a .words) (omega arith))
+    omega (arith, last c, continuing-few (part (a .s .now) (a .at) (8 * a .words)), part-length (a .s .now) (a .at) (8 * a .words) (omega arith))
 
 returns : tie.Need-returns Inv-loop μ-loop
 returns c = last c

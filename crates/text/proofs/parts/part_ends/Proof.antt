@@ -1,7 +1,7 @@
 -- `text::parts::part_ends` meets its contract. Assumes nothing.
 use mathlib.Core.Path.{ap, _∙_}
 use lib.ListN.{length}
-use Rattle.text.proofs.Numbers.{part-lent, length-part}
+use Rattle.text.proofs.Numbers.{part-lent}
 use Rattle.text.proofs.Same.{ends-as}
 use borrow.Author.Needs.{needs}
 use Rattle.text.proofs.parts.part_ends.Statement.{statement}
@@ -9,6 +9,7 @@ use Rattle.text.proofs.parts.part_ends.Tie as tie
 use Rattle.text.proofs.parts.part_ends.Reads as reads
 use Rattle.text.proofs.parts.part_ends.Lts as lts
 use Rattle.text.proofs.parts.ends_of.Reads as ends-of-reads
+use Rattle.definition_bytes.specs.Same.{part-length}
 
 add-ends-of : tie.Need-add-ends-of
 add-ends-of c = search needs
@@ -30,7 +31,7 @@ returns c =
     let a = c .before .before .before .args in
     let h = c .before .before .before .pre .0 in
     let e = part-lent (a .s .now) (a .a) (a .n) in
-    ends-as (ap length e ∙ length-part (a .s .now) (a .a) (a .n) h) e (c .ends-of .ensures)
+    ends-as (ap length e ∙ part-length (a .s .now) (a .a) (a .n) h) e (c .ends-of .ensures)
 
 pub part-ends-spec : {M : Type 1} → statement M
 part-ends-spec =

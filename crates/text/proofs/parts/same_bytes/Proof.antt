@@ -3,12 +3,12 @@ use borrow.Author.Needs.{needs}
 use Rattle.text.proofs.parts.same_bytes.Statement.{statement}
 use Rattle.text.proofs.parts.same_bytes.Tie as tie
 use mathlib.Core.Path.{sym}
-use Rattle.text.proofs.Same.{same-lengths}
+use Rattle.definition_bytes.specs.Same.{unlike-length}
 
 returns : tie.Need-returns
 returns c =
     let a = c .before .before .before .args in
-    sym (same-lengths (a .a .now) (a .b .now) (c .if1 .taken))
+    sym (unlike-length (a .a .now) (a .b .now) (c .if1 .taken))
 
 same-each-requires : tie.Need-same-each-requires
 same-each-requires c κs = search needs

@@ -1,0 +1,11 @@
+pub mod Fits
+pub mod Gives
+pub mod Bracket
+pub mod Leaves
+pub mod Passes
+pub mod Shallow
+pub mod Nested
+pub mod Literal
+pub mod Rights
+pub mod Right
+pub mod Keeps

@@ -1,0 +1,20 @@
+-- `only_value` meets its contract. Assumes nothing.
+use native.Mathlib.Omega.{arith}
+use Rattle.eval_filters.specs.Values.{only-one, only-null}
+use Rattle.eval_filters.proofs.values.only_value.Statement.{statement}
+use Rattle.eval_filters.proofs.values.only_value.Tie as tie
+use Rattle.eval_filters.proofs.values.only_value.Reads as reads
+use Rattle.eval_filters.proofs.values.only_value.Lts as lts
+use Rattle.eval_values.proofs.operands.get_value.Reads as get-value-reads
+
+get-value-requires : tie.Need-get-value-requires
+get-value-requires c κs = (c .before .before .before .pre .tab, c .before .before .before .pre .inside (omega arith))
+
+returns : tie.Need-returns
+returns c = only-one _ _ _ _ (c .before .if1 .taken) _ (c .get-value .ensures)
+
+returns-2 : tie.Need-returns-2
+returns-2 c = only-null _ _ _ _ (c .if1 .left)
+
+pub only-value-spec : {M : Type 1} → statement M
+only-value-spec = tie.close (tie.spec get-value-requires returns returns-2)

@@ -1,0 +1,111 @@
+use mathlib.Core.Path.{_∙_}
+use Rattle.definition.specs.Tables.{payload}
+use Rattle.number_integers.specs.Signs.{back}
+use Rattle.eval_values.specs.Floats.{bits-number}
+use Rattle.eval_values.specs.Values.{of-null, of-false, of-true, of-integer, of-float, of-text}
+use native.Mathlib.Omega.{arith}
+use borrow.Author.Needs.{needs}
+use Rattle.eval_values.proofs.operands.get_value.Statement.{statement}
+use Rattle.eval_values.proofs.operands.get_value.Tie as tie
+use Rattle.eval_values.proofs.operands.get_value.Reads as reads
+use Rattle.eval_values.proofs.operands.get_value.Lts as lts
+use Rattle.table.proofs.records.high_word.Reads as high-word-reads
+use Rattle.table.proofs.records.kind.Reads as kind-reads
+use Rattle.table.proofs.records.low_word.Reads as low-word-reads
+use Rattle.text.proofs.bytes.float64.Reads as float64-reads
+use Rattle.text.proofs.bytes.int64.Reads as int64-reads
+
+-- src/operands.rt:32:9
+kind-requires : tie.Need-kind-requires
+kind-requires c κs = search needs
+
+-- src/operands.rt:34:9
+returns : tie.Need-returns
+returns c = of-null _ _ (c .before .before .before .before .pre .0) _ (c .before .before .before .before .pre .1) (omega arith)
+
+-- src/operands.rt:37:9
+returns-2 : tie.Need-returns-2
+returns-2 c = of-false _ _ (c .before .before .before .before .before .pre .0) _ (c .before .before .before .before .before .pre .1) (omega arith)
+
+-- src/operands.rt:40:9
+returns-3 : tie.Need-returns-3
+returns-3 c = of-true _ _ (c .before .before .before .before .before .before .pre .0) _ (c .before .before .before .before .before .before .pre .1) (omega arith)
+
+-- src/operands.rt:43:49
+mul-int64 : tie.Need-mul-int64
+mul-int64 c = search needs
+
+-- src/operands.rt:43:49
+add-int64 : tie.Need-add-int64
+add-int64 c = search needs
+
+-- src/operands.rt:43:29
+int64-requires : tie.Need-int64-requires
+int64-requires c κs = search needs
+
+-- src/operands.rt:43:9
+returns-4 : tie.Need-returns-4
+returns-4 c = of-integer _ _ (c .before .before .before .before .before .before .before .before .pre .0) _ (c .before .before .before .before .before .before .before .before .pre .1) (omega arith) _ (back (c .int64 .result) (c .int64 .ok) ∙ c .int64 .ensures)
+
+-- src/operands.rt:46:53
+mul-float64 : tie.Need-mul-float64
+mul-float64 c = search needs
+
+-- src/operands.rt:46:53
+add-float64 : tie.Need-add-float64
+add-float64 c = search needs
+
+-- src/operands.rt:46:31
+float64-requires : tie.Need-float64-requires
+float64-requires c κs = (omega arith, bits-number (payload (c .before .before .before .before .before .before .before .before .args .table .now) (c .before .before .before .before .before .before .before .before .args .node)) (c .before .before .before .before .before .before .before .before .pre .0 .floats (c .before .before .before .before .before .before .before .before .args .node) (c .before .before .before .before .before .before .before .before .pre .1) (omega arith)))
+
+-- src/operands.rt:46:9
+returns-5 : tie.Need-returns-5
+returns-5 c = of-float _ _ (c .before .before .before .before .before .before .before .before .before .pre .0) _ (c .before .before .before .before .before .before .before .before .before .pre .1) (omega arith) _ (c .float64 .ensures)
+
+-- src/operands.rt:49:21
+low-word-requires : tie.Need-low-word-requires
+low-word-requires c κs = search needs
+
+-- src/operands.rt:49:21
+cast-start : tie.Need-cast-start
+cast-start c = search needs
+
+-- src/operands.rt:50:20
+high-word-requires : tie.Need-high-word-requires
+high-word-requires c κs = search needs
+
+-- src/operands.rt:50:20
+cast-size : tie.Need-cast-size
+cast-size c = search needs
+
+-- src/operands.rt:51:9
+returns-6 : tie.Need-returns-6
+returns-6 c = of-text _ _ (c .before .before .before .before .before .before .before .before .before .before .before .pre .0) _ (c .before .before .before .before .before .before .before .before .before .before .before .pre .1) (omega arith) _ _ (c .before .low-word .ensures) (c .high-word .ensures)
+
+-- src/operands.rt:28:1
+returns-7 : tie.Need-returns-7
+returns-7 c = search needs
+
+pub get-value-spec : {M : Type 1} → statement M
+get-value-spec =
+    tie.close
+    (tie.spec
+    kind-requires
+    returns
+    returns-2
+    returns-3
+    mul-int64
+    add-int64
+    int64-requires
+    returns-4
+    mul-float64
+    add-float64
+    float64-requires
+    returns-5
+    low-word-requires
+    cast-start
+    high-word-requires
+    cast-size
+    returns-6
+    returns-7)

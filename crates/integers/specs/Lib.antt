@@ -1,3 +1,0 @@
-pub mod Signed
-pub mod Compare
-pub mod Tests

@@ -1,4 +1,0 @@
-pub mod Follow
-pub mod Numbers
-pub mod Leaves
-pub mod Pieces

@@ -1,0 +1,4 @@
+pub mod Signed
+pub mod Compare
+pub mod Tests
+pub mod Signs

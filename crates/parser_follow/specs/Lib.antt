@@ -1,0 +1,5 @@
+pub mod Follow
+pub mod Numbers
+pub mod Leaves
+pub mod Pieces
+pub mod Blanks

@@ -1,0 +1,26 @@
+-- A number in range as the machine holds it, and the bits of a slice's flags. Assumes nothing.
+use mathlib.Core.Path.{_≡_, refl, sym, ap, subst, _∙_}
+use mathlib.Core.Bool.{Bool, true, false, true≢false}
+use Prim.Native.Nat.{ℕ, suc, _+_, _-_, _^_, _≤_, _<_}
+use native.Mathlib.Omega.{arith}
+use borrow.Author.Tests.{ltb-true, leb-true}
+use lib.Dec.{T, ltb}
+use lib.IntN.{ℤ, pos, negsuc, natAbs}
+use lib.Signed.{ltZ, nonNeg}
+use mir.Syntax.{w64}
+use mir.Val.{Fits, SFits, toZ, ofZ}
+use mir.ValLaws.{toZ-pos, toZ-ofZ}
+use Rattle.definition.specs.Bytes.{unsigned64}
+use Rattle.definition.specs.Limits.{maxInt}
+use Rattle.definition.specs.Literals.{inRange}
+use Rattle.parser_items.specs.Ranges.{bitOf}
+
+-- a number in range is what its bits say
+pub range-bits : (v : ℤ) → inRange v ≡ true → toZ w64 (ofZ w64 v) ≡ v
+range-bits (pos k) e = toZ-ofZ w64 (pos k) (record { sfits = omega (arith, leb-true k maxInt e) })
+range-bits (negsuc k) e = toZ-ofZ w64 (negsuc k) (record { sfits = omega (arith, leb-true (suc k) maxInt e) })
+
+-- a bit is no more than its weight
+pub bit-small : (b : Bool) (n : ℕ) → bitOf b n ≤ n
+bit-small true n = omega arith
+bit-small false n = omega arith

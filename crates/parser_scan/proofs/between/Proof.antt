@@ -1,0 +1,14 @@
+-- `parser_scan::between` meets its contract.
+-- Assumes nothing.
+use borrow.Author.Tests.{le-leb, lt-leb}
+use Rattle.parser_scan.proofs.between.Statement.{statement}
+use Rattle.parser_scan.proofs.between.Tie as tie
+
+returns : tie.Need-returns
+returns c = rw (le-leb (c .before .args .lo) (c .before .args .c) (c .if1 .taken))
+
+returns-2 : tie.Need-returns-2
+returns-2 c = rw (lt-leb (c .before .args .lo) (c .before .args .c) (c .if1 .left))
+
+pub between-spec : {M : Type 1} → statement M
+between-spec = tie.close (tie.spec returns returns-2)
