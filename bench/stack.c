@@ -17,8 +17,8 @@
 
 #define DEPTH 63
 #define WILD 62
-static uint8_t table[(DEPTH + 1) * 24], text[1024], plan[65535], pool[65535], query[4096];
-static size_t plan_length, pool_length, query_length, text_length;
+static uint8_t table[(DEPTH + 2) * 24], text[1024], plan[65535], pool[65535], query[4096];
+static size_t plan_length, pool_length, query_length, text_length, table_length = (DEPTH + 1) * 24;
 static uint32_t list[16];
 
 // A list in a list, 63 times, and the number 1 inside.
@@ -50,17 +50,18 @@ static void make_expression(const char *begins, const char *middle, const char *
     memcpy(table + DEPTH * 24 + 16, words, 8);
 }
 
-// What stands at the bottom of a plan: a filter that searches the first text of the pool for the second.
+// What stands at the bottom of a plan: a filter that searches the first text of the pool, 1,024 times `a`, for the second. It must be found: a walk that finds nothing
+// goes on to the end of all ways.
 static int searching;
 static uint8_t *bottom(uint8_t *p) {
-    uint16_t start = 6, length = (uint16_t)text_length;
-    memcpy(p, "\3\1\0\11\13\0\22\0\0\6\0\22", 12);
+    uint16_t start = 1024, length = (uint16_t)text_length;
+    memcpy(p, "\3\1\0\11\13\0\22\0\0\0\4\22", 12);
     memcpy(p + 12, &start, 2);
     memcpy(p + 14, &length, 2);
     p[16] = 0x1D;
-    memcpy(pool, "aaaaaa", 6);
-    memcpy(pool + 6, text, text_length);
-    pool_length = 6 + text_length;
+    memset(pool, 'a', start);
+    memcpy(pool + start, text, text_length);
+    pool_length = start + text_length;
     return p + 17;
 }
 
@@ -86,17 +87,18 @@ static void make_plan(int n, const char *segment, size_t size) {
     plan_length = (size_t)(code(plan, n, (const uint8_t *)segment, size, WILD) - plan);
 }
 
-// `$` and 31 times a segment's text so often and a filter that begins as told, then the last of them and the brackets that are open.
+// `$` and 31 times, or as often as told, a segment's text so often and a filter that begins as told, then the last of them and the brackets that are open.
+static int levels = 31;
 static void make_query(const char *segment, int often, const char *opens, const char *last) {
     char *p = (char *)query;
     *p++ = '$';
-    for (int i = 0; i < 31; i++) {
+    for (int i = 0; i < levels; i++) {
         for (int j = 0; j < often; j++) p = stpcpy(p, segment);
         p = stpcpy(p, opens);
     }
     for (int j = 0; j < often; j++) p = stpcpy(p, segment);
     p = stpcpy(p, last);
-    for (int i = 0; i < 31; i++) *p++ = ']';
+    for (int i = 0; i < levels; i++) *p++ = ']';
     query_length = (size_t)(p - (char *)query);
 }
 
@@ -106,7 +108,7 @@ static void *work(void *unused) {
     (void)unused;
     uint64_t a = 0, b = 0;
     if (selecting) {
-        answer = stewpebble_select(query, query_length, table, sizeof table, text, text_length, list, 16, 0, &a, &b);
+        answer = stewpebble_select(query, query_length, table, table_length, text, text_length, list, 16, 0, &a, &b);
         return 0;
     }
     if (compiling) {
@@ -114,7 +116,7 @@ static void *work(void *unused) {
         if (answer) return 0;
         plan_length = a, pool_length = b;
     }
-    answer = stewpebble_run(plan, plan_length, pool, pool_length, table, sizeof table, text, text_length, list, 16, 0, &a, &b);
+    answer = stewpebble_run(plan, plan_length, pool, pool_length, table, table_length, text, text_length, list, 16, 0, &a, &b);
     return 0;
 }
 
@@ -168,12 +170,34 @@ static void measure_query(const char *name, const char *segment, int often, cons
 // An expression, as a text of the table, at the bottom of the deepest query, and at that of the deepest plan.
 static void measure_expression(const char *name, const char *begins, const char *middle, const char *ends, int often, const char *test) {
     printf("%s, %d times\n", name, often);
+    levels = 30; // the call has a bracket of its own
     make_expression(begins, middle, ends, often);
     measure_query("..[?@>''", "", 0, "..[?@>''&&$", test);
     searching = 1;
     measure_plan("..[?@,?@]", 67, "\4\2\0\11\3\0\2\12\30\11\3\0\2\12\30", 15);
     measure_plan("..[*,*]", 126, "\4\2\0\10\10", 5);
     searching = 0;
+}
+
+// 1,023 alternatives as a second element of the root, at the bottom of a query that takes the most stack by itself.
+static void measure_beside(void) {
+    make_expression("|", "a", "", 1023);
+    memmove(table + 3 * 24, table + 2 * 24, (DEPTH - 1) * 24);
+    memcpy(table + 2 * 24, table + (DEPTH + 1) * 24, 24);
+    for (uint32_t i = 1; i <= DEPTH + 1; i++) {
+        if (i == 2) continue;
+        uint32_t words[3] = {i == 3 ? 1 : i == 1 ? 0 : i - 1, i <= DEPTH ? (i == 1 ? 3 : i + 1) : 1, i <= DEPTH};
+        table[i * 24] = i <= DEPTH ? 6 : 3;
+        memcpy(table + i * 24 + 12, words, 12);
+    }
+    uint32_t two = 2, root[3] = {0, 0, (uint32_t)text_length};
+    memcpy(table + 20, &two, 4);
+    memset(table + 2 * 24, 0, 24);
+    table[2 * 24] = 5, table[2 * 24 + 1] = 1;
+    memcpy(table + 2 * 24 + 12, root, 12);
+    table_length = sizeof table, levels = 29;
+    printf("alternatives beside the lists, at the bottom of the deepest query\n");
+    measure_query("..*", "..*", 39, "[?$", "[?search('a',$[1])]");
 }
 
 int main(void) {
@@ -193,5 +217,6 @@ int main(void) {
     measure_expression("groups behind a character", "(a", "", ")*", 255, "..[?@>''&&search('aaaaaa',@)]");
     measure_expression("groups behind an alternative", "(a|", "", ")", 255, "..[?@>''&&match('aaaaaa',@)]");
     measure_expression("groups with a count", "(", "a", "){2}", 200, "..[?@>''&&match('aaaaaa',@)]");
+    measure_beside();
     return over != 0;
 }

@@ -43,7 +43,7 @@ def rows():
 def answer(text, expression):
     tree = regexps.read(expression.encode())
     if tree is None:
-        return "outside"
+        return "neither"
     whole, part = (regexps.described(tree, text, p) for p in (False, True))
     assert part or not whole
     return "match and search" if whole else "search" if part else "neither"
