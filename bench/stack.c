@@ -3,9 +3,11 @@
 //   queries  32 queries from `$` inside each other: descendants and a comparison in front of each, or 38 descendant wildcards
 //            each compiled and run, and by select
 //   expressions  the same, with match or search at the bottom: expressions of 1,024 bytes that nest groups or repeats, or are long rows or many alternatives
+//   long expressions  stars, or counts, around more copies than marks are kept for, on the longest text; these do not end, and are watched for a second
 // Each try runs in a process of its own, on a thread with a stack of the given size. A run that needs more than the header says is enough fails.
 #define _GNU_SOURCE
 #include <pthread.h>
+#include <signal.h>
 #include <stdint.h>
 #include <stdio.h>
 #include <stdlib.h>
@@ -104,9 +106,15 @@ static void make_query(const char *segment, int often, const char *opens, const 
 
 static uint32_t answer;
 static int compiling, selecting;
+static const uint8_t *long_table, *long_text; // a table of two nodes and its text, in place of the other
+static size_t long_length;
 static void *work(void *unused) {
     (void)unused;
     uint64_t a = 0, b = 0;
+    if (long_table) {
+        answer = stewpebble_select(query, query_length, long_table, 2 * 24, long_text, long_length, list, 16, 0, &a, &b);
+        return 0;
+    }
     if (selecting) {
         answer = stewpebble_select(query, query_length, table, table_length, text, text_length, list, 16, 0, &a, &b);
         return 0;
@@ -120,9 +128,12 @@ static void *work(void *unused) {
     return 0;
 }
 
+static unsigned patience; // after so many seconds a run is taken to have ended, where it is not 0
+
 static int ends_on(size_t size) {
     pid_t child = fork();
     if (child == 0) {
+        alarm(patience);
         pthread_attr_t attr;
         pthread_t thread;
         pthread_attr_init(&attr);
@@ -134,7 +145,7 @@ static int ends_on(size_t size) {
     int status;
     waitpid(child, &status, 0);
     if (WIFEXITED(status) && WEXITSTATUS(status) != 0) { printf("refused or no thread\n"); exit(1); }
-    return WIFEXITED(status);
+    return WIFEXITED(status) || WTERMSIG(status) == SIGALRM;
 }
 
 static int over; // how many runs need more than is promised
@@ -200,6 +211,25 @@ static void measure_beside(void) {
     measure_query("..*", "..*", 39, "[?$", "[?search('a',$[1])]");
 }
 
+// A list of one text, the longest that a table may have, and an expression of 1,024 bytes around `((a{64}){64}){64}`, by select.
+static void measure_long(const char *name, const char *begins, const char *ends, int often) {
+    static uint8_t two[2 * 24] = {[0] = 6, [16] = 1, [20] = 1, [24] = 5, [25] = 1}, as[16777216];
+    uint32_t length = sizeof as;
+    memset(as, 'a', sizeof as);
+    memcpy(two + 24 + 20, &length, 4);
+    char *p = stpcpy((char *)query, "$[?match(@,'");
+    for (int i = 0; i < often; i++) p = stpcpy(p, begins);
+    p = stpcpy(p, "((a{64}){64}){64}");
+    for (int i = 0; i < often; i++) p = stpcpy(p, ends);
+    p = stpcpy(p, "b')]");
+    query_length = (size_t)(p - (char *)query);
+    long_table = two, long_text = as, long_length = sizeof as;
+    selecting = 1, patience = 1;
+    printf("%s, %d times, around more copies than are marked: ", name, often);
+    measure("", STEWPEBBLE_QUERY_STACK + STEWPEBBLE_EXPRESSION_STACK);
+    long_table = 0, patience = 0;
+}
+
 int main(void) {
     make_table();
     measure_plan("[*]", 128, "\3\1\0\10", 4);
@@ -218,5 +248,7 @@ int main(void) {
     measure_expression("groups behind an alternative", "(a|", "", ")", 255, "..[?@>''&&match('aaaaaa',@)]");
     measure_expression("groups with a count", "(", "a", "){2}", 200, "..[?@>''&&match('aaaaaa',@)]");
     measure_beside();
+    measure_long("stars", "(", ")*", 335);
+    measure_long("counts", "(", "){64}", 167);
     return over != 0;
 }

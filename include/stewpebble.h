@@ -8,7 +8,8 @@
 //             STEWPEBBLE_REFUSED_LIST_FULL fills every place of the list from the start position.
 //   threads   The library has no state: any function may be called on any number of threads at once, as long as none writes what another reads.
 //   stack     STEWPEBBLE_QUERY_STACK is enough for every call with a query, or with a plan that was compiled from one, and STEWPEBBLE_PLAN_STACK for every
-//             call with any plan that plan check takes. The deepest calls found take 256 KiB and 1,600 KiB (docs/PERFORMANCE.md, "Stack").
+//             call with any plan that plan check takes, where no expression of match or search has more than 65,535 characters when its counts are written
+//             out. Where one has more, as ((a{64}){64}){64}, STEWPEBBLE_EXPRESSION_STACK is needed besides. docs/PERFORMANCE.md, "Stack", has the deepest found.
 //   time      docs/EMBEDDING.md has what each operation costs, expressions of match and search among them. A run has no limit to its time: where strangers write the queries, run them where they can be ended.
 #ifndef STEWPEBBLE_H
 #define STEWPEBBLE_H
@@ -27,6 +28,7 @@ extern "C" {
 // Bytes of stack that are enough for a call, beside what the caller has taken: tested, not proved.
 #define STEWPEBBLE_QUERY_STACK (512 * 1024)
 #define STEWPEBBLE_PLAN_STACK (2048 * 1024)
+#define STEWPEBBLE_EXPRESSION_STACK (2048 * 1024)
 
 // Limits.
 #define STEWPEBBLE_MAX_QUERY 4096     // bytes of a query
