@@ -21,7 +21,7 @@ use Rattle.regex_definition.specs.Laws.{join-map, join-nil}
 use Rattle.regex_definition.specs.Agree.{told, told-true, bool-told}
 use Rattle.regex_code.specs.Flat.{flat, head, of-empty, of-class, of-then, of-or, of-upto, of-any, of-other, of-nothing, word-of}
 use Rattle.regex_code.specs.Skips.{Skips}
-use Rattle.regex_total.specs.Answers.{Inside, Spells, Matched, Repeated, Paired, Joined}
+use Rattle.regex_total.specs.Answers.{Inside, Spells, Matched, Repeated, Paired, Joined, Enough}
 use Rattle.regex_total.proofs.Count.{halves-join, halves-split, of-once, to-once, of-most-once, any-upto, upto-any, upto-more, row-nil}
 use Rattle.regex_total.proofs.Parts.{append-same, front-spells, spells-nil, nil-spells, spells-chars}
 
@@ -281,23 +281,31 @@ module _ (s t : List ℕ) (from to : ℕ) (i : Inside t from to) where
               (j .of x x r r w e e k)));
         }
 
-    -- more words than lo and one for each character are never needed
-    pub times-fewer :
-        (lo hi : ℕ) → lo + (to - from) ≤ hi → {b : Bool} → Repeated s at lo (lo + (to - from)) t from to b
-        → Repeated s at lo hi t from to b
-    times-fewer lo hi h {b} m =
+    -- more words than are enough are never needed
+    pub times-enough :
+        (lo hi top : ℕ) → Enough lo hi (to - from) top → {b : Bool} → Repeated s at lo top t from to b → Repeated s at lo hi t from to b
+    times-enough lo hi top g {b} m =
         record {
           of =
               λ x r w e k.
               let n = spells-chars t from to i w k in
-              let g : lo + length w ≤ lo + (to - from) = omega arith in
               told
-              (upto-more (Describes x) lo (lo + (to - from)) hi h w)
+              (upto-more (Describes x) lo top hi (g .within) w)
               (λ d.
-              upto-more (Describes x) lo (lo + length w) (lo + (to - from)) g w
+              ⊎-elim
+              (λ j. upto-more (Describes x) lo hi top j w d)
+              (λ j.
+              upto-more (Describes x) lo (lo + length w) top (omega (arith, j)) w
               (any-upto (Describes x) lo w (upto-any (Describes x) lo hi w d)))
+              (g .all))
               (m .of x r w e k);
         }
+
+-- what is matched is repeated once
+pub once :
+    {s t : List ℕ} {at from to : ℕ} {b : Bool} → Matched s at t from to b → Repeated s at 1 1 t from to b
+once m =
+    record { of = λ x r w e k. told (to-once (Describes x) 1 (le-refl _) w) (of-once (Describes x) w) (m .of x r w e k) }
 
 -- PAIR
 module _ (s t : List ℕ) (a l h a' l' h' from mid to : ℕ) where

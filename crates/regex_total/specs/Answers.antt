@@ -41,11 +41,17 @@ pub record Joined (s : List ℕ) (a l h a' l' h' : ℕ) (t : List ℕ) (from to 
       (x y : Regexp) (r r' w : List ℕ) → drop a s ≡ flat x r → drop a' s ≡ flat y r' → Spells t from to w
       → Told (Join (Times l (upto h) (Describes x)) (Times l' (upto h') (Describes y)) w) b
 
--- what a pair of items asks: the first stands no later, and each is at least once allowed
-pub record Items (a l h a' l' h' : ℕ) : Type 0 where
-  pub later : a ≤ a'
+-- what two counts in a row ask: each is at least once allowed
+pub record Some (h h' : ℕ) : Type 0 where
   pub some : 1 ≤ h
   pub some' : 1 ≤ h'
+
+-- of lo to hi words, n are as many as a text of d bytes needs
+pub record Enough (lo hi d n : ℕ) : Type 0 where
+  pub low : lo ≤ n
+  pub within : n ≤ hi
+  pub some : 1 ≤ hi → 1 ≤ d → 1 ≤ n
+  pub all : (hi ≤ n) ⊎ (lo + d ≤ n)
 
 -- how many bytes a text has
 abbrev pub bytes : List ℕ → ℕ

@@ -11,7 +11,7 @@ ghost use mathlib.Core.Path.{_≡_};
 ghost use Prim.Native.Nat.{_+_, _≤_, _<_, _^_, min, max};
 ghost use mathlib.Core.Bool.{true};
 ghost use lib.ListN.{length, getD};
-ghost use Rattle.regex_total.specs.Answers.{noWidth, Inside, Matched, Repeated, Paired, Joined, Items, Widths, Capped, Apart, Reaches};
+ghost use Rattle.regex_total.specs.Answers.{noWidth, Inside, Matched, Repeated, Paired, Joined, Some, Enough, Widths, Capped, Apart, Reaches};
 
 // One character of the class at `at`.
 fn one(code: &[u32], at: usize, text: &[u8], from: usize, to: usize) -> bool
@@ -45,7 +45,7 @@ pub fn matches(code: &[u32], at: usize, text: &[u8], from: usize, to: usize) -> 
     }
     if k == 2 {
         let b = skip(code, at + 1);
-        return cuts(code, at + 1, 1, 1, b, 1, 1, text, from, to);
+        return row(code, at + 1, b, text, from, to);
     }
     if k == 3 {
         if matches(code, at + 1, text, from, to) {
@@ -246,17 +246,22 @@ fn apart(n: usize, lo: usize, hi: usize, least: usize, most: usize) -> bool
     false
 }
 
-// .. by it lo to hi times. A count is halved, so its depth is its number of bits.
+// The most words that lo to hi of them need be, for a text of d bytes: beyond lo no more than one for each byte.
+fn enough(lo: usize, hi: usize, d: usize) -> usize
+    requires { ⌜ lo ≤ hi ⌝ }
+    ensures { λ r. ⌜ Enough lo hi d r ⌝ }
+{
+    if d < hi - lo { lo + d } else { hi }
+}
+
+// .. by it lo to hi times. A count is halved, so its depth is its number of bits. There are few branches before the call of `cuts`,
+// so that LLVM joins it into this function: a halving takes one call on the stack.
 fn times(code: &[u32], at: usize, lo: usize, hi: usize, text: &[u8], from: usize, to: usize) -> bool
     requires { ⌜ Inside (now text) from to ⌝ }
     ensures { λ r. ⌜ Repeated (now (code .entry)) at lo hi (now (text .entry)) from to r ⌝ }
 {
     if hi < lo {
         return false;
-    }
-    let d = to - from;
-    if d < hi - lo {
-        return times(code, at, lo, lo + d, text, from, to);
     }
     if hi == 0 {
         return from == to;
@@ -267,24 +272,25 @@ fn times(code: &[u32], at: usize, lo: usize, hi: usize, text: &[u8], from: usize
         }
         return matches(code, at, text, from, to);
     }
+    let d = to - from;
+    let top = enough(lo, hi, d);
     let w = measure(code, at);
-    if apart(d, lo, hi, w.least, w.most) {
+    if apart(d, lo, top, w.least, w.most) {
         return false;
     }
-    if hi == 1 {
+    if top == 1 {
         return matches(code, at, text, from, to);
     }
     let l = lo / 2;
-    let h = hi / 2;
-    cuts(code, at, l, h, at, lo - l, hi - h, text, from, to)
+    let h = top / 2;
+    cuts(code, at, l, h, lo - l, top - h, text, from, to)
 }
 
 fn pair(
     code: &[u32],
-    a: usize,
+    at: usize,
     l: usize,
     h: usize,
-    b: usize,
     m: usize,
     n: usize,
     text: &[u8],
@@ -292,37 +298,63 @@ fn pair(
     mid: usize,
     to: usize,
 ) -> bool
-    requires { ⌜ Inside (now text) from mid ⌝ ∗ ⌜ Inside (now text) mid to ⌝ ∗ ⌜ Items a l h b m n ⌝ }
-    ensures { λ r. ⌜ Paired (now (code .entry)) a l h b m n (now (text .entry)) from mid to r ⌝ }
+    requires { ⌜ Inside (now text) from mid ⌝ ∗ ⌜ Inside (now text) mid to ⌝ ∗ ⌜ Some h n ⌝ }
+    ensures { λ r. ⌜ Paired (now (code .entry)) at l h at m n (now (text .entry)) from mid to r ⌝ }
 {
-    if times(code, a, l, h, text, from, mid) {
-        return times(code, b, m, n, text, mid, to);
+    if times(code, at, l, h, text, from, mid) {
+        return times(code, at, m, n, text, mid, to);
     }
     false
 }
 
+// .. by it l to h times, and then m to n times.
 fn cuts(
     code: &[u32],
-    a: usize,
+    at: usize,
     l: usize,
     h: usize,
-    b: usize,
     m: usize,
     n: usize,
     text: &[u8],
     from: usize,
     to: usize,
 ) -> bool
-    requires { ⌜ Inside (now text) from to ⌝ ∗ ⌜ Items a l h b m n ⌝ }
-    ensures { λ r. ⌜ Joined (now (code .entry)) a l h b m n (now (text .entry)) from to r ⌝ }
+    requires { ⌜ Inside (now text) from to ⌝ ∗ ⌜ Some h n ⌝ }
+    ensures { λ r. ⌜ Joined (now (code .entry)) at l h at m n (now (text .entry)) from to r ⌝ }
 {
     let mut i = from;
     while i < to {
-        if pair(code, a, l, h, b, m, n, text, from, i, to) {
+        if pair(code, at, l, h, m, n, text, from, i, to) {
             return true;
         }
         let c = char_at(text, i, to);
         i = c.next;
     }
-    pair(code, a, l, h, b, m, n, text, from, to, to)
+    pair(code, at, l, h, m, n, text, from, to, to)
+}
+
+fn both(code: &[u32], a: usize, b: usize, text: &[u8], from: usize, mid: usize, to: usize) -> bool
+    requires { ⌜ Inside (now text) from mid ⌝ ∗ ⌜ Inside (now text) mid to ⌝ ∗ ⌜ a ≤ b ⌝ }
+    ensures { λ r. ⌜ Paired (now (code .entry)) a 1 1 b 1 1 (now (text .entry)) from mid to r ⌝ }
+{
+    if matches(code, a, text, from, mid) {
+        return matches(code, b, text, mid, to);
+    }
+    false
+}
+
+// .. by the code at a, and then by that at b.
+fn row(code: &[u32], a: usize, b: usize, text: &[u8], from: usize, to: usize) -> bool
+    requires { ⌜ Inside (now text) from to ⌝ ∗ ⌜ a ≤ b ⌝ }
+    ensures { λ r. ⌜ Joined (now (code .entry)) a 1 1 b 1 1 (now (text .entry)) from to r ⌝ }
+{
+    let mut i = from;
+    while i < to {
+        if both(code, a, b, text, from, i, to) {
+            return true;
+        }
+        let c = char_at(text, i, to);
+        i = c.next;
+    }
+    both(code, a, b, text, from, to, to)
 }

@@ -1,20 +1,20 @@
--- The answers of `matches` in the cycle of calls {cuts, matches, pair, times}.
+-- The answers of `matches` in the cycle of calls {both, cuts, matches, pair, row, times}.
 use Rattle.regex_total.proofs.Steps.{match-nothing, match-empty, match-then, match-left, match-right, match-short, match-other, match-upto, match-any}
 use mathlib.Core.Path.{refl}
 use native.Mathlib.Omega.{arith}
 use borrow.Author.Needs.{needs}
-use Rattle.regex_total.proofs.+cuts+matches+pair+times.Lts-matches as lts
+use Rattle.regex_total.proofs.+both+cuts+matches+pair+row+times.Lts-matches as lts
 use Prim.Native.Nat.{ℕ, _+_, _-_}
-use Rattle.regex_total.proofs.cuts.Reads as cuts
+use Rattle.regex_total.proofs.row.Reads as row
 use Rattle.regex_total.proofs.matches.Reads as matches
 use Rattle.regex_total.proofs.times.Reads as times
 use Rattle.regex_code.proofs.skip.Reads as skip-reads
 use Rattle.regex_code.proofs.wide.Reads as wide-reads
 use Rattle.regex_total.proofs.one.Reads as one-reads
-use Rattle.regex_total.proofs.+cuts+matches+pair+times.Proof.Base.{cuts-below, matches-at, matches-below, times-below}
+use Rattle.regex_total.proofs.+both+cuts+matches+pair+row+times.Proof.Base.{matches-at, matches-below, row-below, times-below}
 
 abbrev pub calls : ℕ → lts.Claims
-calls t = (one-reads.Asked, one-reads.Learnt, skip-reads.Asked, skip-reads.Learnt, cuts-below t, cuts.Post, matches-below t, matches.Post, wide-reads.Asked, wide-reads.Learnt, times-below t, times.Post)
+calls t = (one-reads.Asked, one-reads.Learnt, skip-reads.Asked, skip-reads.Learnt, row-below t, row.Post, matches-below t, matches.Post, wide-reads.Asked, wide-reads.Learnt, times-below t, times.Post)
 
 module _ (t : ℕ) where
   pub returns : lts.Need-returns (calls t) (matches-at t) matches.Post
@@ -41,14 +41,14 @@ module _ (t : ℕ) where
   pub skip-requires : lts.Need-skip-requires (calls t) (matches-at t) matches.Post
   skip-requires c κs = search needs
 
-  pub add-cuts : lts.Need-add-cuts (calls t) (matches-at t) matches.Post
-  add-cuts c = search needs
+  pub add-row : lts.Need-add-row (calls t) (matches-at t) matches.Post
+  add-row c = search needs
 
-  pub cuts-requires : lts.Need-cuts-requires (calls t) (matches-at t) matches.Post
-  cuts-requires c κs = (omega (arith, c .before .before .before .before .before .before .before .before .pre .0, c .before .before .before .before .before .if1 .left), (c .before .before .before .before .before .before .before .before .pre .1, record { later = c .skip .ensures .from; some = omega arith; some' = omega arith }))
+  pub row-requires : lts.Need-row-requires (calls t) (matches-at t) matches.Post
+  row-requires c κs = (omega (arith, c .before .before .before .before .before .before .before .before .pre .0, c .before .before .before .before .before .if1 .left), (c .before .before .before .before .before .before .before .before .pre .1, c .skip .ensures .from))
 
   pub returns-4 : lts.Need-returns-4 (calls t) (matches-at t) matches.Post
-  returns-4 c = match-then _ _ _ _ (c .before .before .before .before .before .before .before .before .before .pre .1) _ (c .before .before .before .before .before .before .if1 .left) (c .before .before .if4 .taken) (c .before .skip .ensures) (c .cuts .ensures)
+  returns-4 c = match-then _ _ _ _ (c .before .before .before .before .before .before .before .before .before .pre .1) _ (c .before .before .before .before .before .before .if1 .left) (c .before .before .if4 .taken) (c .before .skip .ensures) (c .row .ensures)
 
   pub add-matches : lts.Need-add-matches (calls t) (matches-at t) matches.Post
   add-matches c = search needs

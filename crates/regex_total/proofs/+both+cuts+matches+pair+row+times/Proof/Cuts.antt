@@ -1,21 +1,21 @@
--- The answers of `cuts` in the cycle of calls {cuts, matches, pair, times}.
+-- The answers of `cuts` in the cycle of calls {both, cuts, matches, pair, row, times}.
 use Rattle.regex_total.proofs.Steps.{Tried, tried-start, tried-more, tried-found, tried-last}
 use native.Mathlib.Omega.{arith}
-use Rattle.regex_total.proofs.+cuts+matches+pair+times.Lts-cuts as lts
+use Rattle.regex_total.proofs.+both+cuts+matches+pair+row+times.Lts-cuts as lts
 use Prim.Native.Nat.{ℕ, _-_}
 use Rattle.regex_total.proofs.cuts.Reads as cuts
 use Rattle.regex_total.proofs.pair.Reads as pair
 use Rattle.regex_chars.proofs.char_at.Reads as char-at-reads
-use Rattle.regex_total.proofs.+cuts+matches+pair+times.Proof.Base.{cuts-at, pair-below}
+use Rattle.regex_total.proofs.+both+cuts+matches+pair+row+times.Proof.Base.{cuts-at, pair-below}
 
 abbrev pub calls : ℕ → lts.Claims
 calls t = (pair-below t, pair.Post, char-at-reads.Asked, char-at-reads.Learnt)
 
 abbrev pub Inv-loop : lts.InvT-loop
-Inv-loop code a l h b m n text from to i₀ i = Tried code text a l h b m n from to i
+Inv-loop code at l h m n text from to i₀ i = Tried code text at l h at m n from to i
 
 abbrev pub μ-loop : lts.MeasureT-loop
-μ-loop code a l h b m n text from to i₀ i = to - i
+μ-loop code at l h m n text from to i₀ i = to - i
 
 module _ (t : ℕ) where
   pub loop-holds : lts.Need-loop-holds (calls t) (cuts-at t) cuts.Post Inv-loop μ-loop
