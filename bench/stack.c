@@ -184,10 +184,10 @@ static void measure_expression(const char *name, const char *begins, const char 
     levels = 30; // the call has a bracket of its own
     make_expression(begins, middle, ends, often);
     measure_query("..[?@>''", "", 0, "..[?@>''&&$", test);
-    searching = 1;
+    searching = 1, patience = 1; // such a plan asks the expression at every node, and need not end
     measure_plan("..[?@,?@]", 67, "\4\2\0\11\3\0\2\12\30\11\3\0\2\12\30", 15);
     measure_plan("..[*,*]", 126, "\4\2\0\10\10", 5);
-    searching = 0;
+    searching = 0, patience = 0;
 }
 
 // 1,023 alternatives as a second element of the root, at the bottom of a query that takes the most stack by itself.
