@@ -7,35 +7,23 @@
 #include <string.h>
 #include <time.h>
 
-enum { RECORD = 24, DEPTH = 63, WIDTH = 50, FEW = 16, MANY = 1 << 24, QUERY = 4096 };
+enum { DEPTH = STEWPEBBLE_MAX_DEPTH, WIDTH = 50, FEW = 16, MANY = 1 << 24, QUERY = 4096 };
 
-static uint8_t table[(DEPTH + 1) * RECORD], text[1], plan[65535], pool[65535];
-static size_t table_length;
+static struct stewpebble_record table[DEPTH + 1];
+static uint8_t text[1], plan[65535], pool[65535];
+static size_t nodes;
 static uint32_t *list;
 
-static void put32(uint8_t *at, uint32_t x) { memcpy(at, &x, 4); }
-
-// A record of the given kind and depth with its parent and the two words of its payload.
-static void record(size_t i, int kind, int depth, uint32_t parent, uint32_t low, uint32_t high) {
-    uint8_t *r = table + i * RECORD;
-    memset(r, 0, RECORD);
-    r[0] = kind;
-    r[1] = depth;
-    put32(r + 12, parent);
-    put32(r + 16, low);
-    put32(r + 20, high);
-}
-
 static void make_deep(int depth) {
-    for (int i = 0; i < depth; i++) record(i, 6, i, i ? i - 1 : 0, i + 1, 1);
-    record(depth, 3, depth, depth - 1, 1, 0);
-    table_length = (depth + 1) * RECORD;
+    for (int i = 0; i < depth; i++) table[i] = (struct stewpebble_record){.kind = STEWPEBBLE_LIST, .depth = i, .parent = i ? i - 1 : 0, .value.children = {i + 1, 1}};
+    table[depth] = (struct stewpebble_record){.kind = STEWPEBBLE_INTEGER, .depth = depth, .parent = depth - 1, .value.integer = 1};
+    nodes = depth + 1;
 }
 
 static void make_wide(void) {
-    record(0, 6, 0, 0, 1, WIDTH);
-    for (int i = 1; i <= WIDTH; i++) record(i, 3, 1, 0, i, 0);
-    table_length = (WIDTH + 1) * RECORD;
+    table[0] = (struct stewpebble_record){.kind = STEWPEBBLE_LIST, .value.children = {1, WIDTH}};
+    for (int i = 1; i <= WIDTH; i++) table[i] = (struct stewpebble_record){.kind = STEWPEBBLE_INTEGER, .depth = 1, .value.integer = i};
+    nodes = WIDTH + 1;
 }
 
 // What is repeated in a query, and what stands around it.
@@ -66,7 +54,7 @@ static double timed(size_t plan_length, size_t pool_length, size_t places, uint3
     long runs = 0;
     double start = now();
     do {
-        *refusal = stewpebble_run(plan, plan_length, pool, pool_length, table, table_length, text, 0, list, places, 0, count, &node);
+        *refusal = stewpebble_run(plan, plan_length, pool, pool_length, stewpebble_records(table), nodes * sizeof *table, text, 0, list, places, 0, count, &node);
         runs++;
     } while (now() - start < 1e7);
     return (now() - start) / runs;

@@ -20,7 +20,7 @@
 size_t stewpebble_walk(const uint8_t *plan, size_t plan_length, const uint8_t *pool, size_t pool_length, const uint8_t *table, size_t table_length,
                        const uint8_t *text, size_t text_length, uint32_t *list, size_t list_length, size_t cap);
 
-enum { RECORD = 24, ROUNDS = 201, LINE = 4096 };
+enum { ROUNDS = 201, LINE = 4096 };
 
 static uint8_t *table, *text, plan[65535], pool[65535];
 static size_t table_length, text_length, plan_length, pool_length, query_length, places;
@@ -147,13 +147,12 @@ static uint8_t *load(const char *folder, const char *rows, const char *suffix, s
     return bytes;
 }
 
-// The peers' tables are those of document 01, with 0 in bytes 12-15 of each record: here each node gets its parent's number there.
+// The peers' tables are those of document 01, with 0 for the parent in each record: here each node gets its parent's number there.
 static void put_parents(void) {
-    for (uint32_t i = 0; i < table_length / RECORD; i++) {
-        const uint8_t *r = table + i * RECORD;
-        uint32_t first, count;
-        memcpy(&first, r + 16, 4), memcpy(&count, r + 20, 4);
-        for (uint32_t k = 0; r[0] >= 6 && k < count; k++) memcpy(table + (first + k) * RECORD + 12, &i, 4);
+    struct stewpebble_record *nodes = (struct stewpebble_record *)table;
+    for (uint32_t i = 0; i < places; i++) {
+        uint32_t count = nodes[i].kind >= STEWPEBBLE_LIST ? nodes[i].value.children.count : 0;
+        for (uint32_t k = 0; k < count; k++) nodes[nodes[i].value.children.first + k].parent = i;
     }
 }
 
@@ -161,7 +160,7 @@ int main(int argc, char **argv) {
     for (int k = 3; k < argc; k++) {
         table = load(argv[2], argv[k], "table", &table_length);
         text = load(argv[2], argv[k], "text", &text_length);
-        places = table_length / RECORD;
+        places = table_length / sizeof(struct stewpebble_record);
         list = malloc(places * sizeof *list);
         put_parents();
         if (check_table()) fail("the table");

@@ -17,24 +17,23 @@
 #include <unistd.h>
 #include "../include/stewpebble.h"
 
-#define DEPTH 63
+#define DEPTH STEWPEBBLE_MAX_DEPTH
 #define WILD 62
-static uint8_t table[(DEPTH + 2) * 24], text[1024], plan[65535], pool[65535], query[4096];
-static size_t plan_length, pool_length, query_length, text_length, table_length = (DEPTH + 1) * 24;
+static struct stewpebble_record table[DEPTH + 2];
+static uint8_t text[1024], plan[65535], pool[65535], query[4096];
+static size_t plan_length, pool_length, query_length, text_length, nodes = DEPTH + 1;
 static uint32_t list[16];
+
+static struct stewpebble_record list_of(uint32_t depth, uint32_t parent, uint32_t first, uint32_t count) {
+    return (struct stewpebble_record){.kind = STEWPEBBLE_LIST, .depth = (uint8_t)depth, .parent = parent, .value.children = {first, count}};
+}
+
+static struct stewpebble_record one_below(uint32_t parent) { return (struct stewpebble_record){.kind = STEWPEBBLE_INTEGER, .depth = DEPTH, .parent = parent, .value.integer = 1}; }
 
 // A list in a list, 63 times, and the number 1 inside.
 static void make_table(void) {
-    for (uint32_t i = 0; i <= DEPTH; i++) {
-        uint8_t *r = table + i * 24;
-        r[0] = i < DEPTH ? 6 : 3;
-        r[1] = (uint8_t)i;
-        uint32_t parent = i ? i - 1 : 0, first = i < DEPTH ? i + 1 : 0, count = i < DEPTH ? 1 : 0;
-        if (i == DEPTH) first = 1;
-        memcpy(r + 12, &parent, 4);
-        memcpy(r + 16, &first, 4);
-        memcpy(r + 20, &count, 4);
-    }
+    for (uint32_t i = 0; i < DEPTH; i++) table[i] = list_of(i, i ? i - 1 : 0, i + 1, 1);
+    table[DEPTH] = one_below(DEPTH - 1);
 }
 
 // The same with a text inside: the expression that is made of what begins it so often, a middle, and what ends it so often.
@@ -47,9 +46,8 @@ static void make_expression(const char *begins, const char *middle, const char *
     if (text_length > sizeof text) { printf("too long an expression\n"); exit(1); }
     memcpy(text, made, text_length);
     make_table();
-    uint32_t words[2] = {0, (uint32_t)text_length};
-    table[DEPTH * 24] = 5;
-    memcpy(table + DEPTH * 24 + 16, words, 8);
+    table[DEPTH].kind = STEWPEBBLE_TEXT;
+    table[DEPTH].value.part.start = 0, table[DEPTH].value.part.length = (uint32_t)text_length;
 }
 
 // What stands at the bottom of a plan: a filter that searches the first text of the pool, 1,024 times `a`, for the second. It must be found: a walk that finds nothing
@@ -106,17 +104,18 @@ static void make_query(const char *segment, int often, const char *opens, const 
 
 static uint32_t answer;
 static int compiling, selecting;
-static const uint8_t *long_table, *long_text; // a table of two nodes and its text, in place of the other
+static const struct stewpebble_record *long_table; // a table of two nodes and its text, in place of the other
+static const uint8_t *long_text;
 static size_t long_length;
 static void *work(void *unused) {
     (void)unused;
     uint64_t a = 0, b = 0;
     if (long_table) {
-        answer = stewpebble_select(query, query_length, long_table, 2 * 24, long_text, long_length, list, 16, 0, &a, &b);
+        answer = stewpebble_select(query, query_length, stewpebble_records(long_table), 2 * sizeof *long_table, long_text, long_length, list, 16, 0, &a, &b);
         return 0;
     }
     if (selecting) {
-        answer = stewpebble_select(query, query_length, table, table_length, text, text_length, list, 16, 0, &a, &b);
+        answer = stewpebble_select(query, query_length, stewpebble_records(table), nodes * sizeof *table, text, text_length, list, 16, 0, &a, &b);
         return 0;
     }
     if (compiling) {
@@ -124,7 +123,7 @@ static void *work(void *unused) {
         if (answer) return 0;
         plan_length = a, pool_length = b;
     }
-    answer = stewpebble_run(plan, plan_length, pool, pool_length, table, table_length, text, text_length, list, 16, 0, &a, &b);
+    answer = stewpebble_run(plan, plan_length, pool, pool_length, stewpebble_records(table), nodes * sizeof *table, text, text_length, list, 16, 0, &a, &b);
     return 0;
 }
 
@@ -193,30 +192,24 @@ static void measure_expression(const char *name, const char *begins, const char 
 // 1,023 alternatives as a second element of the root, at the bottom of a query that takes the most stack by itself.
 static void measure_beside(void) {
     make_expression("|", "a", "", 1023);
-    memmove(table + 3 * 24, table + 2 * 24, (DEPTH - 1) * 24);
-    memcpy(table + 2 * 24, table + (DEPTH + 1) * 24, 24);
-    for (uint32_t i = 1; i <= DEPTH + 1; i++) {
-        if (i == 2) continue;
-        uint32_t words[3] = {i == 3 ? 1 : i == 1 ? 0 : i - 1, i <= DEPTH ? (i == 1 ? 3 : i + 1) : 1, i <= DEPTH};
-        table[i * 24] = i <= DEPTH ? 6 : 3;
-        memcpy(table + i * 24 + 12, words, 12);
-    }
-    uint32_t two = 2, root[3] = {0, 0, (uint32_t)text_length};
-    memcpy(table + 20, &two, 4);
-    memset(table + 2 * 24, 0, 24);
-    table[2 * 24] = 5, table[2 * 24 + 1] = 1;
-    memcpy(table + 2 * 24 + 12, root, 12);
-    table_length = sizeof table, levels = 29;
+    table[0] = list_of(0, 0, 1, 2);
+    table[1] = list_of(1, 0, 3, 1);
+    table[2] = (struct stewpebble_record){.kind = STEWPEBBLE_TEXT, .depth = 1, .value.part = {0, (uint32_t)text_length}};
+    for (uint32_t i = 3; i <= DEPTH; i++) table[i] = list_of(i - 1, i == 3 ? 1 : i - 1, i + 1, 1);
+    table[DEPTH + 1] = one_below(DEPTH);
+    nodes = DEPTH + 2, levels = 29;
     printf("alternatives beside the lists, at the bottom of the deepest query\n");
     measure_query("..*", "..*", 39, "[?$", "[?search('a',$[1])]");
 }
 
 // A list of one text, the longest that a table may have, and an expression of 1,024 bytes around `((a{64}){64}){64}`, by select.
 static void measure_long(const char *name, const char *begins, const char *ends, int often) {
-    static uint8_t two[2 * 24] = {[0] = 6, [16] = 1, [20] = 1, [24] = 5, [25] = 1}, as[16777216];
-    uint32_t length = sizeof as;
+    static const struct stewpebble_record two[2] = {
+        {.kind = STEWPEBBLE_LIST, .value.children = {1, 1}},
+        {.kind = STEWPEBBLE_TEXT, .depth = 1, .value.part = {0, STEWPEBBLE_MAX_TEXT}},
+    };
+    static uint8_t as[STEWPEBBLE_MAX_TEXT];
     memset(as, 'a', sizeof as);
-    memcpy(two + 24 + 20, &length, 4);
     char *p = stpcpy((char *)query, "$[?match(@,'");
     for (int i = 0; i < often; i++) p = stpcpy(p, begins);
     p = stpcpy(p, "((a{64}){64}){64}");

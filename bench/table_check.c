@@ -8,26 +8,18 @@
 #include <string.h>
 #include <time.h>
 
-enum { RECORD = 24, MOST = 65535, TEXT_ROOM = 1 << 20 };
+enum { TEXT_ROOM = 1 << 20 };
 
-static uint8_t table[MOST * RECORD];
+static struct stewpebble_record table[STEWPEBBLE_MAX_NODES];
 static uint8_t text[TEXT_ROOM];
 static size_t nodes, text_length;
 
-static void put32(uint8_t *at, uint32_t x) { memcpy(at, &x, 4); }
-
-// A record of the given kind and depth, with its key, its parent and the two words of its payload.
-static void record(size_t i, int kind, int depth, uint32_t key, uint32_t key_length, uint32_t parent, uint32_t low, uint32_t high) {
-    uint8_t *r = table + i * RECORD;
-    memset(r, 0, RECORD);
-    r[0] = kind;
-    r[1] = depth;
-    put32(r + 4, key);
-    put32(r + 8, key_length);
-    put32(r + 12, parent);
-    put32(r + 16, low);
-    put32(r + 20, high);
+// A list or a map at a depth, with so many children from the first one on.
+static struct stewpebble_record container(enum stewpebble_kind kind, size_t depth, size_t parent, size_t first, size_t count) {
+    return (struct stewpebble_record){.kind = kind, .depth = depth, .parent = parent, .value.children = {first, count}};
 }
+
+static void list_at_root(size_t count) { table[0] = container(STEWPEBBLE_LIST, 0, 0, 1, count); }
 
 enum { KEY = 6, LONG_KEY = 8 };
 
@@ -83,11 +75,12 @@ static void keys_beyond_ascii(size_t count) {
 
 // A list of `maps` maps with `members` integers each, whose keys are in `text`.
 static void list_of_maps(size_t maps, size_t members) {
-    record(0, 6, 0, 0, 0, 0, 1, maps);
+    list_at_root(maps);
     size_t next = 1 + maps;
     for (size_t m = 0; m < maps; m++) {
-        record(1 + m, 7, 1, 0, 0, 0, next, members);
-        for (size_t k = 0; k < members; k++) record(next + k, 3, 2, key_size * k, key_size, 1 + m, k, 0);
+        table[1 + m] = container(STEWPEBBLE_MAP, 1, 0, next, members);
+        for (size_t k = 0; k < members; k++)
+            table[next + k] = (struct stewpebble_record){.kind = STEWPEBBLE_INTEGER, .depth = 2, .key_start = key_size * k, .key_length = key_size, .parent = 1 + m, .value.integer = k};
         next += members;
     }
     nodes = next;
@@ -95,19 +88,19 @@ static void list_of_maps(size_t maps, size_t members) {
 
 static void list_of_numbers(size_t count) {
     text_length = 0;
-    record(0, 6, 0, 0, 0, 0, 1, count);
-    for (size_t k = 0; k < count; k++) record(1 + k, 3, 1, 0, 0, 0, k, 0);
+    list_at_root(count);
+    for (size_t k = 0; k < count; k++) table[1 + k] = (struct stewpebble_record){.kind = STEWPEBBLE_INTEGER, .depth = 1, .value.integer = k};
     nodes = 1 + count;
 }
 
 // A list of `width` lists, each of which holds one list, and so on for `levels` levels.
 static void lists_in_lists(size_t width, size_t levels) {
     text_length = 0;
-    record(0, 6, 0, 0, 0, 0, 1, width);
+    list_at_root(width);
     for (size_t d = 0; d < levels; d++)
         for (size_t k = 0; k < width; k++) {
             size_t at = 1 + d * width + k;
-            record(at, 6, 1 + d, 0, 0, d ? at - width : 0, d + 1 < levels ? at + width : 0, d + 1 < levels);
+            table[at] = container(STEWPEBBLE_LIST, 1 + d, d ? at - width : 0, d + 1 < levels ? at + width : 0, d + 1 < levels);
         }
     nodes = 1 + width * levels;
 }
@@ -127,8 +120,8 @@ static void fill(size_t count, size_t length, const char *character, size_t time
 // A list of `count` texts of `length` bytes each.
 static void list_of_texts(size_t count, size_t length, const char *character, size_t times) {
     fill(count, length, character, times);
-    record(0, 6, 0, 0, 0, 0, 1, count);
-    for (size_t k = 0; k < count; k++) record(1 + k, 5, 1, 0, 0, 0, length * k, length);
+    list_at_root(count);
+    for (size_t k = 0; k < count; k++) table[1 + k] = (struct stewpebble_record){.kind = STEWPEBBLE_TEXT, .depth = 1, .value.part = {length * k, length}};
     nodes = 1 + count;
 }
 
@@ -140,8 +133,8 @@ static double now(void) {
 
 static uint64_t bare(void) {
     uint64_t sum = 0, word;
-    for (size_t i = 0; i < nodes * RECORD; i += 8) {
-        memcpy(&word, table + i, 8);
+    for (size_t i = 0; i < nodes * sizeof *table; i += 8) {
+        memcpy(&word, stewpebble_records(table) + i, 8);
         sum += word;
     }
     for (size_t i = 0; i + 8 <= text_length; i += 8) {
@@ -153,7 +146,7 @@ static uint64_t bare(void) {
 
 static void measure(const char *name) {
     uint64_t node = 0;
-    uint32_t refusal = stewpebble_check_table(table, nodes * RECORD, text, text_length, &node);
+    uint32_t refusal = stewpebble_check_table(stewpebble_records(table), nodes * sizeof *table, text, text_length, &node);
     if (refusal) {
         printf("%s: refused %u at %llu\n", name, refusal, (unsigned long long)node);
         exit(1);
@@ -162,7 +155,7 @@ static void measure(const char *name) {
     volatile uint64_t kept;
     for (int round = 0; round < 15; round++) {
         double a = now();
-        kept = stewpebble_check_table(table, nodes * RECORD, text, text_length, &node);
+        kept = stewpebble_check_table(stewpebble_records(table), nodes * sizeof *table, text, text_length, &node);
         double b = now();
         kept = bare();
         double c = now();

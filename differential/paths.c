@@ -92,19 +92,19 @@ int main(int arguments, char **words) {
         make_table(2 + below(NODES - 2));
         tables++;
         uint64_t wrong, length, planned, pooled, selected;
-        if (stewpebble_check_table(stewpebble_records(table), nodes * 24, text, TEXT, &wrong)) stop("table check", wrong);
+        if (stewpebble_check_table(stewpebble_records(table), nodes * sizeof *table, text, TEXT, &wrong)) stop("table check", wrong);
         for (size_t node = 0; node < nodes && done < count; node++, done++) {
             size_t size = (size_t)(spell(want, node) - want), room = below(3) ? size : size + below(9);
-            if (size && stewpebble_path_of_node(stewpebble_records(table), nodes * 24, text, TEXT, node, got, below(size), &length, &wrong) != 16) stop("a small room", node);
+            if (size && stewpebble_path_of_node(stewpebble_records(table), nodes * sizeof *table, text, TEXT, node, got, below(size), &length, &wrong) != 16) stop("a small room", node);
             if (length != size) stop("the length needed", node);
             memset(got, '-', room + 1);
-            if (stewpebble_path_of_node(stewpebble_records(table), nodes * 24, text, TEXT, node, got, room, &length, &wrong)) stop("path", node);
+            if (stewpebble_path_of_node(stewpebble_records(table), nodes * sizeof *table, text, TEXT, node, got, room, &length, &wrong)) stop("path", node);
             if (length != size || memcmp(got, want, size) || got[size] != '-' || got[room] != '-') stop("its bytes", node);
             bytes += size;
             if (size > STEWPEBBLE_MAX_QUERY) { long_paths++; continue; }
             uint32_t list[2] = {99999, 99999};
             if (stewpebble_compile(got, size, plan, sizeof plan, pool, sizeof pool, &planned, &pooled)) stop("compile", node);
-            if (stewpebble_run(plan, planned, pool, pooled, stewpebble_records(table), nodes * 24, text, TEXT, list, 2, 0, &selected, &wrong)) stop("run", node);
+            if (stewpebble_run(plan, planned, pool, pooled, stewpebble_records(table), nodes * sizeof *table, text, TEXT, list, 2, 0, &selected, &wrong)) stop("run", node);
             if (selected != 1 || list[0] != node || list[1] != 99999) stop("its node", node);
         }
     }

@@ -22,7 +22,7 @@
 #include <unistd.h>
 
 typedef const uint8_t *Bytes;
-enum { GUARD = 1 << 20, SLACK = 64, STACK = STEWPEBBLE_QUERY_STACK, MOST_NODES = 65535, MOST_TEXT = 16777216, PLACES = 4096 };
+enum { GUARD = 1 << 20, SLACK = 64, STACK = STEWPEBBLE_QUERY_STACK, RECORD = 24, MOST_NODES = 65535, MOST_TEXT = 16777216, PLACES = 4096 };
 enum { COMPILE, PLAN, TALLY, RECORDS, TEXTS, TABLE, RUN, SELECT, TEXT, KEY, PATH, OPERATIONS };
 static const char *names[] = {"compile", "plan check", "tally", "record check", "text check", "table check", "run", "select", "text of a node", "key of a node", "path of a node"};
 static unsigned long long counts[OPERATIONS][22], round_number, wrongs;
@@ -136,7 +136,7 @@ static int brackets_pass(Bytes s, size_t n) {
 }
 
 static uint32_t word(Bytes at) { return at[0] | at[1] << 8 | at[2] << 16 | (uint32_t)at[3] << 24; }
-static int sizes_wrong(size_t table, size_t text) { return !table || table % 24 || table / 24 > MOST_NODES || text > MOST_TEXT; }
+static int sizes_wrong(size_t table, size_t text) { return !table || table % RECORD || table / RECORD > MOST_NODES || text > MOST_TEXT; }
 
 // ---- each operation, called twice
 
@@ -257,7 +257,7 @@ static Answer check_by(int operation, Bytes t, size_t n, Bytes x, size_t m) {
     }
     uint32_t r = was.refusal;
     CHECK((r == 9) == sizes_wrong(n, m) && (r == 0 || r == 9 || (r == 10 && operation != TEXTS) || (r == 17 && operation != RECORDS)));
-    CHECK(r == 10 || r == 17 ? was.first < n / 24 : was.first == 0);
+    CHECK(r == 10 || r == 17 ? was.first < n / RECORD : was.first == 0);
     if (printing) {
         printf(operation == RECORDS ? "records" : operation == TEXTS ? "texts" : "table");
         hex(t, n), hex(x, m), printf(" %u %llu\n", r, (unsigned long long)was.first);
@@ -301,7 +301,7 @@ static Answer run(Bytes q, size_t qn, Bytes p, size_t pn, Bytes o, size_t on, By
     CHECK(r == 0 || r == 9 || r == 10 || r == 17 || r == 13 || r == 14 || (q ? r <= 8 && r != 7 : r == 11));
     if (r) CHECK(was.first == 0);
     if (r != 10 && r != 17) CHECK(was.second == 0);
-    for (size_t i = 0; i < places; i++) CHECK(listed[i] < n / 24);
+    for (size_t i = 0; i < places; i++) CHECK(listed[i] < n / RECORD);
     if (printing) {
         printf(q ? "select" : "run");
         for (int i = 0; i < call.inputs; i++) hex(call.input[i].at, call.input[i].length);
@@ -332,15 +332,15 @@ static void part_of_node(int operation, Bytes t, size_t n, Bytes x, size_t m, si
         return;
     }
     int has = 0;
-    if (node < n / 24 && operation == TEXT) has = t[24 * node] == 5;
-    if (node < n / 24 && operation == KEY)
+    if (node < n / RECORD && operation == TEXT) has = t[RECORD * node] == 5;
+    if (node < n / RECORD && operation == KEY)
         for (size_t i = 0; i < node; i++)
-            has |= t[24 * i] == 7 && word(t + 24 * i + 16) <= node && node - word(t + 24 * i + 16) < word(t + 24 * i + 20);
+            has |= t[RECORD * i] == 7 && word(t + RECORD * i + 16) <= node && node - word(t + RECORD * i + 16) < word(t + RECORD * i + 20);
     if (!has) {
         CHECK(was.refusal == 15 && was.first == 0 && was.second == 0);
         return;
     }
-    Bytes record = t + 24 * node + (operation == TEXT ? 16 : 4);
+    Bytes record = t + RECORD * node + (operation == TEXT ? 16 : 4);
     CHECK(was.refusal == 0 && was.first == word(record) && was.second == word(record + 4));
     CHECK(was.first <= m && was.second <= m - was.first);
     if (was.first <= m && was.second <= m - was.first) CHECK(is_utf8(x + was.first, was.second));
@@ -373,7 +373,7 @@ static size_t path_of_node(Bytes t, size_t n, Bytes x, size_t m, size_t node, si
         return 0;
     }
     CHECK(was.second == 0);
-    if (node >= n / 24) {
+    if (node >= n / RECORD) {
         CHECK(was.refusal == 15 && was.first == 0);
         return 0;
     }
@@ -604,11 +604,14 @@ static void random_bytes(Buffer *b, size_t most) {
 
 // ---- structured tables
 
-static void set_word(uint8_t *to, uint32_t x) { for (int i = 0; i < 4; i++) to[i] = (uint8_t)(x >> 8 * i); }
-static uint8_t *record(uint8_t *base, size_t i, int kind, int depth, uint32_t low, uint32_t high) {
-    uint8_t *r = base + 24 * i;
-    memset(r, 0, 24), r[0] = (uint8_t)kind, r[1] = (uint8_t)depth, set_word(r + 16, low), set_word(r + 20, high);
-    return r;
+// A record is written as the published header lays it out; what is read of it above is said apart.
+typedef struct stewpebble_record Node;
+static void record(uint8_t *base, size_t i, Node r) { memcpy(base + RECORD * i, &r, RECORD); }
+static void list_node(uint8_t *base, size_t i, uint32_t depth, uint32_t parent, uint32_t first, size_t count) {
+    record(base, i, (Node){.kind = STEWPEBBLE_LIST, .depth = (uint8_t)depth, .parent = parent, .value.children = {first, (uint32_t)count}});
+}
+static void text_node(uint8_t *base, size_t i, int depth, size_t start, size_t length) {
+    record(base, i, (Node){.kind = STEWPEBBLE_TEXT, .depth = (uint8_t)depth, .value.part = {(uint32_t)start, (uint32_t)length}});
 }
 
 static size_t widest;
@@ -628,15 +631,13 @@ static void make_table(size_t nodes) {
     }
     size_t used = 1, deep = one_in(4);
     depth[0] = member[0] = parent[0] = 0;
-    memset(table.at, 0, 24 * nodes);
     for (size_t i = 0; i < used; i++) {
-        uint8_t *r = table.at + 24 * i;
         size_t left = nodes - used, kind = below(8), children = 0;
         if (left && i + 1 == used) kind = 6 + below(2);
         if (kind >= 6 && left && depth[i] < 63) children = deep ? 1 + (size_t)(left > 1 && one_in(6)) : below(left < 9 ? left + 1 : 9);
         if (kind >= 6 && left && !children && i + 1 == used && depth[i] < 63) children = 1;
         if (children > widest) widest = children;
-        uint32_t low = 0, high = 0;
+        uint32_t low = 0, high = 0, key = 0, key_length = 0;
         switch (kind) {
         case 3: low = (uint32_t)below(4); if (one_in(6)) low = (uint32_t)-1, high = low; else if (one_in(8)) low = 1, high = 1 << 21; break;
         case 4: high = one_in(2) ? 0x3FF00000 : one_in(2) ? 0x80000000 : (uint32_t)next() & 0xBFFFFFFF; low = one_in(3) ? (uint32_t)next() : 0; break;
@@ -647,9 +648,9 @@ static void make_table(size_t nodes) {
             break;
         case 6: case 7: low = children ? (uint32_t)used : 0, high = (uint32_t)children;
         }
-        r[0] = (uint8_t)kind, r[1] = depth[i], set_word(r + 12, parent[i]), set_word(r + 16, low), set_word(r + 20, high);
         // A member's key starts at one of the first 27 letters, each at another.
-        if (member[i]) set_word(r + 4, member[i] % 27u), set_word(r + 8, member[i] % 27 == 26 || one_in(3) ? 2 : 1);
+        if (member[i]) key = member[i] % 27u, key_length = key == 26 || one_in(3) ? 2 : 1;
+        record(table.at, i, (Node){.kind = (uint8_t)kind, .depth = depth[i], .key_start = key, .key_length = key_length, .parent = parent[i], .value.part = {low, high}});
         for (size_t k = 0; k < children; k++) {
             depth[used + k] = (uint8_t)(depth[i] + 1);
             parent[used + k] = (uint8_t)i;
@@ -657,7 +658,7 @@ static void make_table(size_t nodes) {
         }
         used += children;
     }
-    table.n = 24 * used;
+    table.n = RECORD * used;
 }
 
 // How many steps a run of an accepted plan may take on a table of n nodes, at most w of them siblings.
@@ -730,23 +731,23 @@ static void tables(Bytes q, size_t qn, Bytes p, size_t pn, Bytes o, size_t on, u
     double reach = 0;
     for (make_table(sizes[choice]); !plan_refused && choice < 9; make_table(sizes[++choice])) {
         at = 0;
-        double work = steps(p, (double)table.n / 24, (double)widest, &reach);
+        double work = steps(p, (double)table.n / RECORD, (double)widest, &reach);
         if (work + reach <= 3e4) break;
     }
     size_t kind = below(10);
-    if (kind == 0) { random_bytes(&table, 100); if (one_in(2)) table.n = 24 * (table.n / 24); }
+    if (kind == 0) { random_bytes(&table, 100); if (one_in(2)) table.n = RECORD * (table.n / RECORD); }
     else if (kind <= 2) damage(one_in(4) ? &text : &table);
-    else if (kind == 3) table.at[24 * below(table.n / 24) + below(24)] = (uint8_t)(one_in(2) ? below(9) : next());
+    else if (kind == 3) table.at[RECORD * below(table.n / RECORD) + below(RECORD)] = (uint8_t)(one_in(2) ? below(9) : next());
     Answer checked = check_table(table.at, table.n, text.at, text.n);
     // A damaged table that is still accepted has no more nodes than its bytes say, but perhaps more siblings.
     if (!plan_refused && !checked.refusal && kind <= 3) {
         at = 0;
-        double work = steps(p, (double)table.n / 24, (double)table.n / 24, &reach);
+        double work = steps(p, (double)table.n / RECORD, (double)table.n / RECORD, &reach);
         if (work + reach > 3e6) return;
     }
-    static const size_t odd[] = {(size_t)-1, (size_t)1 << 32, ((size_t)1 << 32) + 1, (size_t)-1 / 24 + 1};
+    static const size_t odd[] = {(size_t)-1, (size_t)1 << 32, ((size_t)1 << 32) + 1, (size_t)-1 / RECORD + 1};
     for (int k = 0; k < 2; k++) {
-        size_t node = one_in(8) ? odd[below(4)] : below(table.n / 24 + 2);
+        size_t node = one_in(8) ? odd[below(4)] : below(table.n / RECORD + 2);
         part_of_node(TEXT, table.at, table.n, text.at, text.n, node, checked);
         part_of_node(KEY, table.at, table.n, text.at, text.n, node, checked);
         size_t needed = path_of_node(table.at, table.n, text.at, text.n, node, 0, checked);
@@ -860,10 +861,11 @@ static void edges(void) {
         if (n == 32) CHECK(check_plan(plan_kept, c.first, pool_kept, c.second) == 0);
     }
     // depths of a table
-    for (uint32_t i = 0; i < 65; i++) set_word(record(table.at, i, i < 64 ? 6 : 3, (int)i, i < 64 ? i + 1 : 0, i < 64) + 12, i ? i - 1 : 0);
-    Answer r = check_table(table.at, 65 * 24, text.at, 0);
+    for (uint32_t i = 0; i < 64; i++) list_node(table.at, i, i, i ? i - 1 : 0, i + 1, 1);
+    record(table.at, 64, (Node){.kind = STEWPEBBLE_INTEGER, .depth = 64, .parent = 63});
+    Answer r = check_table(table.at, 65 * RECORD, text.at, 0);
     CHECK(r.refusal == 10 && r.first == 64);
-    set_word(record(table.at, 63, 3, 63, 0, 0) + 12, 62), table.n = 64 * 24;
+    record(table.at, 63, (Node){.kind = STEWPEBBLE_INTEGER, .depth = 63, .parent = 62}), table.n = 64 * RECORD;
     CHECK(check_table(table.at, table.n, text.at, 0).refusal == 0);
     // the deepest queries, on this stack: 32 queries inside each other, each down to the last node by wildcards or by a descent
     for (int descents = 0; descents < 2; descents++) {
@@ -899,8 +901,8 @@ static void edges(void) {
         for (int i = 0; i < (sort == 2 ? 511 : sort == 3 ? 340 : 0); i++) tell(sort == 2 ? ")" : ")*");
         text.n = 0;
         while (text.n < (sort == 0 ? 1024u : sort == 1 ? 1025u : sort == 2 ? 1u : 6u)) text.at[text.n++] = 'a';
-        record(table.at, 0, 6, 0, 1, 2), record(table.at, 1, 5, 1, 0, (uint32_t)text.n), record(table.at, 2, 5, 1, (uint32_t)text.n, (uint32_t)expression.n);
-        memcpy(text.at + text.n, expression.at, expression.n), text.n += expression.n, table.n = 3 * 24;
+        list_node(table.at, 0, 0, 0, 1, 2), text_node(table.at, 1, 1, 0, text.n), text_node(table.at, 2, 1, text.n, expression.n);
+        memcpy(text.at + text.n, expression.at, expression.n), text.n += expression.n, table.n = 3 * RECORD;
         for (int way = 0; way < 4; way++) {
             query.n = 0, say(way % 2 ? "$[?search($[0]," : "$[?match($[0],");
             if (way < 2) say("$[1]"); else literal_of(&expression);
@@ -911,42 +913,41 @@ static void edges(void) {
     }
     // lengths of plan and pool
     for (size_t n = 65535; n <= 65536; n++) {
-        memset(plan.at, 8, n), memcpy(plan.at, "\1\3", 2), set_word(plan.at + 2, (uint32_t)(n - 5) | 0x08080000), plan.at[n - 1] = 10;
+        memset(plan.at, 8, n), memcpy(plan.at, "\1\3", 2), plan.at[2] = (uint8_t)(n - 5), plan.at[3] = (uint8_t)((n - 5) >> 8), plan.at[n - 1] = 10;
         CHECK(check_plan(plan.at, n, pool.at, 0) == (n == 65535 ? 0 : 11));
         memset(pool.at, 'a', n), memcpy(plan.at, "\1\3\1\0\5\0\0\xff\xff\12", 10);
         CHECK(check_plan(plan.at, 10, pool.at, n) == (n == 65535 ? 0 : 11));
     }
     // sizes of table and text
-    uint8_t *big = calloc(MOST_NODES + 1, 24), *long_text = calloc(MOST_TEXT + 1, 1);
+    uint8_t *big = calloc(MOST_NODES + 1, RECORD), *long_text = calloc(MOST_TEXT + 1, 1);
     for (size_t n = MOST_NODES; n <= MOST_NODES + 1; n++) {
-        for (size_t i = 1; i < n; i++) record(big, i, 3, 1, (uint32_t)i, 0);
-        record(big, 0, 6, 0, 1, (uint32_t)n - 1);
-        r = check_table(big, 24 * n, text.at, 0);
+        for (size_t i = 1; i < n; i++) record(big, i, (Node){.kind = STEWPEBBLE_INTEGER, .depth = 1, .value.integer = (int64_t)i});
+        list_node(big, 0, 0, 0, 1, n - 1);
+        r = check_table(big, RECORD * n, text.at, 0);
         CHECK(r.refusal == (n == MOST_NODES ? 0 : 9));
         static const uint8_t wild[] = "$[*]";
-        r = run(wild, 4, 0, 0, 0, 0, big, 24 * n, text.at, 0, MOST_NODES - 1, 0);
+        r = run(wild, 4, 0, 0, 0, 0, big, RECORD * n, text.at, 0, MOST_NODES - 1, 0);
         CHECK(r.refusal == (n == MOST_NODES ? 0 : 9));
         if (!r.refusal) CHECK(r.first == MOST_NODES - 1 && listed[0] == 1 && listed[MOST_NODES - 2] == MOST_NODES - 1);
-        r = run(wild, 4, 0, 0, 0, 0, big, 24 * n, text.at, 0, MOST_NODES - 1, 1);
+        r = run(wild, 4, 0, 0, 0, 0, big, RECORD * n, text.at, 0, MOST_NODES - 1, 1);
         CHECK(r.refusal == (n == MOST_NODES ? 13 : 9));
     }
     for (size_t n = 1024; n <= 1025; n++) {
         for (size_t i = 0; i < n; i++) {
-            uint8_t *one = record(big, 1 + i, 0, 1, 0, 0);
-            set_word(one + 4, (uint32_t)(4 * i)), set_word(one + 8, 4);
+            record(big, 1 + i, (Node){.kind = STEWPEBBLE_NULL, .depth = 1, .key_start = (uint32_t)(4 * i), .key_length = 4});
             snprintf((char *)text.at + 4 * i, 8, "%04zu", i);
         }
-        record(big, 0, 7, 0, 1, (uint32_t)n), text.n = 4 * n;
-        r = check_table(big, 24 * (n + 1), text.at, text.n);
+        record(big, 0, (Node){.kind = STEWPEBBLE_MAP, .value.children = {1, (uint32_t)n}}), text.n = 4 * n;
+        r = check_table(big, RECORD * (n + 1), text.at, text.n);
         CHECK(r.refusal == (n == 1024 ? 0 : 10) && r.first == 0);
-        for (size_t i = 0; i < 20; i++) part_of_node(KEY, big, 24 * (n + 1), text.at, text.n, 53 * i, r);
-        for (size_t length = 0; length < 12; length++) path_of_node(big, 24 * (n + 1), text.at, text.n, n, length, r);
+        for (size_t i = 0; i < 20; i++) part_of_node(KEY, big, RECORD * (n + 1), text.at, text.n, 53 * i, r);
+        for (size_t length = 0; length < 12; length++) path_of_node(big, RECORD * (n + 1), text.at, text.n, n, length, r);
     }
     for (size_t n = MOST_TEXT; n <= MOST_TEXT + 1; n++) {
-        record(big, 0, 5, 0, 0, (uint32_t)n);
-        r = check_table(big, 24, long_text, n);
+        text_node(big, 0, 0, 0, n);
+        r = check_table(big, RECORD, long_text, n);
         CHECK(r.refusal == (n == MOST_TEXT ? 0 : 9));
-        part_of_node(TEXT, big, 24, long_text, n, 0, r);
+        part_of_node(TEXT, big, RECORD, long_text, n, 0, r);
     }
     free(big), free(long_text);
 }
@@ -1045,7 +1046,7 @@ static void *work(void *unused) {
 
 int main(int count, char **given) {
     words = count, arguments = given;
-    region(&query_in, 70000), region(&plan_in, 70000), region(&pool_in, 70000), region(&table_in, 24 * (MOST_NODES + 1)), region(&text_in, MOST_TEXT + 1);
+    region(&query_in, 70000), region(&plan_in, 70000), region(&pool_in, 70000), region(&table_in, RECORD * (MOST_NODES + 1)), region(&text_in, MOST_TEXT + 1);
     region(&plan_out, 70000), region(&pool_out, 70000), region(&list_out, 4 * MOST_NODES), region(&counts_out, 2048), region(&first_out, 8), region(&second_out, 8);
     struct sigaction act;
     memset(&act, 0, sizeof act);
