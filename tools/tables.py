@@ -1,7 +1,38 @@
-"""Tables of values in plain Python, apart from the definition and the code: the rules of documents 01 and 02, the Normalized Path of a node, and the table of a value."""
+"""Tables of values in plain Python, apart from the definition and the code: the bytes of a record, the rules of documents 01 and 02, the Normalized Path of a node, and the table of a value."""
 import struct
 
 NULL, FALSE, TRUE, INTEGER, FLOAT, STRING, LIST, MAP = range(8)
+
+
+# ---- records: laid out here, and in no other script
+
+LAYOUT = struct.Struct("<BBHIIIII")
+RECORD = LAYOUT.size
+# where the fields stand in a record
+KIND, DEPTH, ZERO, KEY, KEY_SIZE, PARENT, LOW, HIGH = 0, 1, 2, 4, 8, 12, 16, 20
+
+
+def record(kind, depth=0, start=0, size=0, low=0, high=0, above=0):
+    """A record with its key's start and size, the two words of its payload and its parent."""
+    return LAYOUT.pack(kind, depth, 0, start, size, above, low, high)
+
+
+def records_of(table):
+    return list(LAYOUT.iter_unpack(table))
+
+
+def u32(n):
+    return struct.pack("<I", n & 0xffffffff)
+
+
+def field(table, node, at):
+    return struct.unpack_from("<I", table, RECORD * node + at)[0]
+
+
+def put(table, node, at, new):
+    """The table with other bytes from a place of a node's record on."""
+    at += RECORD * node
+    return table[:at] + new + table[at + len(new):]
 
 
 # ---- the rules of documents 01 and 02
@@ -19,11 +50,7 @@ def is_part(text, start, size):
 
 
 def wrong_size(table, text):
-    return not table or len(table) % 24 != 0 or len(table) // 24 > 65535 or len(text) > 16777216
-
-
-def records_of(table):
-    return [struct.unpack_from("<BBHIIIII", table, at) for at in range(0, len(table), 24)]
+    return not table or len(table) % RECORD != 0 or len(table) // RECORD > 65535 or len(text) > 16777216
 
 
 def check_records(table, text):
@@ -90,8 +117,7 @@ def check(table, text):
 def parents(table):
     """The parents of the nodes of an accepted table."""
     out, begin = {}, 1
-    for i in range(len(table) // 24):
-        kind, high = table[24 * i], struct.unpack_from("<I", table, 24 * i + 20)[0]
+    for i, (kind, *_, high) in enumerate(records_of(table)):
         if kind in (LIST, MAP):
             for child in range(begin, begin + high):
                 out[child] = i
@@ -104,17 +130,17 @@ def named(table, text, node, key):
     wrong = check(table, text)
     if wrong is not None:
         return (wrong if wrong == 9 else wrong[0]), b""
-    if node >= len(table) // 24:
+    if node >= len(table) // RECORD:
         return 15, b""
     if key:
         up = parents(table).get(node)
-        if up is None or table[24 * up] != MAP:
+        if up is None or table[RECORD * up + KIND] != MAP:
             return 15, b""
-        start, size = struct.unpack_from("<II", table, 24 * node + 4)
+        start, size = field(table, node, KEY), field(table, node, KEY_SIZE)
     else:
-        if table[24 * node] != STRING:
+        if table[RECORD * node + KIND] != STRING:
             return 15, b""
-        start, size = struct.unpack_from("<II", table, 24 * node + 16)
+        start, size = field(table, node, LOW), field(table, node, HIGH)
     return 0, text[start:start + size]
 
 
@@ -132,8 +158,8 @@ def steps(table, text, node):
     up, path = parents(table), b""
     while node in up:
         above = up[node]
-        if table[24 * above] == MAP:
-            start, size = struct.unpack_from("<II", table, 24 * node + 4)
+        if table[RECORD * above + KIND] == MAP:
+            start, size = field(table, node, KEY), field(table, node, KEY_SIZE)
             step = b"['%s']" % escaped(text[start:start + size])
         else:
             step = b"[%d]" % (node - min(child for child in up if up[child] == above))
@@ -146,7 +172,7 @@ def path(table, text, node, room):
     wrong = check(table, text)
     if wrong is not None:
         return (9, 0, b"") if wrong == 9 else (*wrong, b"")
-    if node >= len(table) // 24:
+    if node >= len(table) // RECORD:
         return 15, 0, b""
     s = steps(table, text, node)
     return (16, len(s), b"") if room < len(s) else (0, len(s), s)
@@ -182,5 +208,5 @@ def build(value):
                 at = len(text) if kind == MAP else 0
                 text += key
                 queue.append((item[1], depth + 1, at, len(key), len(records)))
-        records.append(struct.pack("<BBHIIIII", kind, depth, 0, start, size, above, low, high))
+        records.append(record(kind, depth, start, size, low, high, above))
     return b"".join(records), text

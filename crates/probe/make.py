@@ -10,10 +10,11 @@ HERE = os.path.dirname(os.path.abspath(__file__))
 sys.dont_write_bytecode = True
 sys.path[:0] = [HERE, os.path.join(HERE, "..", "..", "tools")]
 import plans, queries, reference
-from tables import FLOAT, INTEGER, LIST, MAP, STRING, build, check, check_records, check_texts, named, parents, path
+from tables import DEPTH, HIGH, KEY, KEY_SIZE, KIND, LOW, PARENT, RECORD, ZERO
+from tables import FALSE, FLOAT, INTEGER, LIST, MAP, NULL, STRING, build, check, check_records, check_texts, field, named, parents, path, put, record, u32
 
 NODES, TEXT, LINE, QUERY, PLAN, PLACES = 8192, 65536, 524800, 8192, 65536, 65535
-TABLE = 24 * NODES
+TABLE = RECORD * NODES
 KINDS = 256
 COUNTS = 8 * KINDS
 
@@ -164,17 +165,8 @@ def listed(refusal, n, places):
 
 # ---- tables and what is put into them
 
-def put(table, node, at, new):
-    at += 24 * node
-    return table[:at] + new + table[at + len(new):]
-
-
-def u32(n):
-    return struct.pack("<I", n & 0xffffffff)
-
-
-def field(table, node, at):
-    return struct.unpack_from("<I", table, 24 * node + at)[0]
+def key_bytes(table, node):
+    return table[RECORD * node + KEY:RECORD * node + PARENT]
 
 
 SAMPLE = {b"a": [10, 20.0, 30], b"b": "é".encode()}
@@ -204,9 +196,9 @@ def check_lines(table, text):
 
 def broken(table, text):
     """Each rule broken once at some node: (name, table, text) for the first, a middle and the last node where it applies."""
-    n = len(table) // 24
+    n = len(table) // RECORD
     up = parents(table)
-    kinds = [table[24 * i] for i in range(n)]
+    kinds = [table[RECORD * i + KIND] for i in range(n)]
 
     def at(nodes, change):
         nodes = list(nodes)
@@ -214,62 +206,62 @@ def broken(table, text):
             yield change(i)
 
     every = range(n)
-    depth = lambda i: table[24 * i + 1]
+    depth = lambda i: table[RECORD * i + DEPTH]
     for new in (8, 255):
-        yield from at(every, lambda i: put(table, i, 0, bytes([new])))
+        yield from at(every, lambda i: put(table, i, KIND, bytes([new])))
     for new in (64, 255):
-        yield from at(every, lambda i: put(table, i, 1, bytes([new])))
-    yield from at(every, lambda i: put(table, i, 1, bytes([depth(i) + 1])))
-    yield from at(range(1, n), lambda i: put(table, i, 1, bytes([depth(i) - 1])))
-    for byte in (2, 3, 13, 14, 15):
+        yield from at(every, lambda i: put(table, i, DEPTH, bytes([new])))
+    yield from at(every, lambda i: put(table, i, DEPTH, bytes([depth(i) + 1])))
+    yield from at(range(1, n), lambda i: put(table, i, DEPTH, bytes([depth(i) - 1])))
+    for byte in (ZERO, ZERO + 1, PARENT + 1, PARENT + 2, PARENT + 3):
         yield from at(every, lambda i: put(table, i, byte, b"\x01"))
-    yield from at(every, lambda i: put(table, i, 12, u32(up.get(i, 0) + 1)))
-    yield from at(range(1, n), lambda i: put(table, i, 12, u32(i)))
-    yield from at([i for i in every if up.get(i, 0)], lambda i: put(table, i, 12, u32(0)))
-    yield from at([i for i in every if up.get(i, 0)], lambda i: put(table, i, 12, u32(up[i] - 1)))
+    yield from at(every, lambda i: put(table, i, PARENT, u32(up.get(i, 0) + 1)))
+    yield from at(range(1, n), lambda i: put(table, i, PARENT, u32(i)))
+    yield from at([i for i in every if up.get(i, 0)], lambda i: put(table, i, PARENT, u32(0)))
+    yield from at([i for i in every if up.get(i, 0)], lambda i: put(table, i, PARENT, u32(up[i] - 1)))
     plain = [i for i in every if i == 0 or kinds[up[i]] != MAP]
-    yield from at(plain, lambda i: put(table, i, 4, u32(1)))
-    yield from at(plain, lambda i: put(table, i, 8, u32(1)))
+    yield from at(plain, lambda i: put(table, i, KEY, u32(1)))
+    yield from at(plain, lambda i: put(table, i, KEY_SIZE, u32(1)))
     member = [i for i in every if i and kinds[up[i]] == MAP]
-    yield from at(member, lambda i: put(table, i, 4, u32(len(text) + 1) + u32(0)))
-    yield from at(member, lambda i: put(table, i, 4, u32(len(text)) + u32(0)))
-    yield from at(member, lambda i: put(table, i, 4, u32(len(text)) + u32(1)))
-    yield from at(member, lambda i: put(table, i, 4, u32(0xffffffff) + u32(0xffffffff)))
+    yield from at(member, lambda i: put(table, i, KEY, u32(len(text) + 1) + u32(0)))
+    yield from at(member, lambda i: put(table, i, KEY, u32(len(text)) + u32(0)))
+    yield from at(member, lambda i: put(table, i, KEY, u32(len(text)) + u32(1)))
+    yield from at(member, lambda i: put(table, i, KEY, u32(0xffffffff) + u32(0xffffffff)))
     second = [i for i in member if i - 1 in member and up[i - 1] == up[i]]
-    yield from at(second, lambda i: put(table, i, 4, table[24 * i - 20:24 * i - 12]))
+    yield from at(second, lambda i: put(table, i, KEY, key_bytes(table, i - 1)))
     third = [i for i in second if i - 2 in member and up[i - 2] == up[i]]
-    yield from at(third, lambda i: put(table, i, 4, table[24 * i - 44:24 * i - 36]))
-    for byte in (16, 19, 20, 23):
+    yield from at(third, lambda i: put(table, i, KEY, key_bytes(table, i - 2)))
+    for byte in (LOW, LOW + 3, HIGH, HIGH + 3):
         yield from at([i for i in every if kinds[i] < 3], lambda i: put(table, i, byte, b"\x80"))
         yield from at([i for i in every if kinds[i] == INTEGER], lambda i: put(table, i, byte, b"\x80"))
     for bits in (0x7ff << 52, 0xfff << 52, 0x7ff << 52 | 1, (1 << 64) - 1, 0x7fe << 52, 1, 1 << 63):
-        yield from at([i for i in every if kinds[i] == FLOAT], lambda i: put(table, i, 16, struct.pack("<Q", bits)))
+        yield from at([i for i in every if kinds[i] == FLOAT], lambda i: put(table, i, LOW, struct.pack("<Q", bits)))
     texts = [i for i in every if kinds[i] == STRING]
-    yield from at(texts, lambda i: put(table, i, 20, u32(len(text) - field(table, i, 16) + 1)))
-    yield from at(texts, lambda i: put(table, i, 16, u32(len(text) + 1) + u32(0)))
-    yield from at(texts, lambda i: put(table, i, 16, u32(len(text)) + u32(0)))
-    yield from at(texts, lambda i: put(table, i, 16, u32(0) + u32(len(text))))
-    yield from at(texts, lambda i: put(table, i, 16, u32(0xffffffff) + u32(1)))
+    yield from at(texts, lambda i: put(table, i, HIGH, u32(len(text) - field(table, i, LOW) + 1)))
+    yield from at(texts, lambda i: put(table, i, LOW, u32(len(text) + 1) + u32(0)))
+    yield from at(texts, lambda i: put(table, i, LOW, u32(len(text)) + u32(0)))
+    yield from at(texts, lambda i: put(table, i, LOW, u32(0) + u32(len(text))))
+    yield from at(texts, lambda i: put(table, i, LOW, u32(0xffffffff) + u32(1)))
     box = [i for i in every if kinds[i] in (LIST, MAP)]
-    full = [i for i in box if field(table, i, 20)]
-    yield from at([i for i in box if i not in full], lambda i: put(table, i, 16, u32(1)))
-    yield from at(full, lambda i: put(table, i, 16, u32(field(table, i, 16) + 1)))
-    yield from at(full, lambda i: put(table, i, 16, u32(field(table, i, 16) - 1)))
-    yield from at(full, lambda i: put(table, i, 16, u32(0)))
-    yield from at(full, lambda i: put(table, i, 20, u32(field(table, i, 20) + 1)))
-    yield from at(full, lambda i: put(table, i, 20, u32(field(table, i, 20) - 1)))
-    yield from at(full, lambda i: put(table, i, 20, u32(0)))
-    yield from at(full, lambda i: put(table, i, 20, u32(0xffffffff)))
-    yield from at(full, lambda i: put(table, i, 16, u32(0xffffffff) + u32(0xffffffff)))
-    yield from at(full, lambda i: put(table, i, 16, u32(i) + u32(1)))
-    yield from at([i for i in box if kinds[i] == LIST], lambda i: put(table, i, 0, b"\x07"))
-    yield from at([i for i in box if kinds[i] == MAP], lambda i: put(table, i, 0, b"\x06"))
-    yield from at(every, lambda i: put(table, i, 0, b"\x00"))
-    yield from at(every, lambda i: put(table, i, 0, b"\x05"))
-    yield table[:-24]
-    yield table + bytes(24)
-    yield table + table[-24:]
-    for size in (0, 1, 23, 25, len(table) - 1, len(table) - 23):
+    full = [i for i in box if field(table, i, HIGH)]
+    yield from at([i for i in box if i not in full], lambda i: put(table, i, LOW, u32(1)))
+    yield from at(full, lambda i: put(table, i, LOW, u32(field(table, i, LOW) + 1)))
+    yield from at(full, lambda i: put(table, i, LOW, u32(field(table, i, LOW) - 1)))
+    yield from at(full, lambda i: put(table, i, LOW, u32(0)))
+    yield from at(full, lambda i: put(table, i, HIGH, u32(field(table, i, HIGH) + 1)))
+    yield from at(full, lambda i: put(table, i, HIGH, u32(field(table, i, HIGH) - 1)))
+    yield from at(full, lambda i: put(table, i, HIGH, u32(0)))
+    yield from at(full, lambda i: put(table, i, HIGH, u32(0xffffffff)))
+    yield from at(full, lambda i: put(table, i, LOW, u32(0xffffffff) + u32(0xffffffff)))
+    yield from at(full, lambda i: put(table, i, LOW, u32(i) + u32(1)))
+    yield from at([i for i in box if kinds[i] == LIST], lambda i: put(table, i, KIND, b"\x07"))
+    yield from at([i for i in box if kinds[i] == MAP], lambda i: put(table, i, KIND, b"\x06"))
+    yield from at(every, lambda i: put(table, i, KIND, b"\x00"))
+    yield from at(every, lambda i: put(table, i, KIND, b"\x05"))
+    yield table[:-RECORD]
+    yield table + record(NULL)
+    yield table + table[-RECORD:]
+    for size in (0, 1, RECORD - 1, RECORD + 1, len(table) - 1, len(table) - RECORD + 1):
         yield table[:size]
 
 
@@ -293,7 +285,7 @@ def write_lines():
     for value in (SAMPLE, EVERY, SCALARS, MEMBERS, None, 0, 0.5, b"", b"x", [], {}, [[]], {b"": None}, [[], [], [1]]):
         table, text = build(value)
         table_line(table, text)
-        for node in sorted({*range(min(len(table) // 24 + 2, 20)), len(table) // 24 - 1, 65535, 10 ** 18}):
+        for node in sorted({*range(min(len(table) // RECORD + 2, 20)), len(table) // RECORD - 1, 65535, 10 ** 18}):
             say(b"text", hexed(table), hexed(text), node)
             say(b"key", hexed(table), hexed(text), node)
     for value in (EVERY, MEMBERS):
@@ -306,43 +298,42 @@ def write_lines():
         table_line(table, new)
         say(b"text", hexed(table), hexed(new), 1)
         say(b"key", hexed(table), hexed(new), 1)
-    table_line(put(table, 1, 16, u32(1) + u32(2)), b"kktt\xff")
+    table_line(put(table, 1, LOW, u32(1) + u32(2)), b"kktt\xff")
     # depths to the limit and past it, with the two ways to be past it
     for levels in (62, 63, 64, 70):
         table_line(*build(chain(levels)))
     deep, text = build(chain(63))
-    table_line(put(deep, 63, 0, b"\x06"), text)
-    table_line(put(put(deep, 63, 0, b"\x06"), 63, 16, u32(64) + u32(1)) + put(put(deep[-24:], 0, 1, b"\x40"), 0, 12, u32(63)), text)
-    table_line(put(put(deep, 63, 0, b"\x06"), 63, 16, u32(64) + u32(1)) + put(put(deep[-24:], 0, 1, b"\x3f"), 0, 12, u32(63)), text)
+    table_line(put(deep, 63, KIND, b"\x06"), text)
+    for depth in (64, 63):
+        table_line(deep[:-RECORD] + record(LIST, 63, low=64, high=1, above=62) + record(NULL, depth, above=63), text)
     # members to the limit and past it, keys that differ late, and equal keys far apart
     for count in (1023, 1024, 1025):
         table_line(*build({b"%04x" % k: None for k in range(count)}))
     table, text = build({b"%03x" % k: None for k in range(300)})
-    table_line(put(table, 300, 4, table[28:36]), text)
-    table_line(put(table, 299, 4, table[28:36]), text)
-    table_line(put(table, 151, 4, table[24 * 150 + 4:24 * 150 + 12]), text)
+    table_line(put(table, 300, KEY, key_bytes(table, 1)), text)
+    table_line(put(table, 299, KEY, key_bytes(table, 1)), text)
+    table_line(put(table, 151, KEY, key_bytes(table, 150)), text)
     table, text = build([{b"a": 1}, {b"a": 1, b"b": {b"a": 1}}, {b"": 1}])
     table_line(table, text)
-    table_line(put(table, 6, 4, table[24 * 5 + 4:24 * 5 + 12]), text)
+    table_line(put(table, 6, KEY, key_bytes(table, 5)), text)
     # lists longer than a map may be, and the node that no earlier node has as child
     table_line(*build([None] * 1100))
-    null = bytes(24)
+    null = record(NULL)
     table_line(null + null, b"")
-    table_line(b"\x06" + bytes(15) + u32(1) + u32(1) + put(null, 0, 1, b"\x01") + null, b"")
-    table_line(null + b"\x06\x01" + bytes(14) + u32(1) + u32(1), b"")
-    table_line(null + b"\x06\x01" + bytes(14) + u32(2) + u32(1) + null, b"")
-    two = b"\x06\x01" + bytes(14)
-    table_line(b"\x06" + bytes(15) + u32(1) + u32(2) + two + u32(3) + u32(1) + two + u32(4) + u32(1) + put(null, 0, 1, b"\x02"), b"")
+    table_line(record(LIST, low=1, high=1) + record(NULL, 1) + null, b"")
+    table_line(null + record(LIST, 1, low=1, high=1), b"")
+    table_line(null + record(LIST, 1, low=2, high=1) + null, b"")
+    table_line(record(LIST, low=1, high=2) + record(LIST, 1, low=3, high=1) + record(LIST, 1, low=4, high=1) + record(NULL, 2), b"")
     # several rules broken at once
     r = random.Random(20260114)
     for _ in range(160):
         table, text = build([random_value(r, 3) for _ in range(3)])
         for _ in range(r.randrange(4)):
-            node = r.randrange(len(table) // 24)
-            at = r.choice([0, 1, 1, 2, 4, 8, 12, 16, 16, 20, 20])
+            node = r.randrange(len(table) // RECORD)
+            at = r.choice([KIND, DEPTH, DEPTH, ZERO, KEY, KEY_SIZE, PARENT, LOW, LOW, HIGH, HIGH])
             table = put(table, node, at, bytes([r.choice([0, 1, 2, 3, 5, 6, 7, 8, 64, 255])]))
         check_lines(table, text)
-        node = r.randrange(len(table) // 24 + 1)
+        node = r.randrange(len(table) // RECORD + 1)
         say(b"key" if r.randrange(2) else b"text", hexed(table), hexed(text), node)
     # the words of a line
     table, text = build(SAMPLE)
@@ -357,10 +348,10 @@ def write_lines():
                   b"text " + t + b" " + x + b" 00000000000000000000000000000002", b"text " + t + b" " + x + b" 18446744073709551618",
                   b"key " + t + b" " + x + b" 1", b"key " + t + b" " + x + b" 1 1", b"key - - 0", b"text 00 - 0", b"key " + t[:48] + b" - 0"])
     # the largest table and text that fit, and lines that are too long in each way
-    full = b"\x06" + bytes(15) + u32(1) + u32(NODES - 1) + (b"\x01\x01" + bytes(22)) * (NODES - 1)
+    full = record(LIST, low=1, high=NODES - 1) + record(FALSE, 1) * (NODES - 1)
     fill = bytes(r.choice(b"abcdefgh") for _ in range(TEXT))
     table_line(full, fill)
-    one = b"\x05" + bytes(15) + u32(1) + u32(40)
+    one = record(STRING, low=1, high=40)
     say(b"text", hexed(one), hexed(fill + b"a"), 0)
     lines.append(b"table " + b"0" * LINE)
     say(b"text", hexed(one), hexed(fill[:41]), 0)
@@ -374,7 +365,7 @@ def path_lines():
     values = [SAMPLE, EVERY, MEMBERS, None, [[]], {k: [k] for k in keys}, {b"k": {k: {b"x": None} for k in keys}}, [None] * 101, chain(63)]
     for value in values:
         table, text = build(value)
-        n = len(table) // 24
+        n = len(table) // RECORD
         for node in sorted({n - 1, n} if n > 40 else {*range(n + 1), 65535, 10 ** 18}):
             length = path(table, text, node, PLAN)[1]
             for room in sorted({0, length - 1, length, length + 1}) if length else [9]:
@@ -459,7 +450,7 @@ def select_lines():
 def order_lines():
     """Which refusal comes first, and the limits of a list."""
     table, text = build(queries.SAMPLE)
-    t, x, bad, wrong = hexed(table), hexed(text), hexed(table[1:]), hexed(put(table, 3, 0, b"\x08"))
+    t, x, bad, wrong = hexed(table), hexed(text), hexed(table[1:]), hexed(put(table, 3, KIND, b"\x08"))
     plan, pool = map(hexed, plans.translate(reference.form(b"$..*")))
     for length, start in ((0, 0), (0, 1), (5, 0), (5, 1), (5, 5), (5, 6), (4, 0), (3, 1), (4, 4), (9, 4), (9, 5), (300, 295), (300, 296), (65535, 0), (65535, 65535), (65535, 65536), (65536, 0),
                           (5, 10 ** 18), (5, 10 ** 19), (10 ** 18, 0), (0, 0)):
@@ -474,7 +465,7 @@ def order_lines():
         for these in (t, bad, wrong, b"-"):
             for length, start in ((0, 0), (7, 1), (3, 1), (3, 4)):
                 say(b"run", code, pool, these, x, length, start)
-    wide = hexed(b"\x06" + bytes(15) + u32(1) + u32(NODES - 1) + (b"\x01\x01" + bytes(22)) * (NODES - 1))
+    wide = hexed(record(LIST, low=1, high=NODES - 1) + record(FALSE, 1) * (NODES - 1))
     say(b"select", hexed(b"$[-1,0,8191,1]"), wide, b"-", 4, 1)
     say(b"select", hexed(b"$"), t, x, 65535, 65534)
     many = b"$" + b"[*,*]" * 6
@@ -485,9 +476,6 @@ def order_lines():
 
 def range_lines():
     """The texts and keys of records that are wrong: ranges as they are written, as far as the table reaches."""
-    def record(kind, depth=0, start=0, size=0, low=0, high=0, above=0):
-        return struct.pack("<BBHIIIII", kind, depth, 0, start, size, above, low, high)
-
     text = "abé".encode()
     a, b, past = record(0, 1, 0, 1), record(0, 1, 1, 1), record(0, 1, 3, 2)
     whole = 0xffffffff
