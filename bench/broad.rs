@@ -14,6 +14,11 @@
 //!   c        the C by hand, for the queries that have it (cfg flat)
 //! with - for what is not there. It ends with status 1 where two libraries select other nodes, or where the Rust text does so and the case does not say it.
 
+#[allow(dead_code)]
+#[path = "../rust/src/record.rs"]
+mod record;
+
+use record::RECORD;
 use rustoracle::handler::ValueOrHandler;
 use rustoracle::json;
 use rustoracle::jsonpath::jsonpath_impl::{evaluate_parsed, PathValue};
@@ -59,7 +64,6 @@ struct Lent {
     pool: Vec<u8>,
 }
 
-const RECORD: usize = 24;
 const PLAN_ROOM: usize = 65535;
 
 impl Lent {

@@ -10,6 +10,11 @@
 //!
 //! Hostile expressions are asked of one text that grows, as long as a tenth of a second holds. A line has the longest text, the microseconds, and the factor by which
 //! the last doubling made it longer; then the same of the crate, or - where it refuses the expression.
+#[allow(dead_code)]
+#[path = "../rust/src/record.rs"]
+mod record;
+
+use record::{pair, record};
 use regex::Regex;
 use std::hint::black_box;
 use std::time::Instant;
@@ -28,6 +33,9 @@ extern "C" {
     ) -> usize;
 }
 
+// The kinds of a text and of a list.
+const TEXT: u8 = 5;
+const LIST: u8 = 6;
 const TEXTS: usize = 10_000;
 const WORDS: [&str; 10] = ["north", "south", "east", "west", "paris", "london", "berlin", "madrid", "vienna", "oslo"];
 
@@ -64,15 +72,10 @@ struct Lent {
 
 impl Lent {
     fn new(texts: &[String], query: &str) -> Lent {
-        let mut lent = Lent { table: vec![6, 0], text: Vec::new(), list: vec![0; texts.len() + 1], plan: vec![0; 65_535], pool: vec![0; 65_535] };
-        lent.table.extend([0; 14]);
-        lent.table.extend(1u32.to_le_bytes());
-        lent.table.extend((texts.len() as u32).to_le_bytes());
+        let list = record(LIST, 0, (0, 0), 0, pair((1, texts.len() as u32)));
+        let mut lent = Lent { table: list.to_vec(), text: Vec::new(), list: vec![0; texts.len() + 1], plan: vec![0; 65_535], pool: vec![0; 65_535] };
         for text in texts {
-            lent.table.extend([5, 1]);
-            lent.table.extend([0; 14]);
-            lent.table.extend((lent.text.len() as u32).to_le_bytes());
-            lent.table.extend((text.len() as u32).to_le_bytes());
+            lent.table.extend(record(TEXT, 1, (0, 0), 0, pair((lent.text.len() as u32, text.len() as u32))));
             lent.text.extend(text.as_bytes());
         }
         let (mut n, mut m) = (0, 0);

@@ -1,5 +1,6 @@
 //! The table of a value, laid out by the rules of tables.
-use crate::limits::{grouped, MAX_DEPTH, MAX_MEMBERS, MAX_NODES, MAX_TEXT, RECORD};
+use crate::limits::{grouped, MAX_DEPTH, MAX_MEMBERS, MAX_NODES, MAX_TEXT};
+use crate::record::{pair, record, RECORD};
 use crate::{Kind, Value};
 use alloc::collections::{BTreeSet, VecDeque};
 use alloc::string::String;
@@ -81,11 +82,6 @@ pub(crate) fn place(texts: &mut Vec<u8>, text: &str) -> Result<(u32, u32), Table
     Ok((start as u32, text.len() as u32))
 }
 
-/// Two words as the last eight bytes of a record.
-pub(crate) fn pair((low, high): (u32, u32)) -> u64 {
-    u64::from(low) | u64::from(high) << 32
-}
-
 /// What is to be written for one node.
 struct Pending<'a> {
     value: &'a Value,
@@ -159,10 +155,7 @@ impl<'a> Builder<'a> {
             None => (0, 0),
         };
         let (kind, payload) = self.payload(node)?;
-        self.records.extend_from_slice(&[kind as u8, node.depth, 0, 0]);
-        self.records.extend_from_slice(&pair(key).to_le_bytes());
-        self.records.extend_from_slice(&node.parent.to_le_bytes());
-        self.records.extend_from_slice(&payload.to_le_bytes());
+        self.records.extend_from_slice(&record(kind as u8, node.depth, key, node.parent, payload));
         Ok(())
     }
 }

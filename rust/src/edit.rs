@@ -1,6 +1,7 @@
 //! Changes of one node in place: 24 bytes of its record, of which kind and value change, and the shape stays.
-use crate::builder::{pair, place};
-use crate::limits::{grouped, MAX_TEXT, RECORD};
+use crate::builder::place;
+use crate::limits::{grouped, MAX_TEXT};
+use crate::record::{pair, set_value, RECORD};
 use crate::{Kind, Table, TableError};
 use core::fmt;
 
@@ -203,9 +204,8 @@ impl Table {
     /// Writes kind and value of a node that is there. Depth and key stay.
     fn write(&mut self, node: u32, kind: Kind, payload: u64) {
         let at = node as usize * RECORD;
-        if let Some(record) = self.records.get_mut(at..at + RECORD) {
-            record[0] = kind as u8;
-            record[16..].copy_from_slice(&payload.to_le_bytes());
+        if let Some(Ok(record)) = self.records.get_mut(at..at + RECORD).map(TryInto::try_into) {
+            set_value(record, kind as u8, payload);
         }
     }
 }

@@ -88,6 +88,7 @@ mod limits;
 mod node;
 mod path;
 mod plan;
+mod record;
 mod refusal;
 #[cfg(feature = "serde_json")]
 mod serde;

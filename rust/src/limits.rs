@@ -1,8 +1,6 @@
 //! The limits of queries and tables, each in one place, and how numbers are written for people.
 use core::fmt;
 
-/// The bytes of a record.
-pub const RECORD: usize = 24;
 /// The bytes of a query.
 pub const MAX_QUERY: usize = 4_096;
 /// The brackets of a query that are open at once.
@@ -38,6 +36,7 @@ pub fn grouped(n: usize) -> Grouped {
 #[cfg(test)]
 mod tests {
     use super::*;
+    use crate::record::RECORD;
     use alloc::string::ToString;
 
     #[test]
@@ -48,6 +47,7 @@ mod tests {
             let define = alloc::format!("#define STEWPEBBLE_MAX_{name} {limit} ");
             assert!(header.contains(&define), "{define}");
         }
+        assert!(header.contains(&alloc::format!("stewpebble_record_has_{RECORD}_bytes")));
     }
 
     #[test]

@@ -1,6 +1,7 @@
 //! The refusals of the library, by name, each with its numbers and in words.
 use crate::foreign::Refused;
-use crate::limits::{grouped, Grouped, MAX_BRACKETS, MAX_EXACT, MAX_NODES, MAX_QUERY, MAX_TEXT, RECORD};
+use crate::limits::{grouped, Grouped, MAX_BRACKETS, MAX_EXACT, MAX_NODES, MAX_QUERY, MAX_TEXT};
+use crate::record::RECORD;
 use core::fmt;
 
 /// Why an operation refused. Each is given exactly on its condition, in the operation's order; `docs/REFERENCE.md` in the

@@ -3,7 +3,7 @@
 //! A `Table` was accepted by the library, or made of a value by the rules that the library checks. So a part of it is read
 //! from its record alone; the library's own operations, which check a whole table at each call, are functions beside it.
 use crate::foreign::{self, Refused};
-use crate::limits::RECORD;
+use crate::record::{key_in, kind_in, pair, parent_in, words_in, RECORD};
 use crate::refusal::Given;
 use crate::{Error, Kind, Node, Refusal, Value};
 use alloc::vec::Vec;
@@ -280,8 +280,9 @@ impl Table {
     /// ```
     pub fn text(&self, node: u32) -> Result<&str, Refusal> {
         let none = || absent(node, self.count(), Refusal::NoText { node });
-        let record = self.record(node).filter(|record| record[0] == Kind::Text as u8).ok_or_else(none)?;
-        part(&self.texts, word(record, 16) as usize, word(record, 20) as usize).ok_or_else(none)
+        let record = self.record(node).filter(|record| kind_in(record) == Kind::Text as u8).ok_or_else(none)?;
+        let (start, length) = words_in(record);
+        part(&self.texts, start as usize, length as usize).ok_or_else(none)
     }
 
     /// The key of a map's member, read from its record.
@@ -299,8 +300,8 @@ impl Table {
         if self.kind_of(parent) != Kind::Map {
             return Err(none());
         }
-        let record = self.record(node).ok_or_else(none)?;
-        part(&self.texts, word(record, 4) as usize, word(record, 8) as usize).ok_or_else(none)
+        let (start, length) = self.record(node).map(key_in).ok_or_else(none)?;
+        part(&self.texts, start as usize, length as usize).ok_or_else(none)
     }
 
     /// The value of a node, with all that is below it; none if there is no such node.
@@ -334,18 +335,21 @@ impl Table {
 
     /// Null for a node that is not there.
     pub(crate) fn kind_of(&self, node: u32) -> Kind {
-        self.record(node).map_or(Kind::Null, |record| Kind::of_byte(record[0]))
+        self.record(node).map_or(Kind::Null, |record| Kind::of_byte(kind_in(record)))
     }
 
     /// The last eight bytes of a record; 0 for a node that is not there.
     pub(crate) fn payload_of(&self, node: u32) -> u64 {
-        self.record(node).map_or(0, |record| u64::from(word(record, 16)) | u64::from(word(record, 20)) << 32)
+        self.record(node).map_or(0, |record| pair(words_in(record)))
     }
 
     /// The numbers of a node's children, which are none for what is no list or map.
     pub(crate) fn children_of(&self, node: u32) -> Range<u32> {
         match self.record(node) {
-            Some(record) if record[0] >= Kind::List as u8 => word(record, 16)..word(record, 16).saturating_add(word(record, 20)),
+            Some(record) if kind_in(record) >= Kind::List as u8 => {
+                let (first, count) = words_in(record);
+                first..first.saturating_add(count)
+            }
             _ => 0..0,
         }
     }
@@ -353,14 +357,9 @@ impl Table {
     pub(crate) fn parent_of(&self, node: u32) -> Option<u32> {
         match node {
             0 => None,
-            _ => self.record(node).map(|record| word(record, 12)),
+            _ => self.record(node).map(parent_in),
         }
     }
-}
-
-/// Four bytes of a record, from a place that is at most 20.
-fn word(record: &[u8; RECORD], at: usize) -> u32 {
-    u32::from_le_bytes([record[at], record[at + 1], record[at + 2], record[at + 3]])
 }
 
 impl FromStr for Table {

@@ -1,6 +1,7 @@
 //! Tables from values and bytes: parts that are read from an accepted table against the library's own operations, changes
 //! in place, and values that have no table.
 mod common;
+use common::record::{PAYLOAD, RECORD};
 use common::Random;
 use stewpebble::{check_records, check_table, check_texts, compile, key_of_node, path_of_node, select, text_of_node, EditError, Kind, Number, Refusal, Table, TableError, Value};
 
@@ -138,9 +139,9 @@ fn changes_in_place() {
             check_table(table.records(), table.texts()).unwrap();
             assert_eq!(table.root().value(), set_in_value(&before, node, &to));
             assert!(table.texts().starts_with(before.texts()));
-            let at = 24 * node as usize;
+            let at = RECORD * node as usize;
             let same = |i: &usize| table.records()[*i] == before.records()[*i];
-            assert!((0..table.records().len()).filter(|i| !same(i)).all(|i| i == at || (at + 16..at + 24).contains(&i)));
+            assert!((0..table.records().len()).filter(|i| !same(i)).all(|i| i == at || (at + PAYLOAD..at + RECORD).contains(&i)));
         }
         parts_agree(&table);
     }
@@ -230,11 +231,11 @@ fn values_without_a_table() {
 fn bytes_without_a_table() {
     let words = |records: usize, texts: usize| check_table(&vec![0; records], &vec![0; texts]).unwrap_err().to_string();
     assert_eq!(words(0, 0), "the table is empty");
-    assert_eq!(words(25, 0), "the table has 25 bytes, which is no multiple of 24");
-    assert_eq!(words(24 * 65_536, 0), "the table has 65,536 nodes, and 65,535 are the most");
-    assert_eq!(words(24, 16_777_217), "the texts have 16,777,217 bytes, and 16,777,216 are the most");
+    assert_eq!(words(RECORD + 1, 0), "the table has 25 bytes, which is no multiple of 24");
+    assert_eq!(words(RECORD * 65_536, 0), "the table has 65,536 nodes, and 65,535 are the most");
+    assert_eq!(words(RECORD, 16_777_217), "the texts have 16,777,217 bytes, and 16,777,216 are the most");
     assert_eq!(words(48, 0), "the table breaks a rule of tables, first at node 1");
-    assert_eq!(Table::from_bytes(vec![9; 24], vec![]), Err(Refusal::TableRule { node: 0 }));
+    assert_eq!(Table::from_bytes(vec![9; RECORD], vec![]), Err(Refusal::TableRule { node: 0 }));
 }
 
 #[test]

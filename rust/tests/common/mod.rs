@@ -1,5 +1,8 @@
 //! What the tests share: numbers that look random and are the same at each run, and values and tables made from them.
 #![allow(dead_code)]
+#[path = "../../src/record.rs"]
+pub mod record;
+use record::{pair, record};
 use stewpebble::Value;
 
 /// A generator of numbers (xorshift).
@@ -58,26 +61,23 @@ pub fn bytes(random: &mut Random) -> (Vec<u8>, Vec<u8>) {
         let mut payload = match kind {
             3 => random.next(),
             4 => FLOATS[random.below(FLOATS.len())].to_bits(),
-            5 => part(random, &texts),
+            5 => pair(part(random, &texts)),
             _ => 0,
         };
         if kind >= 6 && depth < 5 && pending.len() < 60 {
             let count = random.below(5);
             if count > 0 {
-                payload = u64::from(next) | (count as u64) << 32;
+                payload = pair((next, count as u32));
             }
             next += count as u32;
             pending.extend((0..count).map(|place| (depth + 1, kind == 7, place, done as u32)));
         }
         // The keys of a map's members: the empty part at 0 first, then parts of different lengths.
         let key = match (member, place) {
-            (false, _) | (true, 0) => 0,
-            (true, place) => [0, 1 << 32, 3 | 1 << 32, 4 | 5 << 32, 3 | 6 << 32][place % 5],
+            (false, _) | (true, 0) => (0, 0),
+            (true, place) => [(0, 0), (0, 1), (3, 1), (4, 5), (3, 6)][place % 5],
         };
-        records.extend_from_slice(&[kind, depth, 0, 0]);
-        records.extend_from_slice(&u64::to_le_bytes(key));
-        records.extend_from_slice(&parent.to_le_bytes());
-        records.extend_from_slice(&u64::to_le_bytes(payload));
+        records.extend_from_slice(&record(kind, depth, key, parent, payload));
         done += 1;
     }
     if random.below(4) == 0 {
@@ -88,9 +88,9 @@ pub fn bytes(random: &mut Random) -> (Vec<u8>, Vec<u8>) {
 }
 
 /// A part of the text, mostly at the bounds of characters.
-fn part(random: &mut Random, texts: &[u8]) -> u64 {
+fn part(random: &mut Random, texts: &[u8]) -> (u32, u32) {
     let bounds: Vec<usize> = (0..=texts.len()).filter(|&i| std::str::from_utf8(&texts[..i]).is_ok()).collect();
     let (a, b) = (*random.pick(&bounds), *random.pick(&bounds));
     let (start, end) = if random.below(40) == 0 { (1, 2) } else { (a.min(b), a.max(b)) };
-    start as u64 | ((end - start) as u64) << 32
+    (start as u32, (end - start) as u32)
 }
