@@ -179,11 +179,11 @@ root-translates = record { isQuery = refl; isPlan = refl; isPool = refl; planFit
 
 -- a table of one null
 abbrev pub nullTable : List ℕ
-nullTable = replicate 24 0
+nullTable = node 0 0 0 0 0 0
 
 -- and one of a kind that there is not
 abbrev pub eighthKind : List ℕ
-eighthKind = 0x08 ∷ replicate 23 0
+eighthKind = node 8 0 0 0 0 0
 
 -- and one of a text of one byte
 abbrev pub longText : List ℕ

@@ -18,7 +18,7 @@ use Rattle.definition.specs.Tables.{checkTable, tree}
 use Rattle.definition.specs.Tables.Checked.{accepted}
 use Rattle.definition.specs.Evaluation.{selected}
 use Rattle.definition.specs.Outcomes.{Translates}
-use Rattle.definition_examples.specs.Sample.{root as rootMap, listA, textB, ten, twenty, thirty, sampleTable, sampleText}
+use Rattle.definition_examples.specs.Sample.{node, under, root as rootMap, listA, textB, ten, twenty, thirty, sampleTable, sampleText}
 use Rattle.definition_examples.specs.Computes.{computes}
 use Rattle.promises_stated.specs.Promises.{Listed, Version, Serves, AllServed}
 use Rattle.promises_stated.specs.Running.{runs-list}
@@ -43,17 +43,17 @@ serving = record { isQuery = refl; isPlan = refl; isPool = refl; planFits = omeg
 
 -- node 3 as the float 20.5, node 4 as the text é, node 5 as null
 abbrev floatThere : List ℕ
-floatThere = 0x04 ∷ 0x02 ∷ 0x00 ∷ 0x00 ∷ 0x00 ∷ 0x00 ∷ 0x00 ∷ 0x00 ∷ 0x00 ∷ 0x00 ∷ 0x00 ∷ 0x00 ∷ 0x01 ∷ 0x00 ∷ 0x00 ∷ 0x00 ∷ 0x00 ∷ 0x00 ∷ 0x00 ∷ 0x00 ∷ 0x00 ∷ 0x80 ∷ 0x34 ∷ 0x40 ∷ []
+floatThere = under 1 (node 4 2 0 0 0 0x40348000)
 
 abbrev textThere : List ℕ
-textThere = 0x05 ∷ 0x02 ∷ 0x00 ∷ 0x00 ∷ 0x00 ∷ 0x00 ∷ 0x00 ∷ 0x00 ∷ 0x00 ∷ 0x00 ∷ 0x00 ∷ 0x00 ∷ 0x01 ∷ 0x00 ∷ 0x00 ∷ 0x00 ∷ 0x02 ∷ 0x00 ∷ 0x00 ∷ 0x00 ∷ 0x02 ∷ 0x00 ∷ 0x00 ∷ 0x00 ∷ []
+textThere = under 1 (node 5 2 0 0 2 2)
 
 abbrev nullThere : List ℕ
-nullThere = 0x00 ∷ 0x02 ∷ 0x00 ∷ 0x00 ∷ 0x00 ∷ 0x00 ∷ 0x00 ∷ 0x00 ∷ 0x00 ∷ 0x00 ∷ 0x00 ∷ 0x00 ∷ 0x01 ∷ 0x00 ∷ 0x00 ∷ 0x00 ∷ 0x00 ∷ 0x00 ∷ 0x00 ∷ 0x00 ∷ 0x00 ∷ 0x00 ∷ 0x00 ∷ 0x00 ∷ []
+nullThere = under 1 (node 0 2 0 0 0 0)
 
 -- node 1, under the key a, as the integer 40
 abbrev integerThere : List ℕ
-integerThere = 0x03 ∷ 0x01 ∷ 0x00 ∷ 0x00 ∷ 0x00 ∷ 0x00 ∷ 0x00 ∷ 0x00 ∷ 0x01 ∷ 0x00 ∷ 0x00 ∷ 0x00 ∷ 0x00 ∷ 0x00 ∷ 0x00 ∷ 0x00 ∷ 0x28 ∷ 0x00 ∷ 0x00 ∷ 0x00 ∷ 0x00 ∷ 0x00 ∷ 0x00 ∷ 0x00 ∷ []
+integerThere = node 3 1 0 1 40 0
 
 abbrev version : List ℕ → List ℕ → Version
 version T ns = record { table = T; nodes = ns }
