@@ -8,8 +8,8 @@ ghost use Rattle.number_integers.specs.Signed.{signed};
 ghost use Rattle.number_digits.specs.Runs.{Is, limit, DigitRun};
 ghost use Rattle.number_digits.specs.Unsigned.{UnsignedAnswer};
 
-// Numbers are kept up to this limit, which stands for every larger one.
-const LIMIT: u64 = 10000000000000000000;
+// Ten to the 19, which the N of a float literal is below. Numbers are kept up to this limit, which stands for every larger one.
+pub const LIMIT: u64 = 10000000000000000000;
 
 // From here on one digit more reaches the limit.
 const LIMIT_BEFORE: u64 = 1000000000000000000;

@@ -1,4 +1,5 @@
 // What a number literal stands for, from its sign, its digits and its exponent.
+use number_digits::LIMIT;
 ghost use mathlib.Core.Path.{_≡_};
 ghost use lib.IntN.{pos, _-ℤ_};
 ghost use mathlib.Core.Bool.{true};
@@ -16,8 +17,6 @@ pub enum Literal {
     Beyond,
 }
 
-// Ten to the 19, which the N of a float literal is below.
-const LIMIT: u64 = 10000000000000000000;
 // The largest E of a float literal, and the least one without its minus.
 const MAX_EXPONENT: u64 = 308;
 
