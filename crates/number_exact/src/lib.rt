@@ -1,12 +1,11 @@
 // Which of two neighbouring floats is nearest to a literal, decided exactly by whole numbers of many limbs.
+use number_fives::LEAST;
 ghost use mathlib.Core.Path.{_≡_};
 ghost use Prim.Native.Nat.{_+_, _-_, _<_, _≤_};
 ghost use Rattle.number_fives.specs.Rule.{place, powers};
 ghost use Rattle.number_rounding.specs.Decided.{Best};
 ghost use Rattle.number_leading.specs.Leads.{above, below, Between};
 
-// The place of ten to 0 among the powers.
-const LEAST: usize = 342;
 // Half a unit of the smallest float is 2 ^ -1075.
 const HALF_UNITS: usize = 1075;
 // The limbs that hold every number that is compared: 2,432 bits.

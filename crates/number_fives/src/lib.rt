@@ -2,6 +2,9 @@
 ghost use Prim.Native.Nat.{_<_};
 ghost use Rattle.number_fives.specs.Rule.{Leading, powers};
 
+// The place of 5 ^ 0 in the table: the least E of a float literal, without its minus.
+pub const LEAST: usize = 342;
+
 // One table of 651 entries, of which the one at i belongs to 5 ^ (i - 342), in three parts: a part is stored whole where one of its entries is read.
 const MIDDLE_FROM: usize = 217;
 

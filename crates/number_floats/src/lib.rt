@@ -1,4 +1,5 @@
 // The float of a number literal. Where N and a power of ten are floats, their product or quotient rounds once; everywhere else the crate `number_nearest` finds the bits.
+use number_fives::LEAST;
 ghost use mathlib.Core.Path.{_≡_};
 ghost use mathlib.Core.Bool.{true, false};
 ghost use Prim.Native.Nat.{_+_, _^_, _≤_};
@@ -13,8 +14,6 @@ ghost use Rattle.number_floats.specs.Scaled.{Scaled, onePower};
 const MAX_INT: u64 = 9007199254740991;
 // The largest power of ten that is a float.
 const ONE_POWER: usize = 22;
-// The place of ten to 0 among the powers of `number_nearest`.
-const LEAST: usize = 342;
 // 2^63, the bit of the sign.
 const SIGN: u64 = 9223372036854775808;
 

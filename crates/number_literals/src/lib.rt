@@ -1,5 +1,6 @@
 // What a number literal stands for, from its sign, its digits and its exponent.
 use number_digits::LIMIT;
+use number_fives::LEAST;
 ghost use mathlib.Core.Path.{_≡_};
 ghost use lib.IntN.{pos, _-ℤ_};
 ghost use mathlib.Core.Bool.{true};
@@ -20,7 +21,7 @@ pub enum Literal {
 // The largest E of a float literal, and the least one without its minus.
 const MAX_EXPONENT: u64 = 308;
 
-const MIN_EXPONENT: u64 = 342;
+const MIN_EXPONENT: u64 = LEAST as u64;
 // 2^63, the largest magnitude of an i64, which only a negative one has.
 const LEAST_INT: u64 = 9223372036854775808;
 // The bits of a float: 2^63 for the sign, and 2^52 for one step of the field that is 2047 where it is not finite.
