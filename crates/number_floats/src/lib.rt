@@ -11,7 +11,7 @@ ghost use Rattle.number_rounding.specs.Bits.{infinity, signBit};
 ghost use Rattle.number_floats.specs.Scaled.{Scaled, onePower};
 
 // 2^53-1, the largest whole number of which every smaller one is a float too.
-const MAX_INT: u64 = 9007199254740991;
+pub const MAX_INT: u64 = 9007199254740991;
 // The largest power of ten that is a float.
 const ONE_POWER: usize = 22;
 // 2^63, the bit of the sign.

@@ -1,5 +1,6 @@
 // The readers of ints and of number literals: each reads one rule of the grammar at a place of a text.
 use number_digits::UnsignedRead;
+use number_floats::MAX_INT;
 use number_literals::Literal;
 ghost use mathlib.Core.Path.{_≡_};
 ghost use Prim.Native.Nat.{_≤_};
@@ -8,9 +9,6 @@ ghost use Rattle.number_digits.specs.Runs.{limit};
 ghost use Rattle.number_parse.specs.Ints.{IntAnswer, ranged};
 ghost use Rattle.number_parse.specs.Parts.{WholeAnswer, FractionAnswer, ExponentAnswer, PowerAnswer, IsLetter};
 ghost use Rattle.number_parse.specs.Numbers.{NumberAnswer, isNumberChar, Ends};
-
-// 2^53-1, the largest magnitude of an index, a slice bound or a step.
-const MAX_INT: u64 = 9007199254740991;
 
 // An int with its end and its value, one with its end that is out of range, or none, with the byte that is in the way.
 pub enum IntRead {
@@ -43,7 +41,7 @@ pub enum ExponentRead {
     BadExponent(usize),
 }
 
-// The answer for a magnitude and its sign.
+// The answer for a magnitude and its sign: an index, a slice bound or a step is at most 2^53-1.
 fn range(end: usize, negative: bool, n: u64) -> IntRead
     ensures { λ r. ⌜ r ≡ ranged end negative n ⌝ }
 {
