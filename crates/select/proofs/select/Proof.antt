@@ -10,7 +10,7 @@ early-refusal-requires : tie.Need-early-refusal-requires
 early-refusal-requires c κs = search needs
 
 refusal-of-requires : tie.Need-refusal-of-requires
-refusal-of-requires c κs = ?
+refusal-of-requires c κs = numbered-early (now (c .before .before .before .before .before .before .args .query)) (c .before .early-refusal .ensures) (c .if1 .taken)
 
 returns : tie.Need-returns
 returns c = let o = select-early (c .refusal-of .result) (c .before .before .early-refusal .ensures) (c .before .if1 .taken) (c .refusal-of .ensures) in (o .is, o .only)
