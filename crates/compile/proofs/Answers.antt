@@ -20,7 +20,10 @@ use Rattle.definition.specs.Plans.{planOf, poolOf}
 use Rattle.definition.specs.Walk.{walk}
 use Rattle.definition.specs.Outcomes.{CompileOutcome, early, judge, compileBy, write}
 use Rattle.definition.specs.Outcomes.Reading.{refused, form}
+use Rattle.definition.specs.Walk.{Walked}
+use Rattle.definition.specs.Walk.Walked.{walked}
 use Rattle.compile_forms.specs.Fits.{early-first}
+use Rattle.compile_forms.specs.Walks.{WalkNumber, four, five, six, Keeps, walk-keeps}
 use Rattle.basics.specs.Reads.{ReadsNone, Wrote}
 use Rattle.utf8_laws.specs.Bytes.{by-test}
 use Rattle.utf8_laws.specs.Encode.{utf8-ascii}
@@ -37,7 +40,10 @@ use Rattle.parser_items.specs.declared.State.{State}
 use Rattle.parser_items.specs.declared.Step.{Step}
 use Rattle.parser_items.specs.declared.Step.the-variants as step
 use Rattle.compile_unique.specs.Readings.{OneReading, OneCompile, none-only, tree-only, early-only, compiles-only}
-use Rattle.compile.specs.Steps.{outcome, Rooms, Parsed, ParsePost, whole, none, refusalOf, verdictOf}
+use Rattle.compile.specs.Steps.{outcome, numberOf, Rooms, Parsed, ParsePost, whole, none, refusalOf, verdictOf}
+use Rattle.compile.specs.declared.Compiled.the-variants as compiled
+use Rattle.compile.specs.declared.Refusal.{Refusal}
+use Rattle.compile.specs.declared.Refusal.the-variants.{Malformed}
 
 -- ---- lists
 
@@ -90,6 +96,33 @@ module _ (s : List ℕ) where
   pub early-none : length s ≤ 4096 → isUtf8 s ≡ true → tooDeep s ≡ false → 0 ≡ early s
   unfolding early
   early-none h u d = sym (rw (le-ltb maxQuery (length s) h, u, d))
+
+-- ---- the numbers of a query's refusals
+
+-- 1 to 8, of which 7 is given to none
+abbrev pub QueryNumber : ℕ → Type 0
+QueryNumber n = (0 < n) × (n < 9) × (n ≡ 7 → ⊥)
+
+early-number : (a b c : Bool) → (_≡_ {A = ℕ} (cond a 1 (cond (not b) 2 (cond c 3 0))) 0 → ⊥) → QueryNumber (cond a 1 (cond (not b) 2 (cond c 3 0)))
+early-number true b c h = (omega arith, omega arith, λ e. omega arith)
+early-number false false c h = (omega arith, omega arith, λ e. omega arith)
+early-number false true true h = (omega arith, omega arith, λ e. omega arith)
+early-number false true false h = absurd (h refl)
+
+pub numbered-early : (s : List ℕ) {n : ℕ} → n ≡ early s → (n ≡ 0 → ⊥) → QueryNumber n
+unfolding early
+numbered-early s {n} e h = subst QueryNumber (sym e) (early-number (ltb maxQuery (length s)) (isUtf8 s) (tooDeep s) (λ z. h (e ∙ z)))
+
+walk-number : {n : ℕ} → WalkNumber n → QueryNumber n
+walk-number four = (omega arith, omega arith, λ e. omega arith)
+walk-number five = (omega arith, omega arith, λ e. omega arith)
+walk-number six = (omega arith, omega arith, λ e. omega arith)
+
+judge-number : (w : Walked Query) (n : ℕ) → Keeps w → judge w ≡ refused n → QueryNumber n
+unfolding judge
+judge-number (Walked.refused m) n k e = let f : m ≡ n = cc in subst QueryNumber f (walk-number k)
+judge-number (walked true q) n k e = let f : 8 ≡ n = cc in (omega arith, omega arith, λ z. omega arith)
+judge-number (walked false q) n k e = let z : _≡_ {A = ℕ} 0 1 = cc in absurd (omega (arith, z))
 
 -- ---- the whole query
 
@@ -198,12 +231,15 @@ module _ {s P' L' : List ℕ} {b : State} (p : Parsed s P' L' b) where
       eight : _≡_ {A = ℕ} 8 0 → ⊥
       eight x = omega arith
 
+  pub numbered : {n : ℕ} → n ≡ verdictOf b → (n ≡ 0 → ⊥) → QueryNumber n
+  numbered {n} e k = judge-number (walk (p .tree)) n (walk-keeps (p .tree)) (judged (λ z. k (e ∙ z)) ∙ ap refused (sym e))
+
   -- ---- the outcome
 
-  pub outcome-refused : {P L : List ℕ} {n : ℕ} → early s ≡ 0 → n ≡ verdictOf b → (n ≡ 0 → ⊥) → OneCompile s P L (record { refusal = n; planLength = 0; poolLength = 0; planRoom = P; poolRoom = L })
+  pub outcome-refused : {P L : List ℕ} {n : ℕ} (w : Refusal) → early s ≡ 0 → n ≡ verdictOf b → (n ≡ 0 → ⊥) → numberOf w ≡ n → OneCompile s P L (outcome (compiled.Refused w) P L)
   unfolding compileBy
-  outcome-refused {P} {L} {n} h e k =
-      let j : judge (walk (p .tree)) ≡ refused n = judged (λ z. k (e ∙ z)) ∙ ap refused (sym e) in
+  outcome-refused {P} {L} {n} w h e k g =
+      let j : judge (walk (p .tree)) ≡ refused (numberOf w) = judged (λ z. k (e ∙ z)) ∙ ap refused (sym e ∙ sym g) in
       compiles-only (subst (OneReading s) j (reading h)) refl
 
   pub outcome-form : {P L : List ℕ} {n : ℕ} {o : CompileOutcome} → early s ≡ 0 → n ≡ verdictOf b → n ≡ 0 → o ≡ write (leb (b .len) (length P) && leb (b .pool) (length L)) (take (b .len) P') (take (b .pool) L') P L → OneCompile s P L o
@@ -217,14 +253,14 @@ module _ {s P' L' : List ℕ} {b : State} (p : Parsed s P' L' b) where
       compiles-only (subst (OneReading s) (f .is) (reading h)) (w ∙ (λ i. write (leb (l i) (length P) && leb (m i) (length L)) (x i) (y i) P L))
 
 -- no tree
-pub outcome-none : {s P L : List ℕ} → early s ≡ 0 → ((t : G.Query) → spell t ≡ s → ⊥) → OneCompile s P L (record { refusal = 4; planLength = 0; poolLength = 0; planRoom = P; poolRoom = L })
+pub outcome-none : {s P L : List ℕ} → early s ≡ 0 → ((t : G.Query) → spell t ≡ s → ⊥) → OneCompile s P L (outcome (compiled.Refused Malformed) P L)
 unfolding compileBy
 outcome-none h f = compiles-only (none-only h f) refl
 
 -- a refusal before the grammar
-pub outcome-early : {s P L : List ℕ} {n : ℕ} → n ≡ early s → (n ≡ 0 → ⊥) → OneCompile s P L (record { refusal = n; planLength = 0; poolLength = 0; planRoom = P; poolRoom = L })
+pub outcome-early : {s P L : List ℕ} {n : ℕ} (w : Refusal) → n ≡ early s → (n ≡ 0 → ⊥) → numberOf w ≡ n → OneCompile s P L (outcome (compiled.Refused w) P L)
 unfolding compileBy
-outcome-early {s} {P} {L} e k = compiles-only (early-only (λ z. k (e ∙ z))) (ap (λ (m : ℕ). record { refusal = m; planLength = 0; poolLength = 0; planRoom = P; poolRoom = L }) e)
+outcome-early {s} {P} {L} w e k g = compiles-only (early-only (λ z. k (e ∙ z))) (ap (λ (m : ℕ). record { refusal = m; planLength = 0; poolLength = 0; planRoom = P; poolRoom = L }) (g ∙ e))
 
 -- ---- from the answer of parse
 
@@ -243,21 +279,21 @@ none-of {s} {P} {P'} {L} {L'} h i e = go (rw e at h)
 -- ---- delivery
 
 module _ (A B P L : List ℕ) {n m : ℕ} (h : n ≤ length A) (k : m ≤ length B) where
-  too-small : (leb n (length P) && leb m (length L)) ≡ false → record { refusal = 12; planLength = n; poolLength = m; planRoom = P; poolRoom = L } ≡ write (leb n (length P) && leb m (length L)) (take n A) (take m B) P L
+  too-small : (leb n (length P) && leb m (length L)) ≡ false → outcome (compiled.SmallRoom n m) P L ≡ write (leb n (length P) && leb m (length L)) (take n A) (take m B) P L
   unfolding write
   too-small e = rw (e, short A n h, short B m k)
 
   -- the plan's room is too small
-  pub small-plan : length P < n → record { refusal = 12; planLength = n; poolLength = m; planRoom = P; poolRoom = L } ≡ write (leb n (length P) && leb m (length L)) (take n A) (take m B) P L
+  pub small-plan : length P < n → outcome (compiled.SmallRoom n m) P L ≡ write (leb n (length P) && leb m (length L)) (take n A) (take m B) P L
   small-plan x = too-small (rw (lt-leb n (length P) x))
 
   -- the pool's room is too small
-  pub small-pool : n ≤ length P → length L < m → record { refusal = 12; planLength = n; poolLength = m; planRoom = P; poolRoom = L } ≡ write (leb n (length P) && leb m (length L)) (take n A) (take m B) P L
+  pub small-pool : n ≤ length P → length L < m → outcome (compiled.SmallRoom n m) P L ≡ write (leb n (length P) && leb m (length L)) (take n A) (take m B) P L
   small-pool x y = too-small (rw (le-leb n (length P) x, lt-leb m (length L) y))
 
   -- both are large enough
   pub fits-both : {P' L' : List ℕ} → n ≤ length P → m ≤ length L → Wrote P 0 (take n A) P' → Wrote L 0 (take m B) L'
-      → record { refusal = 0; planLength = n; poolLength = m; planRoom = P'; poolRoom = L' } ≡ write (leb n (length P) && leb m (length L)) (take n A) (take m B) P L
+      → outcome (compiled.Written n m) P' L' ≡ write (leb n (length P) && leb m (length L)) (take n A) (take m B) P L
   unfolding write
   fits-both x y v w = rw (le-leb n (length P) x, le-leb m (length L) y, short A n h, short B m k, v .is, w .is)
 

@@ -16,10 +16,25 @@ use Rattle.parser_items.specs.declared.State.{State}
 use Rattle.parser_items.specs.declared.Step.{Step}
 use Rattle.parser_items.specs.declared.Step.the-variants as step
 use Rattle.compile.specs.declared.Compiled.{Compiled}
+use Rattle.compile.specs.declared.Compiled.the-variants as compiled
+use Rattle.compile.specs.declared.Refusal.{Refusal}
+use Rattle.compile.specs.declared.Refusal.the-variants.{TooLong, NotUtf8, TooDeep, Malformed, Mistyped, UnknownFunction, BeyondRange}
 
--- the outcome that an answer and what both rooms hold afterwards are
+-- "Refusal numbers": those of a query
+abbrev pub numberOf : Refusal → ℕ
+numberOf TooLong = 1
+numberOf NotUtf8 = 2
+numberOf TooDeep = 3
+numberOf Malformed = 4
+numberOf Mistyped = 5
+numberOf UnknownFunction = 6
+numberOf BeyondRange = 8
+
+-- the outcome that an answer and what both rooms hold afterwards are; "Number fields that a row doesn't name are 0"
 abbrev pub outcome : Compiled → List ℕ → List ℕ → CompileOutcome
-outcome r P L = record { refusal = r .refusal; planLength = r .plan; poolLength = r .pool; planRoom = P; poolRoom = L }
+outcome (compiled.Written n m) P L = record { refusal = 0; planLength = n; poolLength = m; planRoom = P; poolRoom = L }
+outcome (compiled.Refused w) P L = record { refusal = numberOf w; planLength = 0; poolLength = 0; planRoom = P; poolRoom = L }
+outcome (compiled.SmallRoom n m) P L = record { refusal = 12; planLength = n; poolLength = m; planRoom = P; poolRoom = L }
 
 -- room enough for a query: 15 bytes of plan and one of pool for each byte
 pub record Rooms (s P L : List ℕ) : Type 0 where

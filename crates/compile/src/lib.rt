@@ -1,10 +1,12 @@
 // Compile: from any bytes to a plan and a pool, or the right refusal.
 // The plan and the pool are written in rooms of this crate's own; only what is known to be right, and to fit, is copied into the lent rooms.
+pub mod refusals;
 pub mod rooms;
 
 ghost use mathlib.Core.Path.{_≡_};
 ghost use Rattle.definition.specs.Outcomes.{CompileOutcome, Compiles};
 ghost use Rattle.compile.specs.Steps.{outcome};
+use refusals::refusal_of;
 use rooms::BRIEF;
 use rooms::NO_BYTE;
 use rooms::SHORT;
@@ -17,11 +19,32 @@ use rooms::compile_small;
 use rooms::compile_tiny;
 use rooms::early_refusal;
 
-// Refusal 0 and the lengths of plan and pool; or the refusal, with both lengths needed where it is 12 and with 0 and 0 otherwise.
-pub struct Compiled {
-    pub refusal: u8,
-    pub plan: usize,
-    pub pool: usize,
+// Why a query is refused.
+pub enum Refusal {
+    // 1: it is longer than 4,096 bytes.
+    TooLong,
+    // 2: it is not UTF-8.
+    NotUtf8,
+    // 3: its bracket count passes 32.
+    TooDeep,
+    // 4: it is not in the grammar, or an index, a bound or a step is out of range.
+    Malformed,
+    // 5: a function, an operand or a test is not well typed.
+    Mistyped,
+    // 6: it calls an unknown function.
+    UnknownFunction,
+    // 8: a float literal is beyond its range.
+    BeyondRange,
+}
+
+// What compile comes to.
+pub enum Compiled {
+    // The plan and the pool are written, of these lengths.
+    Written(usize, usize),
+    // The query is refused.
+    Refused(Refusal),
+    // Refusal 12: the plan and the pool have these lengths, and one of the rooms is too small.
+    SmallRoom(usize, usize),
 }
 
 // "Compile: 1, 2, 3, 4 by grammar, then the first of 4, 5, 6 in the Rust's walk", then 8, 12. There is one outcome for each input.
@@ -31,11 +54,7 @@ pub fn compile(query: &[u8], plan: &mut [u8], pool: &mut [u8]) -> Compiled
 {
     let refusal = early_refusal(query);
     if refusal != 0 {
-        return Compiled {
-            refusal,
-            plan: 0,
-            pool: 0,
-        };
+        return Compiled::Refused(refusal_of(refusal));
     }
     if query.len() <= TINY {
         return compile_tiny(query, plan, pool);

@@ -1,5 +1,7 @@
 // A query read in a room of its own, and its plan and pool copied where they are wanted.
 use crate::Compiled;
+use crate::Refusal;
+use crate::refusals::refusal_of;
 use parser::query as parse_query;
 use parser_items::BEYOND;
 use parser_items::State;
@@ -111,7 +113,7 @@ pub fn verdict(st: State) -> u8
     if marks < BEYOND { 0 } else { 8 }
 }
 
-// The first n bytes of one room and the first m of the other, copied where both fit; otherwise 12 and both lengths.
+// The first n bytes of one room and the first m of the other, copied where both fit; otherwise both lengths.
 fn deliver(
     from: &[u8],
     n: usize,
@@ -124,26 +126,14 @@ fn deliver(
     ensures { λ r. ⌜ Delivers (now (from .entry)) n (now (texts .entry)) m (now (plan .entry)) (now (pool .entry)) (outcome r (now (plan .exit)) (now (pool .exit))) ⌝ }
 {
     if plan.len() < n {
-        return Compiled {
-            refusal: 12,
-            plan: n,
-            pool: m,
-        };
+        return Compiled::SmallRoom(n, m);
     }
     if pool.len() < m {
-        return Compiled {
-            refusal: 12,
-            plan: n,
-            pool: m,
-        };
+        return Compiled::SmallRoom(n, m);
     }
     copy_part(from, 0, n, plan, 0);
     copy_part(texts, 0, m, pool, 0);
-    Compiled {
-        refusal: 0,
-        plan: n,
-        pool: m,
-    }
+    Compiled::Written(n, m)
 }
 
 // A query that no early refusal meets, read in the two rooms given. What is handed on is `&query[0..]`, the same slice, since LLVM then keeps the one at hand in
@@ -159,19 +149,11 @@ fn compile_in(
     ensures { λ r. ⌜ OneCompile (now (query .entry)) (now (plan .entry)) (now (pool .entry)) (outcome r (now (plan .exit)) (now (pool .exit))) ⌝ }
 {
     match parse(&query[0..], room, texts) {
-        Step::Stop(_) => Compiled {
-            refusal: 4,
-            plan: 0,
-            pool: 0,
-        },
+        Step::Stop(_) => Compiled::Refused(Refusal::Malformed),
         Step::Next(st, _) => {
             let refusal = verdict(st);
             if refusal != 0 {
-                return Compiled {
-                    refusal,
-                    plan: 0,
-                    pool: 0,
-                };
+                return Compiled::Refused(refusal_of(refusal));
             }
             deliver(room, st.len, texts, st.pool, plan, pool)
         }

@@ -9,3 +9,4 @@ pub mod Literal
 pub mod Rights
 pub mod Right
 pub mod Keeps
+pub mod Walks

@@ -23,7 +23,7 @@ fn bad_line() -> bool {
 
 // Compiles a query and writes what it comes to. The answer is whether that is the refusal given.
 fn verdict(query: &[u8], want: usize, plan: &mut [u8], pool: &mut [u8]) -> bool {
-    let c = compile::compile(query, plan, pool);
+    let c = refusals::of_compile(compile::compile(query, plan, pool));
     let refusal = c.refusal as usize;
     if refusal == 0 {
         io::write_all(STDOUT_FILENO, b"ok");

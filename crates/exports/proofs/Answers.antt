@@ -8,19 +8,12 @@ use borrow.Author.Tests.{ne-eqb}
 use Rattle.definition.specs.Bytes.{part}
 use Rattle.definition.specs.Tables.{Checked}
 use Rattle.definition.specs.Tables.Checked.{accepted, sized, wrongAt, textAt}
-use Rattle.definition.specs.TableOutcomes.{PartOutcome, partBy, foundPart, refusedPart}
-use Rattle.definition.specs.Paths.{PathOutcome}
+use Rattle.definition.specs.TableOutcomes.{TableOutcome, PartOutcome, partBy, foundPart, refusedPart}
+use Rattle.definition.specs.Outcomes.{RunOutcome}
 use Rattle.promises_stated.specs.Promises.{Settled, ChecksPlanOnly}
-use Rattle.table_path.specs.declared.PathWritten.{PathWritten}
-use Rattle.table_path.specs.Outcomes.{told}
 use Rattle.plan_check.specs.Checks.{refusal}
-use Rattle.run.specs.declared.Ran.{Ran}
-use Rattle.run.specs.Outcomes.{ran}
-use Rattle.select.specs.declared.Selection.{Selection}
-use Rattle.select.specs.Selections.{selected}
-use Rattle.table.specs.declared.TableChecked.{TableChecked}
-use Rattle.table.specs.Outcomes.{reported, answered}
-use Rattle.exports.specs.Outcomes.{Placed}
+use Rattle.table.specs.Outcomes.{answered}
+use Rattle.exports.specs.Outcomes.{told, ranTo, Placed}
 
 -- ---- parts of the text
 
@@ -66,27 +59,15 @@ module _ (c : Checked) (b : Bool) (X s : List ℕ) (at n k : ℕ) (e : answered 
 pub checks-as : {plan pool : List ℕ} {b b' : Bool} → ChecksPlanOnly plan pool (refusal b) → b ≡ b' → ChecksPlanOnly plan pool (refusal b')
 checks-as {plan} {pool} a e = subst (λ (x : Bool). ChecksPlanOnly plan pool (refusal x)) e a
 
--- ---- run and select
-
--- an answer's numbers, from the case that it is
-pub tells : {r r' : Ran} → r ≡ r' → (L : List ℕ) → ran r' L ≡ ran r L
-tells e L = ap (λ (x : Ran). ran x L) (sym e)
+-- ---- the numbers of an answer
 
 -- the one outcome, by another name
 pub settled-as : {A : Type 0} {F : A → Type 0} {o o' : A} → Settled F o → o' ≡ o → Settled F o'
 settled-as {F = F} a e = subst (Settled F) (sym e) a
 
--- what a selection comes to, from the case that it is
-pub selects-told : {r r' : Selection} → r ≡ r' → (L : List ℕ) → selected r' L ≡ selected r L
-selects-told e L = ap (λ (x : Selection). selected x L) (sym e)
+-- numbers that are handed out as they were told
+pub check-handed : {n m i j : ℕ} {o : TableOutcome} → n ≡ m → i ≡ j → told m j ≡ o → told n i ≡ o
+check-handed e f h = ap₂ told e f ∙ h
 
--- ---- the checks of a table
-
--- an answer's numbers, from the case that it is
-pub check-told : {r r' : TableChecked} → r ≡ r' → reported r' ≡ reported r
-check-told e = ap reported (sym e)
-
--- ---- path of a node
-
-pub path-told : {r r' : PathWritten} (B : List ℕ) {o : PathOutcome} → r ≡ r' → told r B ≡ o → told r' B ≡ o
-path-told B e h = ap (λ (x : PathWritten). told x B) (sym e) ∙ h
+pub run-handed : {n m k l i j : ℕ} {L : List ℕ} {o : RunOutcome} → n ≡ m → k ≡ l → i ≡ j → ranTo m l j L ≡ o → ranTo n k i L ≡ o
+run-handed {m = m} {k = k} {i = i} {L = L} e f g h = ap (λ (x : ℕ). ranTo x k i L) e ∙ ap₂ (λ (x y : ℕ). ranTo m x y L) f g ∙ h

@@ -7,8 +7,6 @@ use lib.Dec.{eqb}
 use Rattle.definition.specs.TableOutcomes.{TableOutcome}
 use Rattle.definition.specs.Paths.{PathOutcome}
 use Rattle.definition.specs.Outcomes.{CompileOutcome, RunOutcome}
-use Rattle.run.specs.declared.Ran.{Ran}
-use Rattle.run.specs.Outcomes.{ran}
 
 abbrev pub told : ℕ → ℕ → TableOutcome
 told n i = record { refusal = n; node = i }
@@ -26,7 +24,3 @@ compiled n p l P L = record { refusal = n; planLength = p; poolLength = l; planR
 
 abbrev pub ranTo : ℕ → ℕ → ℕ → List ℕ → RunOutcome
 ranTo n k i L = record { refusal = n; count = k; node = i; places = L }
-
--- the numbers that a run's answer comes to, whatever the lent list holds
-abbrev pub Tells : Ran → ℕ → ℕ → ℕ → Type 0
-Tells r n k i = (L : List ℕ) → ranTo n k i L ≡ ran r L

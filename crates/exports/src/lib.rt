@@ -2,34 +2,21 @@
 // include/stewpebble.h declares them for C.
 ghost use Rattle.promises_stated.specs.Promises.{CompilesOnly, SelectsOnly, RunsOnly, ChecksPlanOnly, ChecksRecordsOnly, ChecksTextsOnly, ChecksTableOnly, TextOnly, KeyOnly, PathOnly, TalliesOnly};
 ghost use mathlib.Core.Path.{_≡_};
-ghost use Rattle.table.specs.Outcomes.{reported, answered};
+ghost use Rattle.table.specs.Outcomes.{answered};
 ghost use Rattle.tally.specs.Counts.{tallied};
 ghost use Rattle.definition.specs.Bytes.{part};
 ghost use Rattle.definition.specs.Tables.{lowWord, highWord, keyStart, keyLength};
-ghost use Rattle.exports.specs.Outcomes.{told, Placed, addressed, compiled, ranTo, Tells};
-use run::Ran;
-use select::Selection;
-use table::TableChecked;
+ghost use Rattle.exports.specs.Outcomes.{told, Placed, addressed, compiled, ranTo};
+use refusals::CheckNumbers;
+use refusals::RunNumbers;
 use table::records;
-use table_path::PathWritten;
 
-// The numbers of a check's answer: the refusal, 0 for none; the node of refusals 10 and 17, and 0 otherwise.
-fn tell_check(checked: TableChecked, node: &mut u64) -> u32
-    ensures { λ r. ⌜ told r (now (node .exit)) ≡ reported checked ⌝ }
+// Hands out the numbers of a check's answer.
+fn tell_check(numbers: CheckNumbers, node: &mut u64) -> u32
+    ensures { λ r. ⌜ (r ≡ numbers .refusal) × (now (node .exit) ≡ numbers .node) ⌝ }
 {
-    *node = 0;
-    match checked {
-        TableChecked::Accepted => 0,
-        TableChecked::WrongSize => 9,
-        TableChecked::WrongNode(i) => {
-            *node = i as u64;
-            10
-        }
-        TableChecked::WrongText(i) => {
-            *node = i as u64;
-            17
-        }
-    }
+    *node = numbers.node as u64;
+    numbers.refusal as u32
 }
 
 // The check of the records alone: the refusal, 0 for none; the node of refusal 10 is set, and 0 otherwise.
@@ -37,7 +24,8 @@ fn tell_check(checked: TableChecked, node: &mut u64) -> u32
 pub extern "C" fn stewpebble_check_records(table: &[u8], text: &[u8], node: &mut u64) -> u32
     ensures { λ r. ⌜ ChecksRecordsOnly (now (table .entry)) (now (text .entry)) (told r (now (node .exit))) ⌝ }
 {
-    tell_check(promises::check_records(table, text), node)
+    let checked = promises::check_records(table, text);
+    tell_check(refusals::of_check(checked), node)
 }
 
 // The check of the texts and keys alone: the refusal, 0 for none; the node of refusal 17 is set, and 0 otherwise.
@@ -45,7 +33,8 @@ pub extern "C" fn stewpebble_check_records(table: &[u8], text: &[u8], node: &mut
 pub extern "C" fn stewpebble_check_texts(table: &[u8], text: &[u8], node: &mut u64) -> u32
     ensures { λ r. ⌜ ChecksTextsOnly (now (table .entry)) (now (text .entry)) (told r (now (node .exit))) ⌝ }
 {
-    tell_check(promises::check_texts(table, text), node)
+    let checked = promises::check_texts(table, text);
+    tell_check(refusals::of_check(checked), node)
 }
 
 // The pair of checks: the refusal, 0 for none; the node of refusals 10 and 17 is set, and 0 otherwise.
@@ -53,7 +42,8 @@ pub extern "C" fn stewpebble_check_texts(table: &[u8], text: &[u8], node: &mut u
 pub extern "C" fn stewpebble_check_table(table: &[u8], text: &[u8], node: &mut u64) -> u32
     ensures { λ r. ⌜ ChecksTableOnly (now (table .entry)) (now (text .entry)) (told r (now (node .exit))) ⌝ }
 {
-    tell_check(promises::check_table(table, text), node)
+    let checked = promises::check_table(table, text);
+    tell_check(refusals::of_check(checked), node)
 }
 
 // Text of a node: the refusal, 0 for none; where the part of the lent text that holds it starts and its length are set, and 0 and 0 with every refusal.
@@ -116,29 +106,11 @@ pub extern "C" fn stewpebble_path_of_node(
 ) -> u32
     ensures { λ r. ⌜ PathOnly (now (table .entry)) (now (text .entry)) node (now (room .entry)) (addressed r (now (length .exit)) (now (wrong .exit)) (now (room .exit))) ⌝ }
 {
-    let answer = promises::path_of_node(table, text, node, room);
-    *length = 0;
-    *wrong = 0;
-    match answer {
-        PathWritten::Written(n) => {
-            *length = n as u64;
-            0
-        }
-        PathWritten::WrongSize => 9,
-        PathWritten::WrongNode(i) => {
-            *wrong = i as u64;
-            10
-        }
-        PathWritten::WrongText(i) => {
-            *wrong = i as u64;
-            17
-        }
-        PathWritten::NoNode => 15,
-        PathWritten::SmallRoom(n) => {
-            *length = n as u64;
-            16
-        }
-    }
+    let written = promises::path_of_node(table, text, node, room);
+    let numbers = refusals::of_path(written);
+    *length = numbers.size as u64;
+    *wrong = numbers.node as u64;
+    numbers.refusal as u32
 }
 
 // Compile: the refusal, 0 for none; the lengths of plan and pool are set, also where refusal 12 names them, and 0 otherwise.
@@ -152,10 +124,11 @@ pub extern "C" fn stewpebble_compile(
 ) -> u32
     ensures { λ r. ⌜ CompilesOnly (now (query .entry)) (now (plan .entry)) (now (pool .entry)) (compiled r (now (planned .exit)) (now (pooled .exit)) (now (plan .exit)) (now (pool .exit))) ⌝ }
 {
-    let c = promises::compile(query, plan, pool);
-    *planned = c.plan as u64;
-    *pooled = c.pool as u64;
-    c.refusal as u32
+    let compiled = promises::compile(query, plan, pool);
+    let numbers = refusals::of_compile(compiled);
+    *planned = numbers.plan as u64;
+    *pooled = numbers.pool as u64;
+    numbers.refusal as u32
 }
 
 // Plan check: 11, or 0 where the plan and the pool are the translation of a query form.
@@ -182,30 +155,13 @@ pub extern "C" fn stewpebble_tally(
     promises::tally(plan, pool, counts, plans) as u32
 }
 
-// The numbers of a run's answer: the refusal, 0 for none; the number of nodes selected, and 0 with every refusal; the node of refusals 10 and 17, and 0 otherwise.
-fn tell(ran: Ran, count: &mut u64, node: &mut u64) -> u32
-    ensures { λ r. ⌜ Tells ran r (now (count .exit)) (now (node .exit)) ⌝ }
+// Hands out the numbers of a run's answer.
+fn tell(numbers: RunNumbers, count: &mut u64, node: &mut u64) -> u32
+    ensures { λ r. ⌜ (r ≡ numbers .refusal) × (now (count .exit) ≡ numbers .count) × (now (node .exit) ≡ numbers .node) ⌝ }
 {
-    *count = 0;
-    *node = 0;
-    match ran {
-        Ran::Selected(n) => {
-            *count = n as u64;
-            0
-        }
-        Ran::WrongPlan => 11,
-        Ran::WrongSize => 9,
-        Ran::WrongNode(i) => {
-            *node = i as u64;
-            10
-        }
-        Ran::WrongText(i) => {
-            *node = i as u64;
-            17
-        }
-        Ran::WrongStart => 14,
-        Ran::NoRoom => 13,
-    }
+    *count = numbers.count as u64;
+    *node = numbers.node as u64;
+    numbers.refusal as u32
 }
 
 // Run: the refusal, 0 for none; the number of nodes selected is set, and 0 with every refusal; the node of refusals 10 and 17 is set, and 0 otherwise.
@@ -223,7 +179,7 @@ pub extern "C" fn stewpebble_run<'a>(
     ensures { λ r. ⌜ RunsOnly (now (plan .entry)) (now (pool .entry)) (now (table .entry)) (now (text .entry)) (now (list .entry)) start (ranTo r (now (count .exit)) (now (node .exit)) (now (list .exit))) ⌝ }
 {
     let ran = promises::run(plan, pool, table, text, list, start);
-    tell(ran, count, node)
+    tell(refusals::of_run(ran), count, node)
 }
 
 // Select: the refusal, 0 for none, with the same numbers as those of run.
@@ -239,12 +195,6 @@ pub extern "C" fn stewpebble_select<'a>(
 ) -> u32
     ensures { λ r. ⌜ SelectsOnly (now (query .entry)) (now (table .entry)) (now (text .entry)) (now (list .entry)) start (ranTo r (now (count .exit)) (now (node .exit)) (now (list .exit))) ⌝ }
 {
-    match promises::select(query, table, text, list, start) {
-        Selection::Refused(refusal) => {
-            *count = 0;
-            *node = 0;
-            refusal as u32
-        }
-        Selection::Ran(ran) => tell(ran, count, node),
-    }
+    let selection = promises::select(query, table, text, list, start);
+    tell(refusals::of_select(selection), count, node)
 }

@@ -5,6 +5,7 @@
 ghost use mathlib.Core.Path.{_≡_};
 ghost use Prim.Native.Nat.{_≤_};
 ghost use lib.ListN.{length};
+ghost use Rattle.compile.specs.Steps.{outcome};
 use compile::Compiled;
 use program_console::output;
 use tally::KINDS;
@@ -53,7 +54,7 @@ fn show(counts: [u64; KINDS]) {
 // Compiles a query. The rooms are never too small, so no query is passed over for them.
 fn compile_query(query: &[u8], plan: &mut [u8], pool: &mut [u8]) -> Compiled
     requires { ⌜ (53248 ≤ length (now plan)) × (4096 ≤ length (now pool)) ⌝ }
-    ensures { λ r. ⌜ (r .refusal ≡ 12 → ⊥) ⌝ }
+    ensures { λ r. ⌜ (outcome r (now (plan .exit)) (now (pool .exit)) .refusal ≡ 12 → ⊥) ⌝ }
 {
     compile::compile(query, plan, pool)
 }
@@ -62,12 +63,9 @@ fn compile_query(query: &[u8], plan: &mut [u8], pool: &mut [u8]) -> Compiled
 fn take(query: &[u8], counts: &mut [u64; KINDS], plans: &mut u64) {
     let mut plan = [0u8; PLAN_ROOM];
     let mut pool = [0u8; POOL_ROOM];
-    let c = compile_query(query, &mut plan, &mut pool);
-    if c.refusal != 0 {
+    let Compiled::Written(n, m) = compile_query(query, &mut plan, &mut pool) else {
         return;
-    }
-    let n = c.plan;
-    let m = c.pool;
+    };
     if PLAN_ROOM < n {
         return;
     }

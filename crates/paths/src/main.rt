@@ -3,7 +3,7 @@
 //
 // A line ends at a line feed, and the last one may lack it. Every other byte belongs to the query; an empty line is a query too, refused 4.
 use program_console::output;
-use program_refusals::Outcome;
+use refusals::RunNumbers;
 
 // Room for one byte more than a query may have: of a longer line so many bytes are taken, and the query is refused by its length all the same.
 const QUERY_ROOM: usize = 4097;
@@ -13,14 +13,14 @@ const PLACES: usize = 4096;
 const LINES: u64 = 0xffff_ffff_ffff_ffff;
 
 // Writes what a query came to.
-fn show(outcome: Outcome, list: &[u32]) {
+fn show(outcome: RunNumbers, list: &[u32]) {
     if outcome.refusal == 0 {
         output::text(b"ok");
         output::next_number(outcome.count);
         output::nodes(list, outcome.count);
     } else {
         output::text(b"refused");
-        output::next_number(outcome.refusal);
+        output::next_number(outcome.refusal as usize);
     }
     output::newline();
 }
@@ -39,7 +39,7 @@ fn answer(query: &[u8]) {
     let text = b"ab\xc3\xa9";
     let mut list = [0u32; PLACES];
     let selection = select::select(query, table, text, &mut list, 0);
-    show(program_refusals::of_select(selection), &list);
+    show(refusals::of_select(selection), &list);
 }
 
 // Answers the line of which so many bytes were read, or one more than its room has if it has more.

@@ -3,7 +3,7 @@ use crate::calls;
 use program_console::output;
 use program_lines::words;
 use program_lines::words::NumberWord;
-use program_refusals::Outcome;
+use refusals::RunNumbers;
 
 // The longest list.
 const LIST_ROOM: usize = 65535;
@@ -42,7 +42,7 @@ pub fn answer<'a>(
 
 fn show_select<'a>(query: &[u8], table: &'a [u8], text: &'a [u8], list: &mut [u32], start: usize) {
     show(
-        program_refusals::of_select(select::select(query, table, text, list, start)),
+        refusals::of_select(select::select(query, table, text, list, start)),
         list,
     );
 }
@@ -56,19 +56,19 @@ fn show_run<'a>(
     start: usize,
 ) {
     show(
-        program_refusals::of_run(run::run(plan, pool, table, text, list, start)),
+        refusals::of_run(run::run(plan, pool, table, text, list, start)),
         list,
     );
 }
 
 // Writes the outcome and the places that were written.
-fn show(outcome: Outcome, list: &[u32]) {
+fn show(outcome: RunNumbers, list: &[u32]) {
     if outcome.refusal == 0 {
         output::text(b"ok");
         output::next_number(outcome.count);
     } else {
         output::text(b"refused");
-        output::next_number(outcome.refusal);
+        output::next_number(outcome.refusal as usize);
         output::next_number(outcome.node);
     }
     show_places(list, written(list));

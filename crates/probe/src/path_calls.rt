@@ -4,7 +4,9 @@ use crate::plan_calls;
 use program_console::output;
 use program_lines::words;
 use program_lines::words::NumberWord;
-use table_path::PathWritten;
+
+// The refusal that names the path's length.
+const SMALL_ROOM: u8 = 16;
 
 // Answers path, whose node and whose room begin at a place.
 pub fn answer(line: &[u8], from: usize, table: &[u8], text: &[u8]) {
@@ -24,27 +26,23 @@ pub fn answer(line: &[u8], from: usize, table: &[u8], text: &[u8]) {
     show(table, text, node, &mut room[0..size]);
 }
 
-// Writes the path into a room, and then the answer.
+// Writes the path into a room, and then the answer: the node of refusals 10 and 17, the length of refusal 16, and 0 otherwise.
 fn show(table: &[u8], text: &[u8], node: usize, room: &mut [u8]) {
-    match table_path::path_of_node(table, text, node, room) {
-        PathWritten::Written(n) => {
-            output::text(b"ok ");
-            output::bytes(words::first(room, n));
-            show_changed(room, n);
-        }
-        PathWritten::WrongSize => refused(9, 0, room),
-        PathWritten::WrongNode(wrong) => refused(10, wrong, room),
-        PathWritten::WrongText(wrong) => refused(17, wrong, room),
-        PathWritten::NoNode => refused(15, 0, room),
-        PathWritten::SmallRoom(n) => refused(16, n, room),
+    let numbers = refusals::of_path(table_path::path_of_node(table, text, node, room));
+    let size = numbers.size;
+    if numbers.refusal == 0 {
+        output::text(b"ok ");
+        output::bytes(words::first(room, size));
+        show_changed(room, size);
+        return;
     }
-}
-
-// Writes a refusal with its number.
-fn refused(refusal: usize, number: usize, room: &[u8]) {
     output::text(b"refused");
-    output::next_number(refusal);
-    output::next_number(number);
+    output::next_number(numbers.refusal as usize);
+    if numbers.refusal == SMALL_ROOM {
+        output::next_number(size);
+    } else {
+        output::next_number(numbers.node);
+    }
     show_changed(room, 0);
 }
 

@@ -57,7 +57,7 @@ fn lend(query: &[u8], plan_room: usize, pool_room: usize) {
 
 // Compiles into two rooms and writes the answer.
 fn show(query: &[u8], plan: &mut [u8], pool: &mut [u8]) {
-    let done = compile::compile(query, plan, pool);
+    let done = refusals::of_compile(compile::compile(query, plan, pool));
     let n = done.plan;
     let m = done.pool;
     if done.refusal == 0 {

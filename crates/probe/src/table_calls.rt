@@ -5,23 +5,24 @@ use program_lines::words;
 use program_lines::words::NumberWord;
 use table::TableChecked;
 
+// The refusal of a check that names no node.
+const WRONG_SIZE: u8 = 9;
+
 // What the lent number holds before a call.
 const NOT_SET: u8 = 255;
 
 // Writes what a check found.
 pub fn show(checked: TableChecked) {
-    match checked {
-        TableChecked::Accepted => output::text(b"ok\n"),
-        TableChecked::WrongSize => output::text(b"refused 9\n"),
-        TableChecked::WrongNode(node) => show_node(b"refused 10", node),
-        TableChecked::WrongText(node) => show_node(b"refused 17", node),
+    let numbers = refusals::of_check(checked);
+    if numbers.refusal == 0 {
+        output::text(b"ok\n");
+        return;
     }
-}
-
-// Writes a refusal and its node.
-fn show_node(refusal: &[u8], node: usize) {
-    output::text(refusal);
-    output::next_number(node);
+    output::text(b"refused");
+    output::next_number(numbers.refusal as usize);
+    if numbers.refusal != WRONG_SIZE {
+        output::next_number(numbers.node);
+    }
     output::newline();
 }
 

@@ -19,7 +19,7 @@ use Rattle.definition.specs.Walk.Walked.{walked}
 use Rattle.definition.specs.Outcomes.{Reading, Reads, early, judge, refusalOf}
 use Rattle.definition.specs.Outcomes.Reading.{refused, form}
 use Rattle.definition.specs.Outcomes.Reads.{tooEarly, noTree, hasTree}
-use Rattle.promises_stated.specs.Walks.{WalkNumber, four, five, six, Keeps, walk-keeps}
+use Rattle.compile_forms.specs.Walks.{WalkNumber, four, five, six, Keeps, walk-keeps}
 use Rattle.promises_stated.specs.Refusals.{TooLong, NotUtf8, TooDeep, WalkFinds, BeyondExact, NotInGrammar, Rule, rule, First, walkRules, queryRules}
 
 -- ---- what is first

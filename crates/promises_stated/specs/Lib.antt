@@ -1,6 +1,5 @@
 pub mod Promises
 pub mod Refusals
-pub mod Walks
 pub mod Firsts
 pub mod Checks
 pub mod Lists

@@ -2,7 +2,7 @@
 use program_console::output;
 use program_lines::words;
 use program_lines::words::ByteWord;
-use program_refusals::Outcome;
+use refusals::RunNumbers;
 use text::parts;
 ghost use Prim.Native.Nat.{_≤_};
 
@@ -70,14 +70,14 @@ fn with_text(line: &[u8], from: usize, query: &[u8], table: &[u8]) -> Verdict {
         ByteWord::Bytes(n, next) => {
             let mut list = [0u32; PLACES];
             let selection = select::select(query, table, words::first(&room, n), &mut list, 0);
-            judge(line, next, program_refusals::of_select(selection), &list)
+            judge(line, next, refusals::of_select(selection), &list)
         }
         _ => bad_line(line),
     }
 }
 
 // Compares what came with the two answers that begin at a place.
-fn judge(line: &[u8], from: usize, outcome: Outcome, list: &[u32]) -> Verdict {
+fn judge(line: &[u8], from: usize, outcome: RunNumbers, list: &[u32]) -> Verdict {
     let middle = words::end(line, words::end(line, from) + 1) + 1;
     if !fits(line, from, outcome, list) {
         show_wrong(line, outcome, list);
@@ -94,7 +94,7 @@ fn judge(line: &[u8], from: usize, outcome: Outcome, list: &[u32]) -> Verdict {
 }
 
 // Writes what came and is not wanted.
-fn show_wrong(line: &[u8], outcome: Outcome, list: &[u32]) {
+fn show_wrong(line: &[u8], outcome: RunNumbers, list: &[u32]) {
     output::text(b"wrong ");
     output::text(name(line));
     if outcome.refusal == 0 {
@@ -103,7 +103,7 @@ fn show_wrong(line: &[u8], outcome: Outcome, list: &[u32]) {
         output::nodes(list, outcome.count);
     } else {
         output::text(b": refused");
-        output::next_number(outcome.refusal);
+        output::next_number(outcome.refusal as usize);
     }
     output::newline();
 }
@@ -136,7 +136,7 @@ fn between(line: &[u8], from: usize, to: usize) -> &[u8] {
 }
 
 // Whether what came is the answer whose two words begin at a place.
-fn fits(line: &[u8], from: usize, outcome: Outcome, list: &[u32]) -> bool {
+fn fits(line: &[u8], from: usize, outcome: RunNumbers, list: &[u32]) -> bool {
     let end = words::end(line, from);
     let kind = kind_of(between(line, from, end));
     let mut room = [0u8; WANTED_ROOM];
@@ -147,18 +147,18 @@ fn fits(line: &[u8], from: usize, outcome: Outcome, list: &[u32]) -> bool {
 }
 
 // Whether what came is the answer of a kind, with its nodes or its number.
-fn fits_kind(kind: Wanted, nodes: &[u8], outcome: Outcome, list: &[u32]) -> bool {
+fn fits_kind(kind: Wanted, nodes: &[u8], outcome: RunNumbers, list: &[u32]) -> bool {
     match kind {
         Wanted::List => selected(nodes, outcome, list) && in_order(nodes, list),
         Wanted::Members => selected(nodes, outcome, list) && in_any_order(nodes, list),
         Wanted::Accepted => outcome.refusal == 0,
-        Wanted::Refused => refused_by(nodes, outcome.refusal),
+        Wanted::Refused => refused_by(nodes, outcome.refusal as usize),
         Wanted::Unknown => false,
     }
 }
 
 // Whether so many nodes were selected as are wanted.
-fn selected(nodes: &[u8], outcome: Outcome, list: &[u32]) -> bool {
+fn selected(nodes: &[u8], outcome: RunNumbers, list: &[u32]) -> bool {
     outcome.refusal == 0 && outcome.count == nodes.len() / 2 && outcome.count <= list.len()
 }
 

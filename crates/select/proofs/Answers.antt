@@ -13,7 +13,9 @@ use Rattle.definition.specs.Outcomes.Reading.{refused, form}
 use Rattle.compile_forms.specs.Keeps.{compiled-keeps}
 use Rattle.compile_unique.specs.Readings.{OneReading, OneSelect, none-only, early-only, selects-only}
 use Rattle.parser_items.specs.declared.State.{State}
-use Rattle.compile.specs.Steps.{Parsed, verdictOf}
+use Rattle.compile.specs.Steps.{Parsed, verdictOf, numberOf}
+use Rattle.compile.specs.declared.Refusal.{Refusal}
+use Rattle.compile.specs.declared.Refusal.the-variants.{Malformed}
 use Rattle.compile.proofs.Answers.{reading, judged, formed}
 use Rattle.run.specs.Outcomes.{ran, Planned, RunsForm}
 use Rattle.run.specs.declared.Ran.{Ran}
@@ -22,10 +24,10 @@ use Rattle.select.specs.declared.Selection.the-variants as selection
 
 module _ {s P' L' : List ℕ} {b : State} (p : Parsed s P' L' b) where
   -- a refusal of the walk
-  pub select-refused : {T X L : List ℕ} {at n : ℕ} → early s ≡ 0 → n ≡ verdictOf b → (n ≡ 0 → ⊥) → OneSelect s T X L at (selected (selection.Refused n) L)
+  pub select-refused : {T X L : List ℕ} {at n : ℕ} (w : Refusal) → early s ≡ 0 → n ≡ verdictOf b → (n ≡ 0 → ⊥) → numberOf w ≡ n → OneSelect s T X L at (selected (selection.Refused w) L)
   unfolding runBy selected
-  select-refused {n = n} h e k =
-      let j : judge (walk (p .tree)) ≡ refused n = judged p (λ z. k (e ∙ z)) ∙ ap refused (sym e) in
+  select-refused w h e k g =
+      let j : judge (walk (p .tree)) ≡ refused (numberOf w) = judged p (λ z. k (e ∙ z)) ∙ ap refused (sym e ∙ sym g) in
       selects-only (subst (OneReading s) j (reading p h)) refl
 
   module _ {n : ℕ} (h : early s ≡ 0) (e : n ≡ verdictOf b) (z : n ≡ 0) where
@@ -57,11 +59,11 @@ pub pool-part : {s P' L' : List ℕ} {b : State} → Parsed s P' L' b → b .poo
 pool-part {L' = L'} {b = b} p = omega (arith, length-take (b .pool) L', p .poolLen)
 
 -- no tree
-pub select-none : {s T X L : List ℕ} {at : ℕ} → early s ≡ 0 → ((t : G.Query) → spell t ≡ s → ⊥) → OneSelect s T X L at (selected (selection.Refused 4) L)
+pub select-none : {s T X L : List ℕ} {at : ℕ} → early s ≡ 0 → ((t : G.Query) → spell t ≡ s → ⊥) → OneSelect s T X L at (selected (selection.Refused Malformed) L)
 unfolding runBy selected
 select-none h f = selects-only (none-only h f) refl
 
 -- a refusal before the grammar
-pub select-early : {s T X L : List ℕ} {at n : ℕ} → n ≡ early s → (n ≡ 0 → ⊥) → OneSelect s T X L at (selected (selection.Refused n) L)
+pub select-early : {s T X L : List ℕ} {at n : ℕ} (w : Refusal) → n ≡ early s → (n ≡ 0 → ⊥) → numberOf w ≡ n → OneSelect s T X L at (selected (selection.Refused w) L)
 unfolding runBy selected
-select-early {L = L} e k = selects-only (early-only (λ z. k (e ∙ z))) (ap (λ (m : ℕ). refuseRun m 0 L) e)
+select-early {L = L} w e k g = selects-only (early-only (λ z. k (e ∙ z))) (ap (λ (m : ℕ). refuseRun m 0 L) (g ∙ e))

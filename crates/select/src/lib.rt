@@ -7,6 +7,8 @@ ghost use Rattle.definition.specs.Outcomes.{RunOutcome, Selects, early};
 ghost use Rattle.compile.specs.Steps.{Rooms};
 ghost use Rattle.compile_unique.specs.Readings.{OneSelect};
 ghost use Rattle.select.specs.Selections.{selected};
+use compile::Refusal;
+use compile::refusals::refusal_of;
 use compile::rooms::BRIEF;
 use compile::rooms::BRIEF_PLAN_ROOM;
 use compile::rooms::BRIEF_POOL_ROOM;
@@ -31,8 +33,8 @@ use run::run_form;
 
 // What a selection comes to.
 pub enum Selection {
-    // The query is refused, by a number from 1 to 6 or 8.
-    Refused(u8),
+    // The query is refused.
+    Refused(Refusal),
     // What running its plan comes to.
     Ran(Ran),
 }
@@ -51,11 +53,11 @@ fn select_in<'a>(
     ensures { λ r. ⌜ OneSelect (now (query .entry)) (now (table .entry)) (now (text .entry)) (now (list .entry)) start (selected r (now (list .exit))) ⌝ }
 {
     match parse(query, room, texts) {
-        Step::Stop(_) => Selection::Refused(4),
+        Step::Stop(_) => Selection::Refused(Refusal::Malformed),
         Step::Next(st, _) => {
             let refusal = verdict(st);
             if refusal != 0 {
-                return Selection::Refused(refusal);
+                return Selection::Refused(refusal_of(refusal));
             }
             let n = st.len;
             let m = st.pool;
@@ -159,7 +161,7 @@ pub fn select<'a>(
 {
     let refusal = early_refusal(query);
     if refusal != 0 {
-        return Selection::Refused(refusal);
+        return Selection::Refused(refusal_of(refusal));
     }
     if query.len() <= TINY {
         return select_tiny(query, table, text, list, start);

@@ -12,7 +12,7 @@ use program_console::output;
 use program_lines::words;
 use program_lines::words::ByteWord;
 use program_lines::words::NumberWord;
-use program_refusals::Outcome;
+use refusals::RunNumbers;
 
 // How many places the list of selected nodes has.
 const PLACES: usize = 1024;
@@ -51,27 +51,27 @@ fn same_nodes(line: &[u8], from: usize, list: &[u32], n: usize) -> bool {
 }
 
 // Whether what came is the answer that begins at a place.
-fn fits(line: &[u8], from: usize, outcome: Outcome, list: &[u32]) -> bool {
+fn fits(line: &[u8], from: usize, outcome: RunNumbers, list: &[u32]) -> bool {
     match words::number(line, from) {
         NumberWord::Is(refusal, next) => {
-            outcome.refusal == refusal && same_nodes(line, next, list, outcome.count)
+            outcome.refusal as usize == refusal && same_nodes(line, next, list, outcome.count)
         }
         NumberWord::Not => false,
     }
 }
 
-fn show(outcome: Outcome, list: &[u32]) {
+fn show(outcome: RunNumbers, list: &[u32]) {
     if outcome.refusal == 0 {
         output::text(b"ok");
         output::nodes(list, outcome.count);
     } else {
         output::text(b"refused");
-        output::next_number(outcome.refusal);
+        output::next_number(outcome.refusal as usize);
     }
 }
 
 // Writes what came, and whether it is the answer behind the row that begins at a place. The answer is whether it is.
-fn judge(line: &[u8], from: usize, outcome: Outcome, list: &[u32]) -> bool {
+fn judge(line: &[u8], from: usize, outcome: RunNumbers, list: &[u32]) -> bool {
     let same = fits(line, words::end(line, from) + 1, outcome, list);
     show(outcome, list);
     if same {
@@ -89,7 +89,7 @@ fn with_text(line: &[u8], from: usize, query: &[u8], table: &[u8]) -> bool {
         ByteWord::Bytes(n, next) => {
             let mut list = [NOT_SET; PLACES];
             let selection = select::select(query, table, words::first(&room, n), &mut list, 0);
-            judge(line, next, program_refusals::of_select(selection), &list)
+            judge(line, next, refusals::of_select(selection), &list)
         }
         _ => bad_line(),
     }

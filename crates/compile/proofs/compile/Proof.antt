@@ -1,5 +1,6 @@
 -- `compile::compile` meets its contract: one outcome for each input.
-use Rattle.compile.proofs.Answers.{outcome-early}
+use Rattle.compile.proofs.Answers.{numbered-early, outcome-early}
+use denote.Ref.{now}
 use borrow.Author.Needs.{needs}
 use Rattle.compile.proofs.compile.Statement.{statement}
 use Rattle.compile.proofs.compile.Tie as tie
@@ -7,8 +8,11 @@ use Rattle.compile.proofs.compile.Tie as tie
 early-refusal-requires : tie.Need-early-refusal-requires
 early-refusal-requires c κs = search needs
 
+refusal-of-requires : tie.Need-refusal-of-requires
+refusal-of-requires c κs = numbered-early (now (c .before .before .before .before .before .args .query)) (c .before .early-refusal .ensures) (c .if1 .taken)
+
 returns : tie.Need-returns
-returns c = let o = outcome-early (c .before .early-refusal .ensures) (c .if1 .taken) in (o .is, o .only)
+returns c = let o = outcome-early (c .refusal-of .result) (c .before .before .early-refusal .ensures) (c .before .if1 .taken) (c .refusal-of .ensures) in (o .is, o .only)
 
 compile-tiny-requires : tie.Need-compile-tiny-requires
 compile-tiny-requires c κs = search needs
@@ -78,6 +82,7 @@ compile-spec =
     tie.close
     (tie.spec
     early-refusal-requires
+    refusal-of-requires
     returns
     compile-tiny-requires
     same-length

@@ -1,4 +1,6 @@
 -- `select::select` meets its contract: one outcome for each input.
+use denote.Ref.{now}
+use Rattle.compile.proofs.Answers.{numbered-early}
 use Rattle.select.proofs.Answers.{select-early}
 use borrow.Author.Needs.{needs}
 use Rattle.select.proofs.select.Statement.{statement}
@@ -7,8 +9,11 @@ use Rattle.select.proofs.select.Tie as tie
 early-refusal-requires : tie.Need-early-refusal-requires
 early-refusal-requires c κs = search needs
 
+refusal-of-requires : tie.Need-refusal-of-requires
+refusal-of-requires c κs = numbered-early (now (c .before .before .before .before .before .before .args .query)) (c .before .early-refusal .ensures) (c .if1 .taken)
+
 returns : tie.Need-returns
-returns c = let o = select-early (c .before .early-refusal .ensures) (c .if1 .taken) in (o .is, o .only)
+returns c = let o = select-early (c .refusal-of .result) (c .before .before .early-refusal .ensures) (c .before .if1 .taken) (c .refusal-of .ensures) in (o .is, o .only)
 
 select-tiny-requires : tie.Need-select-tiny-requires
 select-tiny-requires c κs = search needs
@@ -63,6 +68,7 @@ select-spec =
     tie.close
     (tie.spec
     early-refusal-requires
+    refusal-of-requires
     returns
     select-tiny-requires
     same-length

@@ -1,5 +1,6 @@
 -- `select::select_in` meets its contract: what the plan of a query gives is what the query gives.
-use Rattle.compile.proofs.Answers.{whole-of, none-of}
+use denote.Ref.{now}
+use Rattle.compile.proofs.Answers.{whole-of, none-of, numbered}
 use Rattle.select.proofs.Answers.{select-refused, plan-part, pool-part, planned, select-form, select-none}
 use borrow.Author.Needs.{needs}
 use Rattle.select.proofs.select_in.Statement.{statement}
@@ -23,8 +24,11 @@ same-length c = search needs
 same-length-2 : tie.Need-same-length-2
 same-length-2 c = search needs
 
+refusal-of-requires : tie.Need-refusal-of-requires
+refusal-of-requires c κs = numbered {s = now (c .before .before .before .before .before .before .before .before .before .before .before .before .before .before .before .before .before .before .args .query)} (whole-of (c .before .before .before .before .before .before .before .before .before .parse .ensures) (c .before .before .before .st .given .1)) (c .before .verdict .ensures) (c .if1 .taken)
+
 returns : tie.Need-returns
-returns c = select-refused (whole-of (c .before .before .before .before .before .before .before .before .before .parse .ensures) (c .before .before .before .st .given .1)) (c .before .before .before .before .before .before .before .before .before .before .before .before .before .before .before .before .before .before .pre .1) (c .before .verdict .ensures) (c .if1 .taken)
+returns c = select-refused (whole-of (c .before .before .before .before .before .before .before .before .before .before .parse .ensures) (c .before .before .before .before .st .given .1)) (c .refusal-of .result) (c .before .before .before .before .before .before .before .before .before .before .before .before .before .before .before .before .before .before .before .pre .1) (c .before .before .verdict .ensures) (c .before .if1 .taken) (c .refusal-of .ensures)
 
 slice-reshare-prefix-plan : tie.Need-slice-reshare-prefix-plan
 slice-reshare-prefix-plan c = (whole-of (c .before .before .before .before .before .before .before .before .before .parse .ensures) (c .before .before .before .st .given .1)) .len
@@ -70,6 +74,7 @@ select-in-spec =
     enum-told
     enum-known-st
     verdict-requires
+    refusal-of-requires
     same-length
     same-length-2
     returns

@@ -1,6 +1,7 @@
 -- `compile::rooms::compile_in` meets its contract: the outcome of a query that no early refusal meets.
 use Rattle.parser_items.specs.Laws.{whole}
-use Rattle.compile.proofs.Answers.{rooms-whole, parse-whole, whole-of, none-of, outcome-refused, outcome-form, outcome-none}
+use Rattle.compile.proofs.Answers.{rooms-whole, parse-whole, whole-of, none-of, numbered, outcome-refused, outcome-form, outcome-none}
+use denote.Ref.{now}
 use borrow.Author.Needs.{needs}
 use Rattle.compile.proofs.rooms.compile_in.Statement.{statement}
 use Rattle.compile.proofs.rooms.compile_in.Tie as tie
@@ -32,8 +33,11 @@ same-length c = search needs
 same-length-2 : tie.Need-same-length-2
 same-length-2 c = search needs
 
+refusal-of-requires : tie.Need-refusal-of-requires
+refusal-of-requires c κs = numbered {s = now (c .before .before .before .before .before .before .before .before .before .before .before .before .before .before .before .before .before .before .args .query)} (whole-of (parse-whole (whole _) (c .before .before .before .before .before .before .before .before .before .parse .ensures)) (c .before .before .before .st .given .1)) (c .before .verdict .ensures) (c .if1 .taken)
+
 returns : tie.Need-returns
-returns c = outcome-refused (whole-of (parse-whole (whole _) (c .before .before .before .before .before .before .before .before .before .parse .ensures)) (c .before .before .before .st .given .1)) (c .before .before .before .before .before .before .before .before .before .before .before .before .before .before .before .before .before .before .pre .1) (c .before .verdict .ensures) (c .if1 .taken)
+returns c = outcome-refused (whole-of (parse-whole (whole _) (c .before .before .before .before .before .before .before .before .before .before .parse .ensures)) (c .before .before .before .before .st .given .1)) (c .refusal-of .result) (c .before .before .before .before .before .before .before .before .before .before .before .before .before .before .before .before .before .before .before .pre .1) (c .before .before .verdict .ensures) (c .before .if1 .taken) (c .refusal-of .ensures)
 
 deliver-requires : tie.Need-deliver-requires
 deliver-requires c κs = ((whole-of (parse-whole (whole (c .before .before .before .before .before .before .before .before .before .before .before .before .before .before .before .before .before .before .before .before .before .before .args .query .now)) (c .before .before .before .before .before .before .before .before .before .before .before .before .before .parse .ensures)) (c .before .before .before .before .before .before .before .st .given .1)) .len, (whole-of (parse-whole (whole (c .before .before .before .before .before .before .before .before .before .before .before .before .before .before .before .before .before .before .before .before .before .before .args .query .now)) (c .before .before .before .before .before .before .before .before .before .before .before .before .before .parse .ensures)) (c .before .before .before .before .before .before .before .st .given .1)) .poolLen)
@@ -73,6 +77,7 @@ compile-in-spec =
     enum-told
     enum-known-st
     verdict-requires
+    refusal-of-requires
     same-length
     same-length-2
     returns
