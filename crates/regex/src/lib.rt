@@ -2,6 +2,7 @@
 // room for them, else by the total matcher. Right for every code and text; a search is a test of the widened code.
 use regex_marks::run;
 use regex_marks::weigh;
+use regex_needed::lessen;
 use regex_plain::ask;
 use regex_plain::open_ended;
 use regex_total::matches;
@@ -16,6 +17,9 @@ const MAX_ROOM: usize = 65535;
 
 // The marks take no more words of code; an expression has 8,205 at most.
 const MAX_CODE: usize = 65535;
+
+// Counts are brought down for texts of at most so many bytes.
+const MAX_TEXT: usize = 2147483648;
 
 // A most number of bytes that bounds nothing.
 const NO_BOUND: usize = 2147483648;
@@ -70,4 +74,19 @@ pub fn test(code: &[u32], text: &[u8], marks: &mut [u8]) -> bool
     }
     let end = text.len();
     matches(code, 0, text, 0, end)
+}
+
+// The same of an expression that has too many marks: its counts are first brought down to what the text needs. The words are room too.
+pub fn test_less(code: &[u32], text: &[u8], words: &mut [u32], marks: &mut [u8]) -> bool
+    ensures { λ r. ⌜ Tested (now (code .entry)) (now (text .entry)) r ⌝ }
+{
+    if MAX_TEXT < text.len() {
+        return test(code, text, marks);
+    }
+    let p = lessen(code, 0, 1, 1, text, words, 0);
+    let n = p.end;
+    if words.len() < n {
+        return test(code, text, marks);
+    }
+    test(&words[..n], text, marks)
 }

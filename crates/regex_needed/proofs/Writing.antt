@@ -299,6 +299,10 @@ module _ {s : List ℕ} {at lo hi n : ℕ} {q : List ℕ} {to : ℕ} where
               );
         }
 
+    pub less-ended :
+        {end' : ℕ} → end' ≡ end → Lessened s at (repeated lo hi) n q to q' next end → Lessened s at (repeated lo hi) n q to q' next end'
+    less-ended e p = subst (λ i. Lessened s at (repeated lo hi) n q to q' next i) (sym e) p
+
     -- the empty expression behind a part
     pub less-closed :
         {to' : ℕ} → Word s at 2 → Closes s (at + 1) → Lessened s (at + 1) (repeated lo hi) n q to q' next end
