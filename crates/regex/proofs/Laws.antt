@@ -96,3 +96,7 @@ by-less s t {q} {q'} {next} {n} {b} l h m =
           ∙ told-same (told (a .back (d .0) f) (a .forth (d .0) f) (agree y (d .0))) (agree (widen k x) (d .0))
           ∙ ap (described (widen k x)) (sym c);
     }
+
+-- as many as are taken
+pub taken-long : (n : ℕ) (q : List ℕ) → n ≤ length q → n ≡ length (take n q)
+taken-long n q h = sym (length-take-le n q h)
