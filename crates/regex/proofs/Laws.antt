@@ -20,6 +20,10 @@ use Rattle.regex_marks.specs.Moves.{Fits}
 use Rattle.regex_marks.specs.Runs.{Ran, Weighs, Grows}
 use Rattle.regex_plain.specs.Rows.{Known, Open}
 use Rattle.basics.specs.Reads.{Wrote}
+use Rattle.regex_bytes.specs.Bytes.{Scalars}
+use Rattle.regex_bytes.specs.Points.{points-utf8}
+use Rattle.regex_bytes.proofs.OfBytes.{written, counted}
+use Rattle.regex_places.specs.Places.{Placed}
 use Rattle.regex_needed.specs.Needed.{Alike, Lessened, repeated}
 use Rattle.regex_needed.proofs.Alike.{alike-on, alike-back, alike-once}
 use Rattle.regex.specs.Tested.{Tested, Missed}
@@ -100,3 +104,21 @@ by-less s t {q} {q'} {next} {n} {b} l h m =
 -- as many as are taken
 pub taken-long : (n : ℕ) (q : List ℕ) → n ≤ length q → n ≡ length (take n q)
 taken-long n q h = sym (length-take-le n q h)
+
+-- by places, over the characters of the text
+pub by-places :
+    (s t : List ℕ) {p q : List ℕ} {n : ℕ} {b : Bool} → Scalars t p q n → length t ≤ length p → Placed s (take n q) b → Tested s t b
+by-places s t {p} {q} {n} {b} c h m =
+    record {
+      of =
+          λ k x e u.
+          let z : take n q ≡ scalarsOf t = written c h ∙ points-utf8 t u in
+          told-same (m .of (widen k x) e) (agree (widen k x) (take n q)) ∙ ap (described (widen k x)) z;
+    }
+
+-- the characters of a short text, in a room of 1,024
+pub chars-long : {t p q : List ℕ} {n : ℕ} → Scalars t p q n → length t < 1024 → length p ≡ 1024 → n ≡ length (take n q)
+chars-long c h e = counted c (omega arith)
+
+pub chars-few : {t p q : List ℕ} {n : ℕ} → Scalars t p q n → length t < 1024 → length p ≡ 1024 → length (take n q) < 1024
+chars-few c h e = let l = chars-long c h e in omega (arith, c .few)
