@@ -2,23 +2,30 @@
 use mathlib.Core.Path.{_≡_, ap, sym, _∙_}
 use mathlib.Core.Bool.{Bool, true, false}
 use mathlib.Core.List.{List, []}
-use Prim.Native.Nat.{ℕ, _-_, _≤_, _<_, _^_, min}
+use Prim.Native.Nat.{ℕ, _+_, _-_, _≤_, _<_, _^_, min}
 use native.Mathlib.Omega.{arith}
-use lib.ListN.{length, take}
-use lib.Seq.{length-take-le}
+use lib.ListN.{length, take, drop}
+use lib.Seq.{length-take-le, sets-eq, take-at}
 use Rattle.definition.specs.Utf8.{encodeAll, scalarsOf}
 use Rattle.utf8_laws.specs.Decode.{decode}
 use Rattle.utf8_laws.specs.Scalars.{scalars-encoded}
 use Rattle.regex_definition.specs.Words.{Told, fails}
 use Rattle.regex_definition.specs.Regexp.{Regexp, Describes, described}
-use Rattle.regex_definition.specs.Scope.{widen}
-use Rattle.regex_definition.specs.Agree.{agree, told-same}
+use Rattle.regex_definition.specs.Scope.{whole, widen}
+use Rattle.regex_definition.specs.Agree.{agree, told, told-same}
 use Rattle.regex_code.specs.Flat.{flat}
 use Rattle.regex_chars.specs.Laws.{slice-end}
 use Rattle.regex_total.specs.Answers.{Matched, Widths}
 use Rattle.regex_marks.specs.Moves.{Fits}
 use Rattle.regex_marks.specs.Runs.{Ran, Weighs, Grows}
 use Rattle.regex_plain.specs.Rows.{Known, Open}
+use Rattle.basics.specs.Reads.{Wrote}
+use Rattle.regex_bytes.specs.Bytes.{Scalars}
+use Rattle.regex_bytes.specs.Points.{points-utf8}
+use Rattle.regex_bytes.proofs.OfBytes.{written, counted}
+use Rattle.regex_places.specs.Places.{Placed}
+use Rattle.regex_needed.specs.Needed.{Alike, Lessened, repeated}
+use Rattle.regex_needed.proofs.Alike.{alike-on, alike-back, alike-once}
 use Rattle.regex.specs.Tested.{Tested, Missed}
 
 -- for any expression that the code is of, and any text that the bytes are of
@@ -69,3 +76,49 @@ pub fits :
 fits s ms n m h k e l =
     let q = length-take-le (n - 0) ms (omega arith) in
     record { place = omega arith; words = omega arith; room = omega arith; few = omega arith }
+
+-- what is written from the beginning on stands there
+front : {p q c : List ℕ} (n : ℕ) → n ≡ 0 + length c → n ≤ length p → Wrote p 0 c q → take n q ≡ c
+front {p} {q} {c} n e h w = rw (w .is, sets-eq c p 0 (omega arith)) (take-at c (drop (0 + length c) p) n (omega arith))
+
+-- by an expression that describes the same short texts
+pub by-less :
+    (s t : List ℕ) {q q' : List ℕ} {next n : ℕ} {b : Bool} → Lessened s 0 (repeated 1 1) (length t) q 0 q' next n → n ≤ length q
+    → Tested (take n q') t b → Tested s t b
+by-less s t {q} {q'} {next} {n} {b} l h m =
+    record {
+      of =
+          λ k x e u.
+          let d = decode t u in
+          let c : scalarsOf t ≡ d .0 = ap scalarsOf (sym (d .2)) ∙ scalars-encoded (d .0) in
+          let i = l .of (widen k x) [] e .1 in
+          let y = i .expr in
+          let w = i .written .is h in
+          let a : Alike (length t) (Describes (widen k x)) (Describes y) = alike-on (alike-back (alike-once _)) (i .alike) in
+          let f : length (encodeAll (d .0)) ≤ length t = omega (arith, ap length (d .2)) in
+          m .of whole y (front n (w .0) h (w .1)) u ∙ ap (described y) c
+          ∙ told-same (told (a .back (d .0) f) (a .forth (d .0) f) (agree y (d .0))) (agree (widen k x) (d .0))
+          ∙ ap (described (widen k x)) (sym c);
+    }
+
+-- as many as are taken
+pub taken-long : (n : ℕ) (q : List ℕ) → n ≤ length q → n ≡ length (take n q)
+taken-long n q h = sym (length-take-le n q h)
+
+-- by places, over the characters of the text
+pub by-places :
+    (s t : List ℕ) {p q : List ℕ} {n : ℕ} {b : Bool} → Scalars t p q n → length t ≤ length p → Placed s (take n q) b → Tested s t b
+by-places s t {p} {q} {n} {b} c h m =
+    record {
+      of =
+          λ k x e u.
+          let z : take n q ≡ scalarsOf t = written c h ∙ points-utf8 t u in
+          told-same (m .of (widen k x) e) (agree (widen k x) (take n q)) ∙ ap (described (widen k x)) z;
+    }
+
+-- the characters of a short text, in a room of 1,024
+pub chars-long : {t p q : List ℕ} {n : ℕ} → Scalars t p q n → length t < 1024 → length p ≡ 1024 → n ≡ length (take n q)
+chars-long c h e = counted c (omega arith)
+
+pub chars-few : {t p q : List ℕ} {n : ℕ} → Scalars t p q n → length t < 1024 → length p ≡ 1024 → length (take n q) < 1024
+chars-few c h e = let l = chars-long c h e in omega (arith, c .few)

@@ -1,14 +1,19 @@
 // The test of a text by the code of an expression, in a room for marks that is as small as it may be.
 use regex::test;
+use regex::test_less;
 use regex_marks::weigh;
 ghost use Rattle.regex.specs.Tested.{Tested};
 
-// Rooms for marks: a byte for each character position of the written-out expression. Where the largest is too small, the test goes without marks.
+// Rooms for marks: a byte for each character position of the written-out expression. Where the largest is too small, the counts are brought down to what the text needs
+// first, in a room for the code; and where it is too small still, the test goes without marks.
 const FEW: usize = 256;
 
 const MORE: usize = 4096;
 
 const MOST: usize = 65535;
+
+// The most words that an expression's code has, and some.
+const WORDS: usize = 8207;
 
 // A byte that is no kind of a plan's item.
 const NO_KIND: u8 = 255;
@@ -44,6 +49,17 @@ fn with_most(code: &[u32], text: &[u8], again: u8) -> bool
     test(code, text, &mut marks)
 }
 
+fn with_less(code: &[u32], text: &[u8], again: u8) -> bool
+    ensures { λ r. ⌜ Tested (now (code .entry)) (now (text .entry)) r ⌝ }
+{
+    if 0 < again {
+        return with_less(code, text, again - 1);
+    }
+    let mut words = [0u32; WORDS];
+    let mut marks = [0u8; MOST];
+    test_less(code, text, &mut words, &mut marks)
+}
+
 // Whether the text is described by the expression that the code is of.
 pub fn test_within(kind: u8, code: &[u32], text: &[u8]) -> bool
     ensures { λ r. ⌜ Tested (now (code .entry)) (now (text .entry)) r ⌝ }
@@ -58,5 +74,8 @@ pub fn test_within(kind: u8, code: &[u32], text: &[u8]) -> bool
     if n <= MORE {
         return with_more(code, text, again);
     }
-    with_most(code, text, again)
+    if n <= MOST {
+        return with_most(code, text, again);
+    }
+    with_less(code, text, again)
 }

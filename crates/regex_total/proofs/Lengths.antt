@@ -24,10 +24,10 @@ use Rattle.regex_total.specs.Answers.{Inside, Repeated, Widths, Capped, 
 use Rattle.regex_total.proofs.Parts.{spells-bytes}
 use Rattle.regex_total.proofs.Steps.{some-code}
 
-nil-bytes : (w : List ℕ) → w ≡ [] → bytes w ≡ 0
+pub nil-bytes : (w : List ℕ) → w ≡ [] → bytes w ≡ 0
 nil-bytes w e = ap bytes e ∙ ap length encodeAll-none
 
-join-bytes : {P Q : List ℕ → Type 0} (w : List ℕ) (j : Join P Q w) → bytes w ≡ bytes (j .fore) + bytes (j .back)
+pub join-bytes : {P Q : List ℕ → Type 0} (w : List ℕ) (j : Join P Q w) → bytes w ≡ bytes (j .fore) + bytes (j .back)
 join-bytes w j =
     ap bytes (j .eq) ∙ ap length (encodeAll-append (j .fore) (j .back)) ∙ length-append (encodeAll (j .fore)) (encodeAll (j .back))
 
@@ -37,7 +37,7 @@ one-bytes w c e =
     ap bytes e ∙ ap length (encodeAll-cons c []) ∙ ap (λ l. length (encode c ++ l)) encodeAll-none ∙ l ∙ add-zero (length (encode c))
 
 module _ (P : List ℕ → Type 0) where
-  row-least : (a : ℕ) → ((u : List ℕ) → P u → a ≤ bytes u) → (n : ℕ) (w : List ℕ) → Row P n w → a * n ≤ bytes w
+  pub row-least : (a : ℕ) → ((u : List ℕ) → P u → a ≤ bytes u) → (n : ℕ) (w : List ℕ) → Row P n w → a * n ≤ bytes w
   row-least a f zero w r = let m = mul-zero a in omega arith
   row-least a f (suc n) w j =
       let m = mul-suc a n in

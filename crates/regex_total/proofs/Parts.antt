@@ -27,7 +27,7 @@ append-same u v p q e n = (
 )
 
 -- .. and so are lists with one end
-front-same : (u p q : List ℕ) → u ++ q ≡ p ++ q → u ≡ p
+pub front-same : (u p q : List ℕ) → u ++ q ≡ p ++ q → u ≡ p
 front-same u p q e =
     let n = ap length e in
     let a = length-append u q in

@@ -1,7 +1,7 @@
 -- `regex::test` meets its contract. Assumes nothing.
 use borrow.Author.Needs.{needs}
 use native.Mathlib.Omega.{arith}
-use Rattle.regex.proofs.Laws.{by-plain, by-length, by-total, by-marks, taken, grows, fits}
+use Rattle.regex.proofs.Laws.{by-plain, by-length, by-marks, taken, grows, fits}
 use Rattle.regex.proofs.test.Statement.{statement}
 use Rattle.regex.proofs.test.Tie as tie
 use Rattle.regex.proofs.test.Reads as reads
@@ -48,11 +48,11 @@ same-length c = search needs
 returns-3 : tie.Need-returns-3
 returns-3 c = let h = c .before .before .before .before .before .before .has-room .ensures (c .before .before .before .before .before .if3 .taken) in by-marks _ _ _ _ (c .before .before .before .before .before .before .before .weigh .ensures) (h .1) (c .before .before .run .ensures) (taken _ _ (omega (arith, h .1, c .before .before .before .before .before .before .before .before .lesser .ensures)))
 
-matches-requires : tie.Need-matches-requires
-matches-requires c κs = search needs
+unmarked-requires : tie.Need-unmarked-requires
+unmarked-requires c κs = search needs
 
 returns-4 : tie.Need-returns-4
-returns-4 c = by-total _ _ _ (c .matches .ensures)
+returns-4 c = c .unmarked .ensures
 
 pub test-spec : {M : Type 1} → statement M
 test-spec =
@@ -72,5 +72,5 @@ test-spec =
     run-requires
     same-length
     returns-3
-    matches-requires
+    unmarked-requires
     returns-4)
