@@ -1,6 +1,6 @@
 -- A filter that is match or search of a query of names and indices and a text of the plan, or the negation of that: what stands in the plan, and what the call says
 -- of a node is what the whole test says. P is the plan, L the pool, S the table, X the text. Assumes nothing.
-use Prim.Native.Nat.{ℕ, _+_, _≤_, _<_}
+use Prim.Native.Nat.{ℕ, _+_, _-_, _≤_, _<_}
 use mathlib.Core.Path.{_≡_, refl, sym, ap, _∙_}
 use mathlib.Core.List.{List, [], _∷_}
 use mathlib.Core.Bool.{Bool as Bits, true, false, not, _&&_}
@@ -20,7 +20,7 @@ use Rattle.definition.specs.Regexps.{regexValues}
 use Rattle.definition.specs.Tables.{nodeCount, nodeAt}
 use Rattle.definition.specs.Evaluation.{evalSegments, evalTest, firstValue}
 use Rattle.basics.specs.Bools.{and-left, and-right}
-use Rattle.eval_laws.specs.Items.{SegmentsAt}
+use Rattle.eval_laws.specs.Items.{SegmentsAt, segments-in}
 use Rattle.eval_laws.specs.Todos.{Todo, todo-start, todo-end, todo-to, QueryAt, at-query, LiteralAt, at-literal, Matched, at-regex, at-not}
 use Rattle.eval_items.specs.EndLaws.{past-text}
 use Rattle.eval_items.specs.LeafLaws.{done-text}
@@ -103,6 +103,28 @@ none-to i e = absurd (never (sym i ∙ e))
 pub none-at : {P : List ℕ} {p z : ℕ} {g : Call} → g .some ≡ false → g .some ≡ true → CallAt P p z g
 none-at i e = absurd (never (sym i ∙ e))
 
+-- what is read is such a call
+pub call-read : {P : List ℕ} {p y end start size kind : ℕ} {n b : Bits} → p + 7 ≤ y → getD P p 0 ≡ 2 → Leads P end (p + 1) → getD P (y - 6) 0 ≡ 0x12 → start ≡ number (part P (y - 5) 2) → size ≡ number (part P (y - 3) 2)
+    → getD P (y - 1) 0 ≡ kind → regexKind kind ≡ true → end ≡ y - 7 → CallTo P p y n (record { end = end; start = start; size = size; kind = kind; negated = n; some = b })
+call-read {P} {p} {y} {end} {kind = kind} h c l t u v k r e =
+    let e1 : end + 1 ≡ y - 6 = omega arith in
+    let e2 : y - 5 ≡ end + 1 + 1 = omega arith in
+    let e3 : y - 3 ≡ end + 1 + 3 = omega arith in
+    let e4 : end + 1 + 5 ≡ y - 1 = omega arith in
+    let q = regex-kind kind r in
+    record {
+      current = c;
+      path = l;
+      text-is = ap (λ (x : ℕ). getD P x 0) e1 ∙ t;
+      start-is = u ∙ ap (λ (x : ℕ). number (part P x 2)) e2;
+      size-is = v ∙ ap (λ (x : ℕ). number (part P x 2)) e3;
+      kind-is = ap (λ (x : ℕ). getD P x 0) e4 ∙ k;
+      low = q .0;
+      high = q .1;
+      ends = omega arith;
+      negation = refl;
+    }
+
 pub call-plain : {P : List ℕ} {p z : ℕ} {g : Call} → CallTo P p z false g → CallAt P p z g
 call-plain {P} {p} {z} {g} c =
     record {
@@ -158,6 +180,9 @@ module _ {P L S X : List ℕ} {root node p z : ℕ} {g : Call} (w : Within P L S
 
   pub call-reach : AskTest P L p z → AskReach P L S X node (p + 1)
   call-reach a = record { given = record { fewP = w .fewP; fewL = w .fewL; tab = w .tab }; node-in = w .node-in; query = call-query a }
+
+  pub call-near : AskTest P L p z → p + 1 < maxPlan
+  call-near a = let q = call-query a in omega (arith, segments-in P L (p + 1) (q .k) (q .f) (q .at), w .fewP)
 
   -- the expression lies in the pool and is UTF-8
   pub call-spelled : AskTest P L p z → (g .start + g .size ≤ length L) × (isUtf8 (part L (g .start) (g .size)) ≡ true)

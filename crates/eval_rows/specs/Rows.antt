@@ -8,6 +8,7 @@ use lib.ListN.{length, getD, take, drop}
 use native.Mathlib.Omega.{arith}
 use Rattle.definition.specs.Bytes.{number, part}
 use Rattle.definition.specs.Utf8.{isUtf8}
+use Rattle.definition_bytes.specs.Same.{part-length}
 use Rattle.regex_definition.specs.Scope.{Scope}
 use Rattle.definition.specs.Forms.{Segments, Test}
 use Rattle.definition.specs.Plans.{scopeKind}
@@ -135,6 +136,24 @@ ready-outside c e code w = record { outside = λ i. w; inside = λ i j. absurd (
 pub ready-code : (c : Scope) (e : List ℕ) {q : List ℕ} (n : ℕ) → IsWidened c e q n → Ready c e (take n q) 2
 ready-code c e n w = record { outside = λ i. absurd (omega arith); inside = λ i j t b u h. holds-some c t b u w h }
 
+-- the same of an expression that is a part of the pool
+module _ (c : Scope) (L : List ℕ) (a n : ℕ) where
+  cut-length : a + n ≤ length L → length (take (a + n - a) (drop a L)) ≡ n
+  cut-length h = ap length (cut L a n) ∙ part-length L a n h
+
+  pub cut-asked : (a + n ≤ length L) × (isUtf8 (part L a n) ≡ true) → {k q : ℕ} → (n ≤ k) × (8 * n + 15 ≤ q)
+      → (isUtf8 (take (a + n - a) (drop a L)) ≡ true) × ((length (take (a + n - a) (drop a L)) ≤ k) × (8 * length (take (a + n - a) (drop a L)) + 15 ≤ q))
+  cut-asked s r = let e = cut-length (s .0) in let r0 = r .0 in let r1 = r .1 in (ap isUtf8 (cut L a n) ∙ s .1, (omega arith, omega arith))
+
+  pub cut-outside : {q : List ℕ} → Widened c (take (a + n - a) (drop a L)) q reading.Outside → Outside c (part L a n)
+  cut-outside w = subst (Outside c) (cut L a n) (outside-read c _ w)
+
+  pub cut-long : a + n ≤ length L → 1024 < n → Outside c (part L a n)
+  cut-long h l = let e = part-length L a n h in outside-long c (part L a n) (omega arith)
+
+  pub cut-code : {q : List ℕ} (k : ℕ) → IsWidened c (take (a + n - a) (drop a L)) q k → Ready c (part L a n) (take k q) 2
+  cut-code {q} k w = subst (λ (e : List ℕ). Ready c e (take k q) 2) (cut L a n) (ready-code c _ k w)
+
 -- ---- the answer for a node
 
 pub record DoneAnswer (P L S X : List ℕ) (root node p z known : ℕ) (r : Answer) : Type 0 where
@@ -178,6 +197,10 @@ module _ {P L S X : List ℕ} {root node p z : ℕ} {g : Call} (w : Within P L S
         }
 
 -- ---- all nodes in turn
+
+-- the root is a node
+pub kept-within : {P L S X : List ℕ} {root i e rest len at cap : ℕ} → AskKept P L S X root i e rest len at cap → Within P L S X root root
+kept-within s = let g = s .given in record { fewP = g .fewP; fewL = g .fewL; tab = g .tab; root-in = s .root-in; node-in = s .root-in }
 
 -- those before r .i are done, and all of them where the expression is known
 pub record DoneRows (P L S X : List ℕ) (root i e p z rest cap : ℕ) (l : List ℕ) (at : ℕ) (l′ : List ℕ) (known : ℕ) (r : Passed) : Type 0 where

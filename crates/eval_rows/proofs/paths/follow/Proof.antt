@@ -1,3 +1,8 @@
+-- `paths::follow` meets its contract: each segment is a name or an index, and leads to one node or to none. Assumes nothing.
+use Prim.Native.Nat.{_-_}
+use native.Mathlib.Omega.{arith}
+use borrow.Author.Needs.{needs}
+use Rattle.eval_rows.specs.Paths.{InFollow, follow-start, follow-in, follow-one, follow-next, follow-lost, follow-later, follow-again, follow-end}
 use Rattle.eval_rows.proofs.paths.follow.Statement.{statement}
 use Rattle.eval_rows.proofs.paths.follow.Tie as tie
 use Rattle.eval_rows.proofs.paths.follow.Reads as reads
@@ -6,54 +11,43 @@ use Rattle.eval_items.proofs.leaves.select_one.Reads as select-one-reads
 use Rattle.eval_items.proofs.plans.next_selector.Reads as next-selector-reads
 
 abbrev Inv-loop : tie.InvT-loop
-Inv-loop plan pool table text node pc e m₀ q₀ m q = ?
+Inv-loop plan pool table text node pc e m₀ q₀ m q = InFollow plan pool table text node pc e m q
 
 abbrev μ-loop : tie.MeasureT-loop
-μ-loop plan pool table text node pc e m₀ q₀ m q = ?
+μ-loop plan pool table text node pc e m₀ q₀ m q = e - q
 
--- src/paths.rt:57:5
 loop-holds : tie.Need-loop-holds Inv-loop μ-loop
-loop-holds c = ?
+loop-holds c = follow-start (c .before .before .before .before .pre .0) (c .before .before .before .before .pre .1)
 
--- src/paths.rt:58:65
 add-select-one : tie.Need-add-select-one Inv-loop μ-loop
-add-select-one c = ?
+add-select-one c = let s = c .before .before .before .before .before .before .pre .0 .given in omega (arith, follow-in s (c .before .loop .inv), s .fewP)
 
--- src/paths.rt:58:13
 select-one-requires : tie.Need-select-one-requires Inv-loop μ-loop
-select-one-requires c κs = ?
+select-one-requires c κs = follow-one (c .before .before .before .before .before .before .pre .0 .given) (c .before .loop .inv) (c .loop-test .taken)
 
--- src/paths.rt:59:24
 enum-known-found : tie.Need-enum-known-found Inv-loop μ-loop
-enum-known-found c = ?
+enum-known-found c = search needs
 
--- src/paths.rt:60:13
 enum-told : tie.Need-enum-told Inv-loop μ-loop
-enum-told c = ?
+enum-told c = search needs
 
--- src/paths.rt:60:13
 returns : tie.Need-returns Inv-loop μ-loop
-returns c = ?
+returns c = follow-lost (c .before .before .before .before .before .before .before .before .before .pre .0 .given) (c .before .before .before .before .loop .inv) (c .before .before .before .loop-test .taken) _ (c .before .before .select-one .ensures) (c .enum-told .given .1)
 
--- src/paths.rt:67:40
 add-next-selector : tie.Need-add-next-selector Inv-loop μ-loop
-add-next-selector c = ?
+add-next-selector c = let s = c .before .before .before .before .before .before .before .before .before .before .pre .0 .given in omega (arith, follow-in s (c .before .before .before .before .before .loop .inv), s .fewP)
 
--- src/paths.rt:67:9
 next-selector-requires : tie.Need-next-selector-requires Inv-loop μ-loop
-next-selector-requires c κs = ?
+next-selector-requires c κs = follow-next (c .before .before .before .before .before .before .before .before .before .before .pre .0 .given) (c .before .before .before .before .before .loop .inv) (c .before .before .before .before .loop-test .taken)
 
--- src/paths.rt:57:5
 loop-less : tie.Need-loop-less Inv-loop μ-loop
-loop-less c = ?
+loop-less c = let u = c .before .before .before .before .before .loop-test .taken in omega (arith, follow-later (c .before .before .before .before .before .before .before .before .before .before .before .pre .0 .given) (c .before .before .before .before .before .before .loop .inv) u _ (c .next-selector .ensures))
 
--- src/paths.rt:57:5
 loop-again : tie.Need-loop-again Inv-loop μ-loop
-loop-again c = ?
+loop-again c = follow-again (c .before .before .before .before .before .before .before .before .before .before .before .pre .0 .given) (c .before .before .before .before .before .before .loop .inv) (c .before .before .before .before .before .loop-test .taken) _ (c .before .before .before .before .select-one .ensures) _ (c .before .before .found .given .1) _ (c .next-selector .ensures)
 
--- src/paths.rt:42:1
 returns-2 : tie.Need-returns-2 Inv-loop μ-loop
-returns-2 c = ?
+returns-2 c = follow-end (c .before .before .before .before .before .before .pre .0 .given) (c .before .loop .inv) (c .loop-test .left)
 
 pub follow-spec : {M : Type 1} → statement M
 follow-spec =
