@@ -28,6 +28,7 @@ use Rattle.eval_front.specs.Visits.{Query, Given, AskReach}
 use Rattle.eval_filters.specs.Queries.{Within}
 use Rattle.eval_filters.specs.Tests.{Left}
 use Rattle.eval_filters.specs.Kept.{Tested, AskTest, DoneTest}
+use Rattle.eval_filters.specs.Keeps.{test-code}
 use Rattle.eval_rows.specs.declared.calls.Call.{Call}
 use Rattle.eval_rows.specs.Paths.{AskPath, Leads, leads-low, leads-past}
 
@@ -95,7 +96,25 @@ pub record AskCall (P : List ℕ) (p z : ℕ) : Type 0 where
   pub few : length P ≤ maxPlan
   pub inside : z ≤ length P
   pub near : p ≤ maxPlan
-  pub query : getD P p 0 ≡ 2 → AskPath P (p + 1)
+  pub query : p < z → getD P p 0 ≡ 2 → AskPath P (p + 1)
+
+pub call-asked : {P L : List ℕ} {p z : ℕ} → length P ≤ maxPlan → AskTest P L p z → AskCall P p z
+call-asked {P} {L} {p} {z} few a =
+    let c = test-code few a in
+    let N = nodeAt [] [] 0 in
+    let d = todo-start P L p z (a .k) N N false Value.nothing Value.nothing (a .t) (a .stands .test) (a .stands .place) in
+    record {
+      few = few;
+      inside = c .inside;
+      near = c .near;
+      query = λ h e.
+          let y = at-query P L p z N N false Value.nothing Value.nothing _ d h (omega arith) N (λ i. absurd (omega arith)) (λ i. refl) in
+          record { few = few; L = L; query = record { f = y .f; k = y .k; at = y .at } };
+    }
+
+-- the same up to a place before
+pub call-before : {P : List ℕ} {p z y : ℕ} → AskCall P p z → y ≤ z → AskCall P p y
+call-before a h = record { few = a .few; inside = omega (arith, a .inside); near = a .near; query = λ l. a .query (omega arith) }
 
 pub none-to : {P : List ℕ} {p y : ℕ} {n : Bits} {g : Call} → g .some ≡ false → g .some ≡ true → CallTo P p y n g
 none-to i e = absurd (never (sym i ∙ e))

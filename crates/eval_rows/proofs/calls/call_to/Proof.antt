@@ -1,4 +1,5 @@
 -- `calls::call_to` meets its contract. Assumes nothing.
+use native.Mathlib.Omega.{arith}
 use mathlib.Core.Path.{refl, sym, _∙_}
 use borrow.Author.Tests.{not-false, eqb-true}
 use Rattle.eval_rows.specs.Calls.{none-to, call-read}
@@ -52,7 +53,7 @@ add-read-path : tie.Need-add-read-path
 add-read-path c = search needs
 
 read-path-requires : tie.Need-read-path-requires
-read-path-requires c κs = c .before .before .before .before .before .before .before .before .pre .0 .query (c .if3 .left)
+read-path-requires c κs = let s = c .before .before .before .before .before .before .before .before .pre in let h = s .1 in s .0 .query (omega arith) (c .if3 .left)
 
 no-call-requires-4 : tie.Need-no-call-requires-4
 no-call-requires-4 c κs = search needs

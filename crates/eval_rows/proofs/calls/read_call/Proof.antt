@@ -1,6 +1,6 @@
 -- `calls::read_call` meets its contract. Assumes nothing.
 use native.Mathlib.Omega.{arith}
-use Rattle.eval_rows.specs.Calls.{none-at, call-turned, call-plain}
+use Rattle.eval_rows.specs.Calls.{call-before, none-at, call-turned, call-plain}
 use borrow.Author.Needs.{needs}
 use Rattle.eval_rows.proofs.calls.read_call.Statement.{statement}
 use Rattle.eval_rows.proofs.calls.read_call.Tie as tie
@@ -28,13 +28,13 @@ sub-call-to : tie.Need-sub-call-to
 sub-call-to c = search needs
 
 call-to-requires : tie.Need-call-to-requires
-call-to-requires c κs = search needs
+call-to-requires c κs = let a = c .before .before .if1 .left in (call-before (c .before .before .before .before .pre) (omega arith), omega arith)
 
 returns-2 : tie.Need-returns-2
 returns-2 c = λ e. call-turned (c .call-to .ensures e) (c .before .if2 .taken) (omega (arith, c .before .before .before .if1 .left))
 
 call-to-requires-2 : tie.Need-call-to-requires-2
-call-to-requires-2 c κs = search needs
+call-to-requires-2 c κs = let a = c .before .before .if1 .left in (c .before .before .before .before .pre, omega arith)
 
 returns-3 : tie.Need-returns-3
 returns-3 c = λ e. call-plain (c .call-to2 .ensures e)
