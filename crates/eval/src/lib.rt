@@ -10,6 +10,7 @@ ghost use Prim.Native.Nat.{_<_};
 ghost use lib.ListN.{length};
 ghost use Rattle.definition.specs.Tables.{nodeCount};
 ghost use Rattle.eval_filters.specs.Queries.{Within};
+ghost use Rattle.eval_filters.specs.Keeps.{TailAt};
 ghost use Rattle.eval_filters.specs.Kept.{AskTest, DoneTest};
 ghost use Rattle.eval_filters.specs.Tests.{AskRest, DoneRest};
 ghost use Rattle.eval.specs.Lent.{planOf, poolOf, tableOf, textOf};
@@ -18,6 +19,7 @@ use eval_filters::kept;
 use eval_items::Regs;
 use eval_items::leaves;
 use eval_items::plans;
+use eval_rows::calls;
 use eval_shortcuts::flats;
 use eval_shortcuts::straight;
 use eval_values::Operand;
@@ -428,7 +430,7 @@ fn keep_children(
     let z = p + 3 + bytes::word16(plan, p + 1);
     let g = kept::read_form(plan, p + 3, z, rest);
     if g.way == 0 {
-        return false;
+        return keep_matched(lent, state, list, node, p, rest, g.tail);
     }
     let table = lent[TABLE];
     let i = records::low_word(table, node) as usize;
@@ -447,6 +449,58 @@ fn keep_children(
         p + 3,
         z,
         g,
+        rest,
+        *list,
+        at,
+        cap,
+    );
+    state[AT] = next;
+    true
+}
+
+// The same where the filter is match or search with a text of the plan, which is read once. What follows is told by its number.
+fn keep_matched(
+    lent: &[&[u8]; 4],
+    state: &mut [usize; 3],
+    list: &mut &mut [u32],
+    node: usize,
+    p: usize,
+    rest: usize,
+    tail: usize,
+) -> bool
+    requires { ⌜ Asked (now lent) (now state) (now (now list)) ⌝ }
+    requires { ⌜ AskSelector (now lent) node p rest ⌝ }
+    requires { ⌜ AskKind (now lent) p 9 × TailAt (planOf (now lent)) rest tail ⌝ }
+    ensures { λ r. ⌜ Steady (now (state .entry)) (now (list .entry)) (now (state .exit)) (now (list .exit)) ⌝ }
+    ensures { λ r. ⌜ DoneKeep (now (lent .entry)) node p rest (now (state .entry)) (now (now (list .entry))) (now (state .exit)) (now (now (list .exit))) r ⌝ }
+{
+    if 1 < tail {
+        return false;
+    }
+    let plan = lent[PLAN];
+    let z = p + 3 + bytes::word16(plan, p + 1);
+    let g = calls::read_call(plan, p + 3, z);
+    if !g.some {
+        return false;
+    }
+    let table = lent[TABLE];
+    let i = records::low_word(table, node) as usize;
+    let n = records::child_count(table, node) as usize;
+    let root = state[ROOT];
+    let at = state[AT];
+    let cap = state[CAP];
+    let next = eval_rows::keep_matched(
+        plan,
+        lent[POOL],
+        table,
+        lent[TEXT],
+        root,
+        i,
+        i + n,
+        p + 3,
+        z,
+        g,
+        tail,
         rest,
         *list,
         at,

@@ -47,9 +47,9 @@ pub struct Counts {
 }
 
 // The place behind a node that is put into the list with what follows, and the place of the member that follows among the node's members.
-struct Pushed {
-    at: usize,
-    near: usize,
+pub struct Pushed {
+    pub at: usize,
+    pub near: usize,
 }
 
 // What follows a test: 0 for nothing, 1 for one name at the end of the query, 2 for everything else.
@@ -89,7 +89,7 @@ fn tail_named(
 }
 
 // A node with what follows, which is looked for at place `near` first.
-fn push_tail(
+pub fn push_tail(
     plan: &[u8],
     pool: &[u8],
     table: &[u8],

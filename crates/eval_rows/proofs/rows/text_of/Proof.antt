@@ -1,0 +1,59 @@
+-- `rows::text_of` meets its contract: nothing is found, a node that has no text, or its text. Assumes nothing.
+use native.Mathlib.Omega.{arith}
+use borrow.Author.Tests.{not-true, not-false}
+use Rattle.eval_rows.specs.Calls.{call-near, call-reach}
+use Rattle.eval_rows.specs.Rows.{text-lost, text-other, text-found}
+use borrow.Author.Needs.{needs}
+use Rattle.eval_rows.proofs.rows.text_of.Statement.{statement}
+use Rattle.eval_rows.proofs.rows.text_of.Tie as tie
+use Rattle.eval_rows.proofs.rows.text_of.Reads as reads
+use Rattle.eval_rows.proofs.rows.text_of.Lts as lts
+use Rattle.eval_rows.proofs.paths.follow.Reads as follow-reads
+use Rattle.table.proofs.records.high_word.Reads as high-word-reads
+use Rattle.table.proofs.records.kind.Reads as kind-reads
+use Rattle.table.proofs.records.low_word.Reads as low-word-reads
+
+add-follow : tie.Need-add-follow
+add-follow c = let s = c .before .before .before .before .pre in omega (arith, call-near (s .0) (s .1 .1) (s .1 .0))
+
+follow-requires : tie.Need-follow-requires
+follow-requires c κs = let s = c .before .before .before .before .pre in (call-reach (s .0) (s .1 .1) (s .1 .0), s .1 .1 .call .path)
+
+returns : tie.Need-returns
+returns c = let s = c .before .before .before .before .before .before .before .pre in text-lost (s .0) (s .1 .1) (c .before .before .follow .ensures) (not-true _ (c .if1 .taken))
+
+kind-requires : tie.Need-kind-requires
+kind-requires c κs = search needs
+
+returns-2 : tie.Need-returns-2
+returns-2 c = let s = c .before .before .before .before .before .before .before .before .before .pre in let k = c .before .kind .ensures in text-other (s .0) (s .1 .1) (c .before .before .before .before .follow .ensures) (not-false _ (c .before .before .if1 .left)) (λ e. c .if2 .taken (omega arith))
+
+low-word-requires : tie.Need-low-word-requires
+low-word-requires c κs = search needs
+
+cast-start : tie.Need-cast-start
+cast-start c = search needs
+
+high-word-requires : tie.Need-high-word-requires
+high-word-requires c κs = search needs
+
+cast-size : tie.Need-cast-size
+cast-size c = search needs
+
+returns-3 : tie.Need-returns-3
+returns-3 c = let s = c .before .before .before .before .before .before .before .before .before .before .before .pre in let k = c .before .before .before .kind .ensures in let u = c .before .before .if2 .left in text-found (s .0) (s .1 .1) (c .before .before .before .before .before .before .follow .ensures) (not-false _ (c .before .before .before .before .if1 .left)) (omega arith) _ _ (c .before .low-word .ensures) (c .high-word .ensures)
+
+pub text-of-spec : {M : Type 1} → statement M
+text-of-spec =
+    tie.close
+    (tie.spec
+    add-follow
+    follow-requires
+    returns
+    kind-requires
+    returns-2
+    low-word-requires
+    cast-start
+    high-word-requires
+    cast-size
+    returns-3)

@@ -1,0 +1,3 @@
+pub mod Paths
+pub mod Calls
+pub mod Rows
