@@ -224,11 +224,11 @@ fn rest(
         }
         let above = to_parent(table, node, cursor);
         let passed = children(table, text, node, first, above, heads, links, known);
+        if passed.found == WRONG {
+            return TableChecked::WrongNode(passed.node);
+        }
         node = passed.node;
         first = passed.first;
-        if passed.found == WRONG {
-            return TableChecked::WrongNode(node);
-        }
         cursor = above;
         if passed.found == LONG {
             cursor = surely(table, text, above);
