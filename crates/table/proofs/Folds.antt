@@ -1,10 +1,12 @@
 -- The hash of a key, one word more at a time. Assumes nothing.
-use Prim.Native.Nat.{ℕ, zero, suc, _+_}
+use Prim.Native.Nat.{ℕ, zero, suc, _+_, _-_, _/_, _%_, _≤_, _<_}
 use mathlib.Core.Path.{_≡_, refl}
 use mathlib.Core.List.{List}
+use lib.ListN.{length}
 use native.Mathlib.Omega.{arith}
+use borrow.Author.Tests.{lt-ltb, le-ltb, eq-eqb, ne-eqb}
 use Rattle.definition.specs.Bytes.{part, number}
-use Rattle.table.specs.Buckets.{mixed, folded}
+use Rattle.table.specs.Buckets.{mixed, folded, hashOf}
 
 module _ (w : ℕ) (s : List ℕ) where
   -- with nothing left the hash is what it was
@@ -18,3 +20,17 @@ module _ (w : ℕ) (s : List ℕ) where
   unfolding folded
   fold-on zero m at h k x e d f = absurd (omega arith)
   fold-on (suc n) m at h k x e d f = let z : n ≡ m = omega arith in rw (z, f, d)
+
+module _ (s : List ℕ) where
+  -- the hash of a key of fewer than four bytes, of whole words, and of words and more
+  pub hash-few : length s < 4 → hashOf s ≡ folded 1 s (length s) 0 0
+  unfolding hashOf
+  hash-few l = rw (lt-ltb (length s) 4 l)
+
+  pub hash-whole : 4 ≤ length s → length s % 4 ≡ 0 → hashOf s ≡ folded 4 s (length s / 4) 0 0
+  unfolding hashOf
+  hash-whole l e = rw (le-ltb (length s) 4 l, eq-eqb (length s % 4) 0 e)
+
+  pub hash-more : 4 ≤ length s → (length s % 4 ≡ 0 → ⊥) → hashOf s ≡ mixed (folded 4 s (length s / 4) 0 0) (number (part s (length s - 4) 4))
+  unfolding hashOf
+  hash-more l e = rw (le-ltb (length s) 4 l, ne-eqb (length s % 4) 0 e)

@@ -1,3 +1,4 @@
+pub mod Along
 pub mod Answers
 pub mod Chains
 pub mod Checks
@@ -6,4 +7,5 @@ pub mod Folds
 pub mod Inside
 pub mod Kept
 pub mod Sorts
+pub mod Under
 pub mod Walks

@@ -2,6 +2,8 @@
 -- Assumes nothing: these are definitions.
 use Prim.Native.Nat.{ℕ, zero, suc, _+_, _-_, _*_, _/_, _%_}
 use mathlib.Core.List.{List}
+use mathlib.Core.Bool.{cond}
+use lib.Dec.{eqb, ltb}
 use lib.ListN.{length}
 use Rattle.definition.specs.Bytes.{part, number}
 use Rattle.definition.specs.Tables.{keyBytes}
@@ -19,9 +21,11 @@ unfoldable pub folded : ℕ → List ℕ → ℕ → ℕ → ℕ → ℕ
 folded w s zero at h = h
 folded w s (suc n) at h = folded w s n (at + w) (mixed h (number (part s at w)))
 
--- the whole words of four bytes, and then the bytes behind them
+-- the whole words of four bytes, and then the last four bytes once more if bytes are left; of a shorter key each byte
 unfoldable pub hashOf : List ℕ → ℕ
-hashOf s = folded 1 s (length s - length s / 4 * 4) (length s / 4 * 4) (folded 4 s (length s / 4) 0 0)
+hashOf s =
+    cond (ltb (length s) 4) (folded 1 s (length s) 0 0)
+    (cond (eqb (length s % 4) 0) (folded 4 s (length s / 4) 0 0) (mixed (folded 4 s (length s / 4) 0 0) (number (part s (length s - 4) 4))))
 
 -- the two halves of the hash together choose one of n buckets
 unfoldable pub bucketOf : ℕ → List ℕ → ℕ

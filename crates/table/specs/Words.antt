@@ -1,17 +1,17 @@
 -- The words of this crate's contracts. Assumes nothing: these are definitions.
-use Prim.Native.Nat.{ℕ, suc, _+_, _-_, _≤_, _<_}
+use Prim.Native.Nat.{ℕ, suc, _+_, _-_, _*_, _≤_, _<_}
 use mathlib.Core.Path.{_≡_}
 use mathlib.Core.List.{List}
 use mathlib.Core.Bool.{Bool, true, false}
 use lib.ListN.{length}
 use Rattle.definition.specs.Limits.{maxNodes, maxMembers}
-use Rattle.definition.specs.Tables.{nodeCount, kindAt, depthAt, kindMap, highWord, firstChild, keyStart, keyLength, keyDiffers, textRight}
+use Rattle.definition.specs.Tables.{nodeCount, field, kindAt, depthAt, parentAt, kindMap, highWord, firstChild, keyStart, keyLength, keyDiffers, headRight, textRight}
 use Rattle.table_laws.specs.Joined.{nodeRight}
+use Rattle.table_laws.specs.Least.{RightBelow}
 use Rattle.table.specs.Buckets.{bucketAt}
 use Rattle.table.specs.Chains.{HeadsBelow, Chained, Roomy}
 use Rattle.table.specs.declared.scan.Cursor.{Cursor}
-use Rattle.table.specs.declared.scan.NodeChecked.{NodeChecked}
-use Rattle.table.specs.declared.scan.NodeChecked.the-variants.{Next, Wrong}
+use Rattle.table.specs.declared.scan.Passed.{Passed}
 
 -- no rule on texts and keys fails at any node below n
 abbrev pub TextsBelow : List ℕ → List ℕ → ℕ → Type 0
@@ -43,13 +43,6 @@ pub record Large (T : List ℕ) (p : ℕ) : Type 0 where
   pub is-map : kindAt T p ≡ kindMap
   pub many : fewMembers < highWord T p
 
--- a node of the table, with the place where its children must begin, which the table reaches
-pub record NodeAt (T : List ℕ) (node first : ℕ) : Type 0 where
-  pub node-in : node < nodeCount T
-  pub first-is : first ≡ firstChild T node
-  pub first-in : first ≤ nodeCount T
-  pub small : nodeCount T ≤ maxNodes
-
 -- a node behind the root that the counts before it reach, as the table reaches where its children must begin
 pub record HasParent (T : List ℕ) (node : ℕ) : Type 0 where
   pub node-in : node < nodeCount T
@@ -75,6 +68,18 @@ pub record Child (T : List ℕ) (i : ℕ) (q : Cursor) : Type 0 where
   pub node-in : i < nodeCount T
   pub under : ParentAt T i q
   pub small : nodeCount T ≤ maxNodes
+
+-- bytes 0-3 of a record as one number
+pub record Head (T : List ℕ) (i h : ℕ) : Type 0 where
+  pub is : h ≡ kindAt T i + depthAt T i * 256 + field T i 2 2 * 65536
+  pub kind : kindAt T i < 256
+  pub depth : depthAt T i < 256
+
+-- what every child of p has: a right head, its parent's number, and the depth
+pub record Under (T : List ℕ) (p i : ℕ) : Type 0 where
+  pub head : headRight T i ≡ true
+  pub number : parentAt T i ≡ p
+  pub deeper : depthAt T i ≡ depthAt T p + 1
 
 -- the cursor r that was found for node i from the cursor q: q itself, or one of which nothing is known
 pub record Moved (i : ℕ) (q r : Cursor) : Type 0 where
@@ -103,7 +108,26 @@ pub record Before (T X : List ℕ) (i : ℕ) (q : Cursor) (H L : List ℕ) : Typ
   pub reach : i ≤ q .end
   pub kept : Kept T X i q H L
 
--- what the check of node i finds: that the node is right, with what stands before the next one, or that it is wrong
-abbrev pub NodeFound : List ℕ → List ℕ → ℕ → List ℕ → List ℕ → NodeChecked → Type 0
-NodeFound T X i H L (Next q) = (nodeRight T X i ≡ true) × Before T X (i + 1) q H L
-NodeFound T X i H L Wrong = nodeRight T X i ≡ false
+-- where the check of a node's children begins: at one of them, before which all nodes are right, with the place where its own children must begin
+pub record Begun (T X : List ℕ) (i first : ℕ) (q : Cursor) : Type 0 where
+  pub child : Child T i q
+  pub first-is : first ≡ firstChild T i
+  pub right : RightBelow T X i
+
+-- a node behind i that the cursor's range reaches, before which all nodes are right, with the place where its children must begin
+pub record Along (T X : List ℕ) (i : ℕ) (q : Cursor) (n first : ℕ) : Type 0 where
+  pub later : i < n
+  pub reach : n ≤ q .end
+  pub right : RightBelow T X n
+  pub first-is : first ≡ firstChild T n
+
+-- a wrong node of the table, before which all are right
+pub record WrongAt (T X : List ℕ) (n : ℕ) : Type 0 where
+  pub node-in : n < nodeCount T
+  pub right : RightBelow T X n
+  pub wrong : nodeRight T X n ≡ false
+
+-- what the check of the children under a cursor, from node i on, comes to
+pub record PassedBy (T X : List ℕ) (i : ℕ) (q : Cursor) (p : Passed) : Type 0 where
+  pub stops : p .found ≡ 0 → WrongAt T X (p .node)
+  pub goes : (p .found ≡ 0 → ⊥) → Along T X i q (p .node) (p .first)

@@ -2,6 +2,7 @@
 ghost use mathlib.Core.Path.{_≡_};
 ghost use Prim.Native.Nat.{_<_};
 ghost use Rattle.definition.specs.Tables.{nodeCount, field, kindAt, depthAt, keyStart, keyLength, parentAt, payload as payloadAt, lowWord, highWord, childCount};
+ghost use Rattle.table.specs.Words.{Head};
 use text::bytes;
 
 // A record is 24 bytes long, and its number, bits, text or range of children begins at byte 16.
@@ -48,6 +49,15 @@ pub fn zeros_2(table: &[u8], node: usize) -> u16
     ensures { λ r. ⌜ r ≡ field (now (table .entry)) node 2 2 ⌝ }
 {
     bytes::word16(table, RECORD * node + 2) as u16
+}
+
+// Bytes 0-3 as one number: the kind, the depth, and the bytes that are to be zero.
+pub fn head(table: &[u8], node: usize) -> usize
+    requires { ⌜ node < nodeCount (now table) ⌝ }
+    ensures { λ r. ⌜ Head (now (table .entry)) node r ⌝ }
+{
+    let low = kind(table, node) as usize + depth(table, node) as usize * 256;
+    low + zeros_2(table, node) as usize * 65536
 }
 
 // Bytes 4-7: where the key starts.

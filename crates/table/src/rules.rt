@@ -1,12 +1,12 @@
 // The joined rule for a node, part by part. Each function answers whether a rule of the definition is kept, and asks that its nodes are nodes of the table.
 ghost use mathlib.Core.Path.{_≡_};
-ghost use mathlib.Core.Option.{some};
+ghost use mathlib.Core.Bool.{true};
 ghost use Prim.Native.Nat.{_<_, _+_};
 ghost use lib.Dec.{ltb};
 ghost use Rattle.definition.specs.Tables.{nodeCount, kindAt, kindMap, firstChild, goodPart, headRight, isFinite, rangeRight, noKey};
-ghost use Rattle.table_laws.specs.Joined.{payloadRight, memberRight, placeRight, nodeRight};
+ghost use Rattle.table_laws.specs.Joined.{payloadRight, memberRight, nodeRight};
 ghost use Rattle.text.specs.Known.{Known};
-ghost use Rattle.table.specs.Words.{Child, MembersBefore, Kept};
+ghost use Rattle.table.specs.Words.{Under, Child, MembersBefore, Kept};
 use crate::keys;
 use crate::records;
 use crate::records::KIND_FLOAT;
@@ -19,6 +19,11 @@ use crate::scan::Cursor;
 use text::encoding;
 
 const MAX_DEPTH: u8 = 63;
+
+// The kinds are the numbers below this one, and the depth stands in bytes 0-3 as so many.
+const KINDS: usize = 8;
+
+const DEPTH_UNIT: usize = 256;
 
 const MAX_MEMBERS: u32 = 1024;
 
@@ -128,10 +133,48 @@ pub fn no_key(table: &[u8], node: usize) -> bool
     requires { ⌜ node < nodeCount (now table) ⌝ }
     ensures { λ r. ⌜ r ≡ noKey (now (table .entry)) node ⌝ }
 {
-    if records::key_start(table, node) != 0 {
+    let start = records::key_start(table, node) as usize;
+    let size = records::key_length(table, node) as usize;
+    start + size == 0
+}
+
+// Whether a node has what every child of the node above has: a kind, the depth, the bytes that are to be zero, and its parent's number.
+fn stands_under(table: &[u8], node: usize, above: Cursor) -> bool
+    requires { ⌜ Child (now table) node above ⌝ }
+    ensures { λ r. ⌜ (r ≡ true → Under (now (table .entry)) (above .parent) node) ⌝ }
+    ensures { λ r. ⌜ (Under (now (table .entry)) (above .parent) node → r ≡ true) ⌝ }
+{
+    if MAX_DEPTH <= above.depth {
         return false;
     }
-    records::key_length(table, node) == 0
+    let depth = above.depth as usize + 1;
+    if records::head(table, node) / KINDS != depth * DEPTH_UNIT / KINDS {
+        return false;
+    }
+    records::parent(table, node) as usize == above.parent
+}
+
+// All that is asked of a child of the list above; first is where the range of a container's children must begin.
+pub fn item_right(
+    table: &[u8],
+    text: &[u8],
+    node: usize,
+    first: usize,
+    above: Cursor,
+    known: u8,
+) -> bool
+    requires { ⌜ Child (now table) node above × (first ≡ firstChild (now table) node) ⌝ }
+    requires { ⌜ (kindAt (now table) (above .parent) ≡ kindMap → ⊥) ⌝ }
+    requires { ⌜ Known known (now text) ⌝ }
+    ensures { λ r. ⌜ r ≡ nodeRight (now (table .entry)) (now (text .entry)) node ⌝ }
+{
+    if !stands_under(table, node, above) {
+        return false;
+    }
+    if !no_key(table, node) {
+        return false;
+    }
+    payload_right(table, text, node, first, known)
 }
 
 // 1 for yes, 0 for no.
@@ -180,35 +223,31 @@ fn member_right(
     keys::joins_chain(table, text, node, from, heads, links)
 }
 
-// What the parent, which is above, asks of its child: its number, the depth, and the key as the parent's kind has it. The answer is as above.
-pub fn place_right(
+// All that is asked of a member of the map above. The answer is as above, and first as for a child of a list.
+pub fn member_steps(
     table: &[u8],
     text: &[u8],
     node: usize,
+    first: usize,
     above: Cursor,
     heads: &mut [u16],
     links: &mut [u16],
     known: u8,
 ) -> usize
-    requires { ⌜ Child (now table) node above ⌝ }
-    requires { ⌜ (kindAt (now table) (above .parent) ≡ kindMap → MembersBefore (now table) (now text) (above .from) node) ⌝ }
+    requires { ⌜ Child (now table) node above × (first ≡ firstChild (now table) node) ⌝ }
+    requires { ⌜ (kindAt (now table) (above .parent) ≡ kindMap) × MembersBefore (now table) (now text) (above .from) node ⌝ }
     requires { ⌜ Kept (now table) (now text) node above (now heads) (now links) ⌝ }
     requires { ⌜ Known known (now text) ⌝ }
-    ensures { λ r. ⌜ ltb 0 r ≡ placeRight (now (table .entry)) (now (text .entry)) node (some (above .parent)) ⌝ }
+    ensures { λ r. ⌜ ltb 0 r ≡ nodeRight (now (table .entry)) (now (text .entry)) node ⌝ }
     ensures { λ r. ⌜ (0 < r → Kept (now (table .entry)) (now (text .entry)) (node + 1) above (now (heads .exit)) (now (links .exit))) ⌝ }
 {
-    let named = records::parent(table, node) as usize;
-    if named != above.parent {
+    if !stands_under(table, node, above) {
         return 0;
     }
-    let deep = records::depth(table, node) as usize;
-    if deep != above.depth as usize + 1 {
+    if !payload_right(table, text, node, first, known) {
         return 0;
     }
-    if above.kind == KIND_MAP {
-        return member_right(table, text, node, above, heads, links, known);
-    }
-    as_steps(no_key(table, node))
+    member_right(table, text, node, above, heads, links, known)
 }
 
 // All that is asked of the root.

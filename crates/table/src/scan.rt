@@ -2,17 +2,18 @@
 ghost use mathlib.Core.Path.{_≡_};
 ghost use Prim.Native.Nat.{_<_, _≤_, _+_};
 ghost use Rattle.definition.specs.Limits.{maxNodes};
-ghost use Rattle.definition.specs.Tables.{nodeCount, firstChild};
+ghost use Rattle.definition.specs.Tables.{nodeCount, firstChild, kindAt, kindMap};
 ghost use Rattle.definition.specs.TableOutcomes.{reportTable};
 ghost use Rattle.table_laws.specs.Joined.{leastWrong, byLeast};
 ghost use Rattle.table_laws.specs.Least.{RightBelow};
 ghost use Rattle.text.specs.Known.{Known};
-ghost use Rattle.table.specs.Words.{NodeAt, HasParent, CursorAt, ParentAt, Moved, Surely, Before, NodeFound};
+ghost use Rattle.table.specs.Words.{HasParent, CursorAt, ParentAt, Moved, Surely, Kept, Before, Begun, PassedBy};
 ghost use Rattle.table.specs.Outcomes.{reported};
 use crate::TableChecked;
 use crate::buckets;
 use crate::distinct;
 use crate::records;
+use crate::records::KIND_MAP;
 use crate::records::RECORD;
 use crate::rules;
 use text::encoding;
@@ -22,7 +23,7 @@ const MAX_MEMBERS: usize = 1024;
 const FEW_NODES: usize = 128;
 
 // Where a chain comes to have so many nodes, all keys of its map are sorted. A chain has so many once, so that keys which are not found to differ are not sorted for each node.
-const LONG: usize = 24;
+const LONG_CHAIN: usize = 24;
 
 // A node with the range of its children, its kind and its depth, which are read once for all of them. `sure` is 1 where the keys of its members are known to differ.
 pub struct Cursor {
@@ -34,10 +35,19 @@ pub struct Cursor {
     pub sure: u8,
 }
 
-// What was found at a node: the cursor before the next node, or a broken rule.
-pub enum NodeChecked {
-    Next(Cursor),
-    Wrong,
+// What the check of a node's children came to.
+const WRONG: u8 = 0;
+
+const NEXT: u8 = 1;
+
+const LONG: u8 = 2;
+
+// How far the check of a node's children came: to a node that is wrong; or to one before which all nodes are right, with the place where its children
+// must begin. There it may have stopped behind a node whose chain came to be long.
+pub struct Passed {
+    pub node: usize,
+    pub first: usize,
+    pub found: u8,
 }
 
 // Moves a cursor forward to the parent of a node that has one.
@@ -92,41 +102,101 @@ fn surely(table: &[u8], text: &[u8], cursor: Cursor) -> Cursor
     }
 }
 
-// Holds a node behind the root against the rules. Its children must begin at first.
-fn check_node(
+// The children of a list from a node on, whose own children must begin at begin.
+fn items(table: &[u8], text: &[u8], start: usize, begin: usize, above: Cursor, known: u8) -> Passed
+    requires { ⌜ Begun (now table) (now text) start begin above ⌝ }
+    requires { ⌜ (kindAt (now table) (above .parent) ≡ kindMap → ⊥) ⌝ }
+    requires { ⌜ Known known (now text) ⌝ }
+    ensures { λ r. ⌜ PassedBy (now (table .entry)) (now (text .entry)) start above r ⌝ }
+{
+    let end = above.end;
+    let mut first = begin;
+    let mut node = start;
+    while node < end {
+        if !rules::item_right(table, text, node, first, above, known) {
+            return Passed {
+                node,
+                first,
+                found: WRONG,
+            };
+        }
+        first += records::child_count(table, node) as usize;
+        node += 1;
+    }
+    Passed {
+        node,
+        first,
+        found: NEXT,
+    }
+}
+
+// The members of a map from a node on, up to one whose chain comes to be long.
+fn members(
     table: &[u8],
     text: &[u8],
-    node: usize,
-    first: usize,
-    cursor: Cursor,
+    start: usize,
+    begin: usize,
+    above: Cursor,
     heads: &mut [u16],
     links: &mut [u16],
     known: u8,
-) -> NodeChecked
-    requires { ⌜ NodeAt (now table) node first ⌝ }
-    requires { ⌜ Before (now table) (now text) node cursor (now heads) (now links) ⌝ }
-    requires { ⌜ RightBelow (now table) (now text) node ⌝ }
+) -> Passed
+    requires { ⌜ Begun (now table) (now text) start begin above ⌝ }
+    requires { ⌜ (kindAt (now table) (above .parent) ≡ kindMap) × Kept (now table) (now text) start above (now heads) (now links) ⌝ }
     requires { ⌜ Known known (now text) ⌝ }
-    ensures { λ r. ⌜ NodeFound (now (table .entry)) (now (text .entry)) node (now (heads .exit)) (now (links .exit)) r ⌝ }
+    ensures { λ r. ⌜ PassedBy (now (table .entry)) (now (text .entry)) start above r ⌝ }
+    ensures { λ r. ⌜ ((r .found ≡ 0 → ⊥) → Kept (now (table .entry)) (now (text .entry)) (r .node) above (now (heads .exit)) (now (links .exit))) ⌝ }
 {
-    if first <= node {
-        return NodeChecked::Wrong;
+    let end = above.end;
+    let mut first = begin;
+    let mut node = start;
+    while node < end {
+        let steps = rules::member_steps(table, text, node, first, above, heads, links, known);
+        if steps == 0 {
+            return Passed {
+                node,
+                first,
+                found: WRONG,
+            };
+        }
+        first += records::child_count(table, node) as usize;
+        node += 1;
+        if steps == LONG_CHAIN {
+            return Passed {
+                node,
+                first,
+                found: LONG,
+            };
+        }
     }
-    if !rules::head_right(table, node) {
-        return NodeChecked::Wrong;
+    Passed {
+        node,
+        first,
+        found: NEXT,
     }
-    if !rules::payload_right(table, text, node, first, known) {
-        return NodeChecked::Wrong;
+}
+
+// The children of the node above from a node on.
+fn children(
+    table: &[u8],
+    text: &[u8],
+    start: usize,
+    begin: usize,
+    above: Cursor,
+    heads: &mut [u16],
+    links: &mut [u16],
+    known: u8,
+) -> Passed
+    requires { ⌜ Begun (now table) (now text) start begin above ⌝ }
+    requires { ⌜ Kept (now table) (now text) start above (now heads) (now links) ⌝ }
+    requires { ⌜ Known known (now text) ⌝ }
+    ensures { λ r. ⌜ PassedBy (now (table .entry)) (now (text .entry)) start above r ⌝ }
+    ensures { λ r. ⌜ ((r .found ≡ 0 → ⊥) → Kept (now (table .entry)) (now (text .entry)) (r .node) above (now (heads .exit)) (now (links .exit))) ⌝ }
+{
+    if above.kind == KIND_MAP {
+        return members(table, text, start, begin, above, heads, links, known);
     }
-    let found = to_parent(table, node, cursor);
-    let steps = rules::place_right(table, text, node, found, heads, links, known);
-    if steps == 0 {
-        return NodeChecked::Wrong;
-    }
-    if steps != LONG {
-        return NodeChecked::Next(found);
-    }
-    NodeChecked::Next(surely(table, text, found))
+    items(table, text, start, begin, above, known)
 }
 
 // The pass from node 1 on, whose children must begin at start.
@@ -149,15 +219,19 @@ fn rest(
     let mut first = start;
     let mut node = 1;
     while node < count {
-        match check_node(table, text, node, first, cursor, heads, links, known) {
-            NodeChecked::Next(found) => {
-                cursor = found;
-                first += records::child_count(table, node) as usize;
-                node += 1;
-            }
-            NodeChecked::Wrong => {
-                return TableChecked::WrongNode(node);
-            }
+        if first <= node {
+            return TableChecked::WrongNode(node);
+        }
+        let above = to_parent(table, node, cursor);
+        let passed = children(table, text, node, first, above, heads, links, known);
+        if passed.found == WRONG {
+            return TableChecked::WrongNode(passed.node);
+        }
+        node = passed.node;
+        first = passed.first;
+        cursor = above;
+        if passed.found == LONG {
+            cursor = surely(table, text, above);
         }
     }
     TableChecked::Accepted

@@ -1,7 +1,7 @@
 -- The loop's invariant: the bytes that are left, mixed into the hash, give the hash of all. The measure is what is left. Assumes nothing.
 use native.Mathlib.Omega.{arith}
-use mathlib.Core.Path.{_≡_, refl, sym, _∙_}
-use Prim.Native.Nat.{_+_, _-_, _≤_, _<_}
+use mathlib.Core.Path.{_≡_, sym, ap, _∙_}
+use Prim.Native.Nat.{ℕ, _+_, _-_, _≤_, _<_}
 use lib.ListN.{length}
 use Rattle.table.specs.Buckets.{hashes, folded}
 use Rattle.table.proofs.Folds.{fold-on, fold-end}
@@ -9,13 +9,16 @@ use Rattle.table.proofs.buckets.bytes_hash.Statement.{statement}
 use Rattle.table.proofs.buckets.bytes_hash.Tie as tie
 
 abbrev Inv-loop : tie.InvT-loop
-Inv-loop s start before hash₀ at₀ hash at = (at ≤ length s) × (hash < hashes) × (folded 1 s (length s - at) at hash ≡ folded 1 s (length s - start) start before)
+Inv-loop s hash₀ at₀ hash at = (at ≤ length s) × (hash < hashes) × (folded 1 s (length s - at) at hash ≡ folded 1 s (length s) 0 0)
 
 abbrev μ-loop : tie.MeasureT-loop
-μ-loop s start before hash₀ at₀ hash at = length s - at
+μ-loop s hash₀ at₀ hash at = length s - at
 
 loop-holds : tie.Need-loop-holds Inv-loop μ-loop
-loop-holds c = (omega arith, omega arith, refl)
+loop-holds c =
+    let s = c .before .args .s .now in
+    let e : length s - 0 ≡ length s = omega arith in
+    (omega arith, omega arith, ap (λ (n : ℕ). folded 1 s n 0 0) e)
 
 word8-requires : tie.Need-word8-requires Inv-loop μ-loop
 word8-requires c κs = omega arith
