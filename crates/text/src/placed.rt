@@ -1,9 +1,11 @@
 // Whether a text of some length is UTF-8, by tests of four bytes that follow each other: which may stand behind which three. No test needs another's answer,
 // so many are made at once, and bytes may be looked at twice. What is not found to be UTF-8 here is tested character by character.
+use crate::blocks;
+use crate::blocks::MOST;
 use crate::encoding;
 ghost use mathlib.Core.Path.{_≡_};
 ghost use mathlib.Core.Bool.{true};
-ghost use Prim.Native.Nat.{_+_, _-_, _≤_};
+ghost use Prim.Native.Nat.{_+_, _-_, _≤_, _<_};
 ghost use lib.ListN.{length};
 ghost use Rattle.definition.specs.Utf8.{isUtf8};
 ghost use Rattle.text.specs.Placed.{isTail, isAsked, isAskedPlain, Bounded, Placed, Unbound, Plain, PlacedIn, Ends};
@@ -13,11 +15,17 @@ const FEW: usize = 16;
 
 const MANY: usize = 64;
 
+// A block of 256 bytes has a kind: the length of its characters beyond ASCII, where it is 2, 3 or 4. From this number on it is mixed, and so many blocks behind
+// it are tested as mixed too.
+const MIXED: u8 = 16;
+
+const ROUNDS: u8 = 15;
+
 // Three bytes before those that are tested.
 const BEFORE: usize = 3;
 
 // Whether a byte continues a character.
-fn is_tail(x: u8) -> bool
+pub fn is_tail(x: u8) -> bool
     ensures { λ r. ⌜ r ≡ isTail x ⌝ }
 {
     (0x80 <= x) & (x <= 0xBF)
@@ -135,36 +143,142 @@ fn passes_many(s: &[u8], at: usize) -> bool
     placed_many(s, at)
 }
 
-// Whether each byte behind the first three may stand where it does, sixteen at a time. The last sixteen may begin among bytes that were tested before.
-fn each_few(s: &[u8]) -> bool
-    requires { ⌜ 19 ≤ length (now s) ⌝ }
-    ensures { λ r. ⌜ (r ≡ true → PlacedIn (now (s .entry)) 0 (length (now (s .entry)) - 3)) ⌝ }
+// The same of 256 bytes, four times 64.
+fn passes_mixed(s: &[u8], at: usize) -> bool
+    requires { ⌜ at + 259 ≤ length (now s) ⌝ }
+    ensures { λ r. ⌜ (r ≡ true → PlacedIn (now (s .entry)) at (at + 256)) ⌝ }
 {
-    let last = s.len() - (FEW + BEFORE);
-    let mut i = 0;
-    while i < last {
-        if !placed_few(s, i) {
-            return false;
-        }
-        i += FEW;
-    }
-    placed_few(s, last)
+    passes_many(s, at) & passes_many(s, at + 64) & passes_many(s, at + 128) & passes_many(s, at + 192)
 }
 
-// The same, 64 at a time.
-fn each_many(s: &[u8]) -> bool
-    requires { ⌜ 67 ≤ length (now s) ⌝ }
+// The same, found where all 256 bytes are ASCII. What is not ASCII is mostly seen in the first 64.
+fn ascii_most(s: &[u8], at: usize) -> bool
+    requires { ⌜ at + 259 ≤ length (now s) ⌝ }
+    ensures { λ r. ⌜ (r ≡ true → PlacedIn (now (s .entry)) at (at + 256)) ⌝ }
+{
+    if !ascii_many(s, at) {
+        return false;
+    }
+    ascii_many(s, at + 64) & ascii_many(s, at + 128) & ascii_many(s, at + 192)
+}
+
+// How many bytes the characters beyond ASCII have in a block, or at least those that have most.
+fn kind_of(s: &[u8], at: usize) -> u8
+    requires { ⌜ at + 256 ≤ length (now s) ⌝ }
+{
+    let top = blocks::top_of(s, at);
+    if top < 0xE0 {
+        return 2;
+    }
+    if top < 0xF0 {
+        return 3;
+    }
+    4
+}
+
+// The kind that the next block is tested as, behind one that was not found by its kind: the kind of that block, and where that is the same one,
+// mixed for so many blocks.
+fn next_kind(s: &[u8], at: usize, kind: u8) -> u8
+    requires { ⌜ at + 256 ≤ length (now s) ⌝ }
+{
+    if MIXED < kind {
+        return kind - 1;
+    }
+    let found = kind_of(s, at);
+    if found == kind {
+        return MIXED + ROUNDS;
+    }
+    found
+}
+
+// Whether each of 256 bytes may stand where it does, found where all characters beyond ASCII have the length that the kind says.
+fn passes_as(s: &[u8], at: usize, kind: u8) -> bool
+    requires { ⌜ at + 259 ≤ length (now s) ⌝ }
+    ensures { λ r. ⌜ (r ≡ true → PlacedIn (now (s .entry)) at (at + 256)) ⌝ }
+{
+    if kind == 2 {
+        return blocks::most_of(s, at, 2);
+    }
+    if kind == 3 {
+        return blocks::most_of(s, at, 3);
+    }
+    if kind == 4 {
+        return blocks::most_of(s, at, 4);
+    }
+    false
+}
+
+// 0, unless each of 256 bytes may stand where it does: then the kind that the next block is tested as.
+fn passes_most(s: &[u8], at: usize, kind: u8) -> u8
+    requires { ⌜ at + 259 ≤ length (now s) ⌝ }
+    ensures { λ r. ⌜ (0 < r → PlacedIn (now (s .entry)) at (at + 256)) ⌝ }
+{
+    if ascii_most(s, at) {
+        return kind;
+    }
+    if passes_as(s, at, kind) {
+        return kind;
+    }
+    if !passes_mixed(s, at) {
+        return 0;
+    }
+    next_kind(s, at, kind)
+}
+
+// Whether each of n bytes may stand where it does, where n is 16 or 64.
+fn passes_short(s: &[u8], at: usize, n: usize) -> bool
+    requires { ⌜ at + n + 3 ≤ length (now s) ⌝ }
+    ensures { λ r. ⌜ (r ≡ true → PlacedIn (now (s .entry)) at (at + n)) ⌝ }
+{
+    if n == MANY {
+        return passes_many(s, at);
+    }
+    if n == FEW {
+        return placed_few(s, at);
+    }
+    false
+}
+
+// 0, unless each of n bytes may stand where it does, where n is 16, 64 or 256: then the kind that the next block is tested as.
+fn passes(s: &[u8], at: usize, n: usize, kind: u8) -> u8
+    requires { ⌜ at + n + 3 ≤ length (now s) ⌝ }
+    ensures { λ r. ⌜ (0 < r → PlacedIn (now (s .entry)) at (at + n)) ⌝ }
+{
+    if n == MOST {
+        return passes_most(s, at, kind);
+    }
+    if passes_short(s, at, n) {
+        return kind;
+    }
+    0
+}
+
+// The kind that the first block of n bytes is tested as.
+fn first_kind(s: &[u8], n: usize) -> u8
+    requires { ⌜ n + 3 ≤ length (now s) ⌝ }
+{
+    if n == MOST {
+        return kind_of(s, 0);
+    }
+    MIXED
+}
+
+// Whether each byte behind the first three may stand where it does, n at a time. The last n may begin among bytes that were tested before.
+fn each(s: &[u8], n: usize) -> bool
+    requires { ⌜ (1 ≤ n) × (n + 3 ≤ length (now s)) ⌝ }
     ensures { λ r. ⌜ (r ≡ true → PlacedIn (now (s .entry)) 0 (length (now (s .entry)) - 3)) ⌝ }
 {
-    let last = s.len() - (MANY + BEFORE);
+    let last = s.len() - (n + BEFORE);
+    let mut kind = first_kind(s, n);
     let mut i = 0;
     while i < last {
-        if !passes_many(s, i) {
+        kind = passes(s, i, n, kind);
+        if kind == 0 {
             return false;
         }
-        i += MANY;
+        i += n;
     }
-    passes_many(s, last)
+    passes(s, last, n, kind) != 0
 }
 
 // Whether the first three bytes may stand where they do, and the text may end behind the last three.
@@ -190,7 +304,10 @@ pub fn all_utf8(s: &[u8]) -> bool
         return false;
     }
     if s.len() < MANY + BEFORE {
-        return each_few(s);
+        return each(s, FEW);
     }
-    each_many(s)
+    if s.len() < MOST + BEFORE {
+        return each(s, MANY);
+    }
+    each(s, MOST)
 }

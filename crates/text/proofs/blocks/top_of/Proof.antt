@@ -1,0 +1,51 @@
+-- `text::blocks::top_of` meets its contract, which asks nothing of its answer. Assumes nothing.
+use borrow.Author.Needs.{needs}
+use native.Mathlib.Omega.{arith}
+use Prim.Native.Nat.{_-_, _≤_}
+use Rattle.text.proofs.blocks.top_of.Statement.{statement}
+use Rattle.text.proofs.blocks.top_of.Tie as tie
+
+abbrev Inv-loop : tie.InvT-loop
+Inv-loop s at top₀ i₀ top i = i ≤ 256
+
+abbrev μ-loop : tie.MeasureT-loop
+μ-loop s at top₀ i₀ top i = 256 - i
+
+loop-holds : tie.Need-loop-holds Inv-loop μ-loop
+loop-holds c = omega arith
+
+add-greater : tie.Need-add-greater Inv-loop μ-loop
+add-greater c = omega arith
+
+shared-slice-read-greater : tie.Need-shared-slice-read-greater Inv-loop μ-loop
+shared-slice-read-greater c = omega arith
+
+greater-requires : tie.Need-greater-requires Inv-loop μ-loop
+greater-requires c κs = search needs
+
+add-i : tie.Need-add-i Inv-loop μ-loop
+add-i c = omega arith
+
+loop-less : tie.Need-loop-less Inv-loop μ-loop
+loop-less c = omega arith
+
+loop-again : tie.Need-loop-again Inv-loop μ-loop
+loop-again c = omega arith
+
+returns : tie.Need-returns Inv-loop μ-loop
+returns c = search needs
+
+pub top-of-spec : {M : Type 1} → statement M
+top-of-spec =
+    tie.close
+    (tie.spec
+    Inv-loop
+    μ-loop
+    loop-holds
+    add-greater
+    shared-slice-read-greater
+    greater-requires
+    add-i
+    loop-less
+    loop-again
+    returns)
