@@ -27,7 +27,7 @@ asked-middle a b c l = by-test (leb 0xC0 c) (λ t. rw t) (λ f. rw (f, le-leb 0x
 pub asked-first : (a b c : ℕ) → 0xF0 ≤ a → isAsked a b c ≡ true
 asked-first a b c l = by-test (isAskedPlain b c) (λ t. rw t) (λ f. rw (f, le-leb 0xF0 a l))
 
-asked-plain : (a b c : ℕ) → a < 0xF0 → isAsked a b c ≡ isAskedPlain b c
+pub asked-plain : (a b c : ℕ) → a < 0xF0 → isAsked a b c ≡ isAskedPlain b c
 asked-plain a b c h = by-test (isAskedPlain b c) (λ t. rw t) (λ f. rw (f, lt-leb 0xF0 a h))
 
 pub asked-none : (a b c : ℕ) → a < 0xF0 → b < 0xE0 → c < 0xC0 → isAsked a b c ≡ false

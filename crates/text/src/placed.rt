@@ -15,11 +15,10 @@ const FEW: usize = 16;
 
 const MANY: usize = 64;
 
-// A block of 256 bytes has a kind: the length of its characters beyond ASCII, where it is 2, 3 or 4. From this number on it is mixed, and so many blocks behind
-// it are tested as mixed too.
-const MIXED: u8 = 16;
+// The kinds of blocks of 512 bytes are those of `blocks`, but 5 and 6 are kept for so many blocks, and say how many are left of them: from WIDE on 5, and behind it 6.
+const WIDE: u8 = 16;
 
-const ROUNDS: u8 = 15;
+const ROUNDS: u8 = 16;
 
 // Three bytes before those that are tested.
 const BEFORE: usize = 3;
@@ -143,16 +142,18 @@ fn passes_many(s: &[u8], at: usize) -> bool
     placed_many(s, at)
 }
 
-// The same of 256 bytes, four times 64.
-fn passes_mixed(s: &[u8], at: usize) -> bool
-    requires { ⌜ at + 259 ≤ length (now s) ⌝ }
-    ensures { λ r. ⌜ (r ≡ true → PlacedIn (now (s .entry)) at (at + 256)) ⌝ }
+// The same of 512 bytes, found where all are ASCII. What is not ASCII is mostly seen in the first 64.
+fn ascii_most(s: &[u8], at: usize) -> bool
+    requires { ⌜ at + 515 ≤ length (now s) ⌝ }
+    ensures { λ r. ⌜ (r ≡ true → PlacedIn (now (s .entry)) at (at + 512)) ⌝ }
 {
-    passes_many(s, at) & passes_many(s, at + 64) & passes_many(s, at + 128) & passes_many(s, at + 192)
+    if !ascii_256(s, at) {
+        return false;
+    }
+    ascii_256(s, at + 256)
 }
 
-// The same, found where all 256 bytes are ASCII. What is not ASCII is mostly seen in the first 64.
-fn ascii_most(s: &[u8], at: usize) -> bool
+fn ascii_256(s: &[u8], at: usize) -> bool
     requires { ⌜ at + 259 ≤ length (now s) ⌝ }
     ensures { λ r. ⌜ (r ≡ true → PlacedIn (now (s .entry)) at (at + 256)) ⌝ }
 {
@@ -162,39 +163,10 @@ fn ascii_most(s: &[u8], at: usize) -> bool
     ascii_many(s, at + 64) & ascii_many(s, at + 128) & ascii_many(s, at + 192)
 }
 
-// How many bytes the characters beyond ASCII have in a block, or at least those that have most.
-fn kind_of(s: &[u8], at: usize) -> u8
-    requires { ⌜ at + 256 ≤ length (now s) ⌝ }
-{
-    let top = blocks::top_of(s, at);
-    if top < 0xE0 {
-        return 2;
-    }
-    if top < 0xF0 {
-        return 3;
-    }
-    4
-}
-
-// The kind that the next block is tested as, behind one that was not found by its kind: the kind of that block, and where that is the same one,
-// mixed for so many blocks.
-fn next_kind(s: &[u8], at: usize, kind: u8) -> u8
-    requires { ⌜ at + 256 ≤ length (now s) ⌝ }
-{
-    if MIXED < kind {
-        return kind - 1;
-    }
-    let found = kind_of(s, at);
-    if found == kind {
-        return MIXED + ROUNDS;
-    }
-    found
-}
-
-// Whether each of 256 bytes may stand where it does, found where all characters beyond ASCII have the length that the kind says.
+// Whether each of 512 bytes may stand where it does, found where they are of the kind.
 fn passes_as(s: &[u8], at: usize, kind: u8) -> bool
-    requires { ⌜ at + 259 ≤ length (now s) ⌝ }
-    ensures { λ r. ⌜ (r ≡ true → PlacedIn (now (s .entry)) at (at + 256)) ⌝ }
+    requires { ⌜ at + 515 ≤ length (now s) ⌝ }
+    ensures { λ r. ⌜ (r ≡ true → PlacedIn (now (s .entry)) at (at + 512)) ⌝ }
 {
     if kind == 2 {
         return blocks::most_of(s, at, 2);
@@ -205,21 +177,74 @@ fn passes_as(s: &[u8], at: usize, kind: u8) -> bool
     if kind == 4 {
         return blocks::most_of(s, at, 4);
     }
-    false
+    if kind == 5 {
+        return blocks::most_of(s, at, 5);
+    }
+    blocks::most_of(s, at, 6)
 }
 
-// 0, unless each of 256 bytes may stand where it does: then the kind that the next block is tested as.
+// The kind that the next block is tested as, behind one that passes as its kind: the same, and from time to time the kind that it looks like.
+fn kept_kind(s: &[u8], at: usize, kind: u8) -> u8
+    requires { ⌜ at + 256 ≤ length (now s) ⌝ }
+{
+    if kind < WIDE {
+        return kind;
+    }
+    if kind % ROUNDS == 0 {
+        return wide_kind(blocks::kind_of(s, at));
+    }
+    kind - 1
+}
+
+// The kind that the next block is tested as, behind one that does not pass as its kind: what it looks like, and where that is the same kind, a wider one.
+fn next_kind(s: &[u8], at: usize, kind: u8) -> u8
+    requires { ⌜ at + 256 ≤ length (now s) ⌝ }
+{
+    let found = blocks::kind_of(s, at);
+    let was = kind_alone(kind);
+    if found != was {
+        return wide_kind(found);
+    }
+    if was == 3 {
+        return wide_kind(5);
+    }
+    wide_kind(6)
+}
+
+// Kinds 5 and 6 with the number of blocks that are tested so.
+fn wide_kind(kind: u8) -> u8 {
+    if kind < 5 {
+        return kind;
+    }
+    if kind == 5 {
+        return WIDE + ROUNDS - 1;
+    }
+    WIDE + ROUNDS + ROUNDS - 1
+}
+
+// The kind alone.
+fn kind_alone(kind: u8) -> u8 {
+    if kind < WIDE {
+        return kind;
+    }
+    if kind < WIDE + ROUNDS {
+        return 5;
+    }
+    6
+}
+
+// 0, unless each of 512 bytes may stand where it does: then the kind that the next block is tested as.
 fn passes_most(s: &[u8], at: usize, kind: u8) -> u8
-    requires { ⌜ at + 259 ≤ length (now s) ⌝ }
-    ensures { λ r. ⌜ (0 < r → PlacedIn (now (s .entry)) at (at + 256)) ⌝ }
+    requires { ⌜ at + 515 ≤ length (now s) ⌝ }
+    ensures { λ r. ⌜ (0 < r → PlacedIn (now (s .entry)) at (at + 512)) ⌝ }
 {
     if ascii_most(s, at) {
         return kind;
     }
-    if passes_as(s, at, kind) {
-        return kind;
+    if passes_as(s, at, kind_alone(kind)) {
+        return kept_kind(s, at, kind);
     }
-    if !passes_mixed(s, at) {
+    if !blocks::most_of(s, at, 6) {
         return 0;
     }
     next_kind(s, at, kind)
@@ -239,7 +264,7 @@ fn passes_short(s: &[u8], at: usize, n: usize) -> bool
     false
 }
 
-// 0, unless each of n bytes may stand where it does, where n is 16, 64 or 256: then the kind that the next block is tested as.
+// 0, unless each of n bytes may stand where it does, where n is 16, 64 or 512: then the kind that the next block is tested as.
 fn passes(s: &[u8], at: usize, n: usize, kind: u8) -> u8
     requires { ⌜ at + n + 3 ≤ length (now s) ⌝ }
     ensures { λ r. ⌜ (0 < r → PlacedIn (now (s .entry)) at (at + n)) ⌝ }
@@ -258,9 +283,9 @@ fn first_kind(s: &[u8], n: usize) -> u8
     requires { ⌜ n + 3 ≤ length (now s) ⌝ }
 {
     if n == MOST {
-        return kind_of(s, 0);
+        return wide_kind(blocks::kind_of(s, 0));
     }
-    MIXED
+    WIDE
 }
 
 // Whether each byte behind the first three may stand where it does, n at a time. The last n may begin among bytes that were tested before.

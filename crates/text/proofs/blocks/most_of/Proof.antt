@@ -9,10 +9,10 @@ use Rattle.text.proofs.blocks.most_of.Statement.{statement}
 use Rattle.text.proofs.blocks.most_of.Tie as tie
 
 abbrev Inv-loop : tie.InvT-loop
-Inv-loop s at size even₀ low₀ right₀ i₀ even low right i = (i ≤ 256) × Tested size s at even low right i
+Inv-loop s at kind even₀ low₀ right₀ i₀ even low right i = (i ≤ 512) × Tested kind s at even low right i
 
 abbrev μ-loop : tie.MeasureT-loop
-μ-loop s at size even₀ low₀ right₀ i₀ even low right i = 256 - i
+μ-loop s at kind even₀ low₀ right₀ i₀ even low right i = 512 - i
 
 shared-slice-read-apart-as : tie.Need-shared-slice-read-apart-as Inv-loop μ-loop
 shared-slice-read-apart-as c = omega arith
@@ -36,7 +36,7 @@ loop-holds : tie.Need-loop-holds Inv-loop μ-loop
 loop-holds c = 
     let a = c .before .before .before .before .before .before .args in
     let l = c .lesser .ensures in
-    (omega arith, tested-first (a .size) (a .s .now) (a .at) _ _ _ (l .0) (l .1) (c .before .before .before .apart-as .ensures) (c .before .apart-as2 .ensures))
+    (omega arith, tested-first (a .kind) (a .s .now) (a .at) _ _ _ (l .0) (l .1) (c .before .before .before .apart-as .ensures) (c .before .apart-as2 .ensures))
 
 add-j : tie.Need-add-j Inv-loop μ-loop
 add-j c = omega arith
@@ -92,7 +92,7 @@ loop-again c =
     let low = c .before .lesser3 .ensures in
     (
       omega arith,
-      tested-more (a .size) (a .s .now) (a .at) (l .i) (l .inv .1) (even .0) (even .1) (c .before .before .before .before .agrees-as .ensures) (low .0) (low .1) (c .before .before .apart-as3 .ensures) (c .starts-as .ensures),
+      tested-more (a .kind) (a .s .now) (a .at) (l .i) (l .inv .1) (even .0) (even .1) (c .before .before .before .before .agrees-as .ensures) (low .0) (low .1) (c .before .before .apart-as3 .ensures) (c .starts-as .ensures),
     )
 
 least-of-requires : tie.Need-least-of-requires Inv-loop μ-loop
@@ -103,8 +103,8 @@ returns c =
     let a = c .before .before .before .before .before .before .before .before .before in
     let l = c .before .before .loop in
     let t = c .before .loop-test .left in
-    let e : l .i ≡ 256 = omega (arith, l .inv .0) in
-    λ z. tested-all (a .args .size) (a .args .s .now) (a .args .at) (a .pre .1 .0) (a .pre .1 .1) (rw e at (l .inv .1)) (c .least-of .ensures) z
+    let e : l .i ≡ 512 = omega (arith, l .inv .0) in
+    λ z. tested-all (a .args .kind) (a .args .s .now) (a .args .at) (a .pre .1 .0) (a .pre .1 .1) (rw e at (l .inv .1)) (c .least-of .ensures) z
 
 pub most-of-spec : {M : Type 1} → statement M
 most-of-spec =

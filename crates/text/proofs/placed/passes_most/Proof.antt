@@ -11,14 +11,20 @@ ascii-most-requires c κs = search needs
 returns : tie.Need-returns
 returns c = λ _. c .before .ascii-most .ensures (c .if1 .taken)
 
+kind-alone-requires : tie.Need-kind-alone-requires
+kind-alone-requires c κs = search needs
+
 passes-as-requires : tie.Need-passes-as-requires
 passes-as-requires c κs = search needs
 
-returns-2 : tie.Need-returns-2
-returns-2 c = λ _. c .before .passes-as .ensures (c .if2 .taken)
+kept-kind-requires : tie.Need-kept-kind-requires
+kept-kind-requires c κs = search needs
 
-passes-mixed-requires : tie.Need-passes-mixed-requires
-passes-mixed-requires c κs = search needs
+returns-2 : tie.Need-returns-2
+returns-2 c = λ _. c .before .before .passes-as .ensures (c .before .if2 .taken)
+
+most-of-requires : tie.Need-most-of-requires
+most-of-requires c κs = search needs
 
 returns-3 : tie.Need-returns-3
 returns-3 c = λ z. absurd (omega arith)
@@ -27,7 +33,7 @@ next-kind-requires : tie.Need-next-kind-requires
 next-kind-requires c κs = search needs
 
 returns-4 : tie.Need-returns-4
-returns-4 c = λ _. c .before .before .passes-mixed .ensures (not-false _ (c .before .if3 .left))
+returns-4 c = λ _. c .before .before .most-of .ensures (not-false _ (c .before .if3 .left))
 
 pub passes-most-spec : {M : Type 1} → statement M
 passes-most-spec =
@@ -35,9 +41,11 @@ passes-most-spec =
     (tie.spec
     ascii-most-requires
     returns
+    kind-alone-requires
     passes-as-requires
+    kept-kind-requires
     returns-2
-    passes-mixed-requires
+    most-of-requires
     returns-3
     next-kind-requires
     returns-4)
