@@ -18,19 +18,19 @@ use Rattle.text.specs.Placed.{isTail, isAskedPlain, isAsked, Bounded, Un
 
 -- ---- what three bytes ask for
 
-asked-last : (a b c : ℕ) → 0xC0 ≤ c → isAsked a b c ≡ true
+pub asked-last : (a b c : ℕ) → 0xC0 ≤ c → isAsked a b c ≡ true
 asked-last a b c l = rw (le-leb 0xC0 c l)
 
-asked-middle : (a b c : ℕ) → 0xE0 ≤ b → isAsked a b c ≡ true
+pub asked-middle : (a b c : ℕ) → 0xE0 ≤ b → isAsked a b c ≡ true
 asked-middle a b c l = by-test (leb 0xC0 c) (λ t. rw t) (λ f. rw (f, le-leb 0xE0 b l))
 
-asked-first : (a b c : ℕ) → 0xF0 ≤ a → isAsked a b c ≡ true
+pub asked-first : (a b c : ℕ) → 0xF0 ≤ a → isAsked a b c ≡ true
 asked-first a b c l = by-test (isAskedPlain b c) (λ t. rw t) (λ f. rw (f, le-leb 0xF0 a l))
 
-asked-plain : (a b c : ℕ) → a < 0xF0 → isAsked a b c ≡ isAskedPlain b c
+pub asked-plain : (a b c : ℕ) → a < 0xF0 → isAsked a b c ≡ isAskedPlain b c
 asked-plain a b c h = by-test (isAskedPlain b c) (λ t. rw t) (λ f. rw (f, lt-leb 0xF0 a h))
 
-asked-none : (a b c : ℕ) → a < 0xF0 → b < 0xE0 → c < 0xC0 → isAsked a b c ≡ false
+pub asked-none : (a b c : ℕ) → a < 0xF0 → b < 0xE0 → c < 0xC0 → isAsked a b c ≡ false
 asked-none a b c x y z = rw (lt-leb 0xC0 c z, lt-leb 0xE0 b y, lt-leb 0xF0 a x)
 
 -- a byte that continues no character
@@ -212,6 +212,19 @@ placed-overlap s a b c d o p q j l h = by-test (ltb j c) (λ t. p j l (ltb-true 
 -- the places behind some others
 pub placed-behind : (s : List ℕ) (at n m : ℕ) → PlacedIn s (at + n) (at + n + m) → PlacedIn s (at + n) (at + (n + m))
 placed-behind s at n m p j l h = p j l (omega arith)
+
+-- four blocks of n places each, one behind another
+pub placed-four : (s : List ℕ) (at n m k l : ℕ) → m ≡ n + n → k ≡ m + n → l ≡ k + n → PlacedIn s at (at + n) → PlacedIn s (at + n) (at + n + n) → PlacedIn s (at + m) (at + m + n) → PlacedIn s (at + k) (at + k + n) → PlacedIn s at (at + l)
+placed-four s at n m k l e f g p q r t j x y =
+    by-test (ltb j (at + n)) (λ h. p j x (ltb-true j (at + n) h)) (λ h.
+    let z = ltb-false j (at + n) h in
+    by-test (ltb j (at + m)) (λ i. let w = ltb-true j (at + m) i in q j z (omega arith)) (λ i.
+    let w = ltb-false j (at + m) i in
+    by-test (ltb j (at + k)) (λ o. let v = ltb-true j (at + k) o in r j w (omega arith)) (λ o. t j (ltb-false j (at + k) o) (omega arith))))
+
+-- blocks of n places up to i, and one that ends where the text does
+pub placed-last : (s : List ℕ) (n i : ℕ) → n + 3 ≤ length s → length s - (n + 3) ≤ i → PlacedIn s 0 i → PlacedIn s (length s - (n + 3)) (length s - (n + 3) + n) → PlacedIn s 0 (length s - 3)
+placed-last s n i h l p q j x y = by-test (ltb j i) (λ t. p j x (ltb-true j i t)) (λ f. let m = ltb-false j i f in q j (omega arith) (omega arith))
 
 -- none is tested yet; and one more
 pub placed-none : (s : List ℕ) (a : ℕ) → PlacedIn s a (a + 0)

@@ -7,3 +7,4 @@ pub mod Orders
 pub mod Continuing
 pub mod Along
 pub mod Between
+pub mod Lengths

@@ -6,3 +6,4 @@ pub mod Ends
 pub mod Continuing
 pub mod Known
 pub mod Placed
+pub mod Lengths

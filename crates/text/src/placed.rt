@@ -1,9 +1,11 @@
 // Whether a text of some length is UTF-8, by tests of four bytes that follow each other: which may stand behind which three. No test needs another's answer,
 // so many are made at once, and bytes may be looked at twice. What is not found to be UTF-8 here is tested character by character.
+use crate::blocks;
+use crate::blocks::MOST;
 use crate::encoding;
 ghost use mathlib.Core.Path.{_≡_};
 ghost use mathlib.Core.Bool.{true};
-ghost use Prim.Native.Nat.{_+_, _-_, _≤_};
+ghost use Prim.Native.Nat.{_+_, _-_, _≤_, _<_};
 ghost use lib.ListN.{length};
 ghost use Rattle.definition.specs.Utf8.{isUtf8};
 ghost use Rattle.text.specs.Placed.{isTail, isAsked, isAskedPlain, Bounded, Placed, Unbound, Plain, PlacedIn, Ends};
@@ -13,11 +15,16 @@ const FEW: usize = 16;
 
 const MANY: usize = 64;
 
+// The kinds of blocks of 512 bytes are those of `blocks`, but 5 and 6 are kept for so many blocks, and say how many are left of them: from WIDE on 5, and behind it 6.
+const WIDE: u8 = 16;
+
+const ROUNDS: u8 = 16;
+
 // Three bytes before those that are tested.
 const BEFORE: usize = 3;
 
 // Whether a byte continues a character.
-fn is_tail(x: u8) -> bool
+pub fn is_tail(x: u8) -> bool
     ensures { λ r. ⌜ r ≡ isTail x ⌝ }
 {
     (0x80 <= x) & (x <= 0xBF)
@@ -135,36 +142,168 @@ fn passes_many(s: &[u8], at: usize) -> bool
     placed_many(s, at)
 }
 
-// Whether each byte behind the first three may stand where it does, sixteen at a time. The last sixteen may begin among bytes that were tested before.
-fn each_few(s: &[u8]) -> bool
-    requires { ⌜ 19 ≤ length (now s) ⌝ }
-    ensures { λ r. ⌜ (r ≡ true → PlacedIn (now (s .entry)) 0 (length (now (s .entry)) - 3)) ⌝ }
+// The same of 512 bytes, found where all are ASCII. What is not ASCII is mostly seen in the first 64.
+fn ascii_most(s: &[u8], at: usize) -> bool
+    requires { ⌜ at + 515 ≤ length (now s) ⌝ }
+    ensures { λ r. ⌜ (r ≡ true → PlacedIn (now (s .entry)) at (at + 512)) ⌝ }
 {
-    let last = s.len() - (FEW + BEFORE);
-    let mut i = 0;
-    while i < last {
-        if !placed_few(s, i) {
-            return false;
-        }
-        i += FEW;
+    if !ascii_256(s, at) {
+        return false;
     }
-    placed_few(s, last)
+    ascii_256(s, at + 256)
 }
 
-// The same, 64 at a time.
-fn each_many(s: &[u8]) -> bool
-    requires { ⌜ 67 ≤ length (now s) ⌝ }
+fn ascii_256(s: &[u8], at: usize) -> bool
+    requires { ⌜ at + 259 ≤ length (now s) ⌝ }
+    ensures { λ r. ⌜ (r ≡ true → PlacedIn (now (s .entry)) at (at + 256)) ⌝ }
+{
+    if !ascii_many(s, at) {
+        return false;
+    }
+    ascii_many(s, at + 64) & ascii_many(s, at + 128) & ascii_many(s, at + 192)
+}
+
+// Whether each of 512 bytes may stand where it does, found where they are of the kind.
+fn passes_as(s: &[u8], at: usize, kind: u8) -> bool
+    requires { ⌜ at + 515 ≤ length (now s) ⌝ }
+    ensures { λ r. ⌜ (r ≡ true → PlacedIn (now (s .entry)) at (at + 512)) ⌝ }
+{
+    if kind == 2 {
+        return blocks::most_of(s, at, 2);
+    }
+    if kind == 3 {
+        return blocks::most_of(s, at, 3);
+    }
+    if kind == 4 {
+        return blocks::most_of(s, at, 4);
+    }
+    if kind == 5 {
+        return blocks::most_of(s, at, 5);
+    }
+    blocks::most_of(s, at, 6)
+}
+
+// The kind that the next block is tested as, behind one that passes as its kind: the same, and from time to time the kind that it looks like.
+fn kept_kind(s: &[u8], at: usize, kind: u8) -> u8
+    requires { ⌜ at + 256 ≤ length (now s) ⌝ }
+{
+    if kind < WIDE {
+        return kind;
+    }
+    if kind % ROUNDS == 0 {
+        return wide_kind(blocks::kind_of(s, at));
+    }
+    kind - 1
+}
+
+// The kind that the next block is tested as, behind one that does not pass as its kind: what it looks like, and where that is the same kind, a wider one.
+fn next_kind(s: &[u8], at: usize, kind: u8) -> u8
+    requires { ⌜ at + 256 ≤ length (now s) ⌝ }
+{
+    let found = blocks::kind_of(s, at);
+    let was = kind_alone(kind);
+    if found != was {
+        return wide_kind(found);
+    }
+    if was == 3 {
+        return wide_kind(5);
+    }
+    wide_kind(6)
+}
+
+// Kinds 5 and 6 with the number of blocks that are tested so.
+fn wide_kind(kind: u8) -> u8 {
+    if kind < 5 {
+        return kind;
+    }
+    if kind == 5 {
+        return WIDE + ROUNDS - 1;
+    }
+    WIDE + ROUNDS + ROUNDS - 1
+}
+
+// The kind alone.
+fn kind_alone(kind: u8) -> u8 {
+    if kind < WIDE {
+        return kind;
+    }
+    if kind < WIDE + ROUNDS {
+        return 5;
+    }
+    6
+}
+
+// 0, unless each of 512 bytes may stand where it does: then the kind that the next block is tested as.
+fn passes_most(s: &[u8], at: usize, kind: u8) -> u8
+    requires { ⌜ at + 515 ≤ length (now s) ⌝ }
+    ensures { λ r. ⌜ (0 < r → PlacedIn (now (s .entry)) at (at + 512)) ⌝ }
+{
+    if ascii_most(s, at) {
+        return kind;
+    }
+    if passes_as(s, at, kind_alone(kind)) {
+        return kept_kind(s, at, kind);
+    }
+    if !blocks::most_of(s, at, 6) {
+        return 0;
+    }
+    next_kind(s, at, kind)
+}
+
+// Whether each of n bytes may stand where it does, where n is 16 or 64.
+fn passes_short(s: &[u8], at: usize, n: usize) -> bool
+    requires { ⌜ at + n + 3 ≤ length (now s) ⌝ }
+    ensures { λ r. ⌜ (r ≡ true → PlacedIn (now (s .entry)) at (at + n)) ⌝ }
+{
+    if n == MANY {
+        return passes_many(s, at);
+    }
+    if n == FEW {
+        return placed_few(s, at);
+    }
+    false
+}
+
+// 0, unless each of n bytes may stand where it does, where n is 16, 64 or 512: then the kind that the next block is tested as.
+fn passes(s: &[u8], at: usize, n: usize, kind: u8) -> u8
+    requires { ⌜ at + n + 3 ≤ length (now s) ⌝ }
+    ensures { λ r. ⌜ (0 < r → PlacedIn (now (s .entry)) at (at + n)) ⌝ }
+{
+    if n == MOST {
+        return passes_most(s, at, kind);
+    }
+    if passes_short(s, at, n) {
+        return kind;
+    }
+    0
+}
+
+// The kind that the first block of n bytes is tested as.
+fn first_kind(s: &[u8], n: usize) -> u8
+    requires { ⌜ n + 3 ≤ length (now s) ⌝ }
+{
+    if n == MOST {
+        return wide_kind(blocks::kind_of(s, 0));
+    }
+    WIDE
+}
+
+// Whether each byte behind the first three may stand where it does, n at a time. The last n may begin among bytes that were tested before.
+fn each(s: &[u8], n: usize) -> bool
+    requires { ⌜ (1 ≤ n) × (n + 3 ≤ length (now s)) ⌝ }
     ensures { λ r. ⌜ (r ≡ true → PlacedIn (now (s .entry)) 0 (length (now (s .entry)) - 3)) ⌝ }
 {
-    let last = s.len() - (MANY + BEFORE);
+    let last = s.len() - (n + BEFORE);
+    let mut kind = first_kind(s, n);
     let mut i = 0;
     while i < last {
-        if !passes_many(s, i) {
+        kind = passes(s, i, n, kind);
+        if kind == 0 {
             return false;
         }
-        i += MANY;
+        i += n;
     }
-    passes_many(s, last)
+    passes(s, last, n, kind) != 0
 }
 
 // Whether the first three bytes may stand where they do, and the text may end behind the last three.
@@ -190,7 +329,10 @@ pub fn all_utf8(s: &[u8]) -> bool
         return false;
     }
     if s.len() < MANY + BEFORE {
-        return each_few(s);
+        return each(s, FEW);
     }
-    each_many(s)
+    if s.len() < MOST + BEFORE {
+        return each(s, MANY);
+    }
+    each(s, MOST)
 }

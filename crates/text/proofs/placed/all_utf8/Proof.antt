@@ -22,21 +22,32 @@ returns-2 c = λ z. absurd (false≢true z)
 add-if3 : tie.Need-add-if3
 add-if3 c = search needs
 
-each-few-requires : tie.Need-each-few-requires
-each-few-requires c κs = search needs
+each-requires : tie.Need-each-requires
+each-requires c κs = search needs
 
 returns-3 : tie.Need-returns-3
 returns-3 c =
     let l = c .before .before .before .before .if1 .left in
-    λ z. placed-utf8 (c .before .before .before .before .before .before .args .s .now) (omega arith) (c .before .before .before .ends-right .ensures (not-false _ (c .before .before .if2 .left))) (c .each-few .ensures z)
+    λ z. placed-utf8 (c .before .before .before .before .before .before .args .s .now) (omega arith) (c .before .before .before .ends-right .ensures (not-false _ (c .before .before .if2 .left))) (c .each .ensures z)
 
-each-many-requires : tie.Need-each-many-requires
-each-many-requires c κs = search needs
+add-if4 : tie.Need-add-if4
+add-if4 c = search needs
+
+each-requires-2 : tie.Need-each-requires-2
+each-requires-2 c κs = search needs
 
 returns-4 : tie.Need-returns-4
 returns-4 c =
-    let l = c .before .before .before .before .if1 .left in
-    λ z. placed-utf8 (c .before .before .before .before .before .before .args .s .now) (omega arith) (c .before .before .before .ends-right .ensures (not-false _ (c .before .before .if2 .left))) (c .each-many .ensures z)
+    let l = c .before .before .before .before .before .if1 .left in
+    λ z. placed-utf8 (c .before .before .before .before .before .before .before .args .s .now) (omega arith) (c .before .before .before .before .ends-right .ensures (not-false _ (c .before .before .before .if2 .left))) (c .each2 .ensures z)
+
+each-requires-3 : tie.Need-each-requires-3
+each-requires-3 c κs = search needs
+
+returns-5 : tie.Need-returns-5
+returns-5 c =
+    let l = c .before .before .before .before .before .if1 .left in
+    λ z. placed-utf8 (c .before .before .before .before .before .before .before .args .s .now) (omega arith) (c .before .before .before .before .ends-right .ensures (not-false _ (c .before .before .before .if2 .left))) (c .each3 .ensures z)
 
 pub all-utf8-spec : {M : Type 1} → statement M
 all-utf8-spec =
@@ -47,7 +58,10 @@ all-utf8-spec =
     ends-right-requires
     returns-2
     add-if3
-    each-few-requires
+    each-requires
     returns-3
-    each-many-requires
-    returns-4)
+    add-if4
+    each-requires-2
+    returns-4
+    each-requires-3
+    returns-5)

@@ -1,9 +1,7 @@
 -- `text::placed::placed_many` meets its contract: four times sixteen bytes, one behind another. Assumes nothing.
-use native.Mathlib.Omega.{arith}
-use mathlib.Core.Path.{_≡_}
+use mathlib.Core.Path.{refl}
 use mathlib.Core.Bool.{and-eq-true-iff}
-use Prim.Native.Nat.{_+_}
-use Rattle.text.proofs.Along.{placed-join, placed-behind}
+use Rattle.text.proofs.Along.{placed-four}
 use borrow.Author.Needs.{needs}
 use Rattle.text.proofs.placed.placed_many.Statement.{statement}
 use Rattle.text.proofs.placed.placed_many.Tie as tie
@@ -42,9 +40,7 @@ returns c =
     let t = and-eq-true-iff _ (fourth .result) .0 z in
     let u = and-eq-true-iff _ (third .result) .0 (t .0) in
     let v = and-eq-true-iff (first .result) (second .result) .0 (u .0) in
-    let two = placed-join s at (at + 16) (at + 32) (first .ensures (v .0)) (placed-behind s at 16 16 (second .ensures (v .1))) in
-    let three = placed-join s at (at + 32) (at + 48) two (placed-behind s at 32 16 (third .ensures (u .1))) in
-    placed-join s at (at + 48) (at + 64) three (placed-behind s at 48 16 (fourth .ensures (t .1)))
+    placed-four s at 16 32 48 64 refl refl refl (first .ensures (v .0)) (second .ensures (v .1)) (third .ensures (u .1)) (fourth .ensures (t .1))
 
 pub placed-many-spec : {M : Type 1} → statement M
 placed-many-spec =
