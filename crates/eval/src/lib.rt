@@ -350,7 +350,7 @@ fn each_place(
 {
     let plan = lent[PLAN];
     let table = lent[TABLE];
-    let from = records::low_word(table, node) as usize;
+    let from = records::first_child(table, node) as usize;
     let s = leaves::slice_at(plan, table, p, node);
     let mut w = eval_front::placed(table, from, s);
     if plan[rest] == END {
@@ -433,7 +433,7 @@ fn keep_children(
         return keep_matched(lent, state, list, node, p, rest, g.tail);
     }
     let table = lent[TABLE];
-    let i = records::low_word(table, node) as usize;
+    let i = records::first_child(table, node) as usize;
     let n = records::child_count(table, node) as usize;
     let root = state[ROOT];
     let at = state[AT];
@@ -484,7 +484,7 @@ fn keep_matched(
         return false;
     }
     let table = lent[TABLE];
-    let i = records::low_word(table, node) as usize;
+    let i = records::first_child(table, node) as usize;
     let n = records::child_count(table, node) as usize;
     let root = state[ROOT];
     let at = state[AT];
@@ -527,7 +527,7 @@ fn eval_filter(
 {
     let z = p + 3 + bytes::word16(lent[PLAN], p + 1);
     let table = lent[TABLE];
-    let i = records::low_word(table, node) as usize;
+    let i = records::first_child(table, node) as usize;
     let n = records::child_count(table, node) as usize;
     let e = i + n;
     let mut j = next_kept(lent, state[ROOT], i, e, p + 3, z);

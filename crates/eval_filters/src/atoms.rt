@@ -208,7 +208,7 @@ fn named(
     ensures { λ r. ⌜ DoneOne (now (plan .entry)) (now (pool .entry)) (now (table .entry)) (now (text .entry)) p node r ⌝ }
 {
     if members::is_near(table, text, node, near, pool, start, size) {
-        return Member::At(records::low_word(table, node) as usize + near);
+        return Member::At(records::first_child(table, node) as usize + near);
     }
     leaves::select_one(plan, pool, table, text, p, node)
 }
@@ -267,7 +267,7 @@ pub fn holds(
     let Member::At(m) = found else {
         return Held { acc: false, near };
     };
-    let there = m - records::low_word(table, node) as usize;
+    let there = m - records::first_child(table, node) as usize;
     if form == HAS {
         return Held {
             acc: true,

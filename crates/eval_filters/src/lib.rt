@@ -118,8 +118,8 @@ fn same_text(plan: &[u8], pool: &[u8], table: &[u8], text: &[u8], m: usize, q: u
     requires { ⌜ (getD (now plan) q 0 ≡ 0x12) × (kindAt (now table) m ≡ 5) ⌝ }
     ensures { λ r. ⌜ DoneNode (now (plan .entry)) (now (pool .entry)) (now (table .entry)) (now (text .entry)) m q 0 r ⌝ }
 {
-    let a = records::low_word(table, m) as usize;
-    let n = records::high_word(table, m) as usize;
+    let a = records::text_start(table, m) as usize;
+    let n = records::text_length(table, m) as usize;
     let b = bytes::word16(plan, q + 1);
     let k = bytes::word16(plan, q + 3);
     parts::same_part(text, a, n, pool, b, k)

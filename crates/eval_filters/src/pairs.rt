@@ -25,10 +25,10 @@ fn same_texts(table: &[u8], text: &[u8], m: usize, n: usize) -> bool
     requires { ⌜ (kindAt (now table) m ≡ 5) × (kindAt (now table) n ≡ 5) ⌝ }
     ensures { λ r. ⌜ Compares (nodeValue (nodeAt (now (table .entry)) (now (text .entry)) m)) (nodeValue (nodeAt (now (table .entry)) (now (text .entry)) n)) 0 r ⌝ }
 {
-    let a = records::low_word(table, m) as usize;
-    let p = records::high_word(table, m) as usize;
-    let b = records::low_word(table, n) as usize;
-    let q = records::high_word(table, n) as usize;
+    let a = records::text_start(table, m) as usize;
+    let p = records::text_length(table, m) as usize;
+    let b = records::text_start(table, n) as usize;
+    let q = records::text_length(table, n) as usize;
     parts::same_part(text, a, p, text, b, q)
 }
 

@@ -93,7 +93,7 @@ pub fn named(
     if records::kind(table, node) != KIND_MAP {
         return Member::Nothing;
     }
-    let first = records::low_word(table, node) as usize;
+    let first = records::first_child(table, node) as usize;
     let count = records::child_count(table, node) as usize;
     if members::is_short(size) {
         return members::find_short(table, text, first, count, pool, start, size);
@@ -119,7 +119,7 @@ pub fn first_named(
     if records::kind(table, node) != KIND_MAP {
         return Member::Nothing;
     }
-    let first = records::low_word(table, node) as usize;
+    let first = records::first_child(table, node) as usize;
     let count = records::child_count(table, node) as usize;
     if members::is_short(size) {
         return members::find_short(table, text, first, count, pool, start, size);
@@ -135,7 +135,7 @@ fn by_name(plan: &[u8], pool: &[u8], table: &[u8], text: &[u8], p: usize, node: 
     if records::kind(table, node) != KIND_MAP {
         return Member::Nothing;
     }
-    let first = records::low_word(table, node) as usize;
+    let first = records::first_child(table, node) as usize;
     let count = records::child_count(table, node) as usize;
     let start = bytes::word16(plan, p + 1);
     let size = bytes::word16(plan, p + 3);
@@ -160,7 +160,7 @@ pub fn get_by_index(
     if records::kind(table, node) != KIND_LIST {
         return Member::Nothing;
     }
-    let first = records::low_word(table, node) as usize;
+    let first = records::first_child(table, node) as usize;
     let count = records::child_count(table, node) as usize;
     let i = bytes::int64(plan, p + 1);
     match slices::index_place(count, i) {

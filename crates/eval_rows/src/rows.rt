@@ -84,8 +84,8 @@ fn text_of(
             some: false,
         };
     }
-    let start = records::low_word(table, m) as usize;
-    let size = records::high_word(table, m) as usize;
+    let start = records::text_start(table, m) as usize;
+    let size = records::text_length(table, m) as usize;
     Spot {
         start,
         size,

@@ -83,7 +83,7 @@ fn select_near(
     ensures { λ r. ⌜ DoneOne (now (plan .entry)) (now (pool .entry)) (now (table .entry)) (now (text .entry)) p node r ⌝ }
 {
     if name_near(plan, pool, table, text, p, node, near) {
-        return Member::At(records::low_word(table, node) as usize + near);
+        return Member::At(records::first_child(table, node) as usize + near);
     }
     leaves::select_one(plan, pool, table, text, p, node)
 }
@@ -118,7 +118,7 @@ fn push_selected(
     let Member::At(m) = found else {
         return Pushed { at, near };
     };
-    let there = m - records::low_word(table, node) as usize;
+    let there = m - records::first_child(table, node) as usize;
     let a = eval_front::push(list, at, m, cap);
     Pushed { at: a, near: there }
 }

@@ -46,7 +46,7 @@ pub fn push_slice(
     ensures { λ r. ⌜ DoneSlice (now (plan .entry)) (now (pool .entry)) (now (table .entry)) (now (text .entry)) node pc cap (now (list .entry)) at (now (list .exit)) r ⌝ }
 {
     let w = leaves::slice_at(plan, table, pc + 3, node);
-    let first = records::low_word(table, node) as usize;
+    let first = records::first_child(table, node) as usize;
     let v = eval_front::placed(table, first, w);
     eval_front::push_places(list, v, at, cap)
 }

@@ -88,8 +88,8 @@ fn same_elements(table: &[u8], text: &[u8], pool: &[u8], i: usize, j: usize) -> 
     requires { ⌜ Both (now table) i j × (childCount (now table) i ≡ childCount (now table) j) ⌝ }
     ensures { λ r. ⌜ r ≡ sameElementsAt (now (table .entry)) (now (text .entry)) i j ⌝ }
 {
-    let a = records::low_word(table, i) as usize;
-    let b = records::low_word(table, j) as usize;
+    let a = records::first_child(table, i) as usize;
+    let b = records::first_child(table, j) as usize;
     let count = records::child_count(table, i) as usize;
     let mut k = 0;
     while k < count {
@@ -109,8 +109,8 @@ fn same_members(table: &[u8], text: &[u8], pool: &[u8], i: usize, j: usize) -> b
     requires { ⌜ Both (now table) i j × (kindAt (now table) i ≡ kindMap) × (kindAt (now table) j ≡ kindMap) ⌝ }
     ensures { λ r. ⌜ r ≡ sameMembersAt (now (table .entry)) (now (text .entry)) i j ⌝ }
 {
-    let a = records::low_word(table, i) as usize;
-    let b = records::low_word(table, j) as usize;
+    let a = records::first_child(table, i) as usize;
+    let b = records::first_child(table, j) as usize;
     let count = records::child_count(table, i) as usize;
     let many = records::child_count(table, j) as usize;
     let mut near = 0;

@@ -114,10 +114,10 @@ pub fn is_near(
     if records::kind(table, node) != KIND_MAP {
         return false;
     }
-    if records::high_word(table, node) as usize <= near {
+    if records::children(table, node) as usize <= near {
         return false;
     }
-    let member = records::low_word(table, node) as usize + near;
+    let member = records::first_child(table, node) as usize + near;
     is_named(table, text, member, s, a, n)
 }
 

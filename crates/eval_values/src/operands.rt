@@ -46,8 +46,8 @@ pub fn get_value(table: &[u8], text: &[u8], node: usize) -> Operand
         return Operand::Float(bytes::float64(table, RECORD * node + PAYLOAD));
     }
     if k == KIND_TEXT {
-        let start = records::low_word(table, node) as usize;
-        let size = records::high_word(table, node) as usize;
+        let start = records::text_start(table, node) as usize;
+        let size = records::text_length(table, node) as usize;
         return Operand::Text(start, size);
     }
     Operand::Node(node)

@@ -65,8 +65,8 @@ pub extern "C" fn stewpebble_text_of_node(
         *length = 0;
         return number as u32;
     }
-    *start = records::low_word(table, node) as u64;
-    *length = records::high_word(table, node) as u64;
+    *start = records::text_start(table, node) as u64;
+    *length = records::text_length(table, node) as u64;
     0
 }
 

@@ -108,12 +108,36 @@ pub fn high_word(table: &[u8], node: usize) -> u32
     bytes::word32(table, RECORD * node + 20) as u32
 }
 
+// Where a text starts.
+pub fn text_start(table: &[u8], node: usize) -> u32
+    requires { ⌜ node < nodeCount (now table) ⌝ }
+    ensures { λ r. ⌜ r ≡ lowWord (now (table .entry)) node ⌝ }
+{
+    low_word(table, node)
+}
+
+// How long a text is.
+pub fn text_length(table: &[u8], node: usize) -> u32
+    requires { ⌜ node < nodeCount (now table) ⌝ }
+    ensures { λ r. ⌜ r ≡ highWord (now (table .entry)) node ⌝ }
+{
+    high_word(table, node)
+}
+
 // Where the children of a list or a map begin, as its record says.
 pub fn first_child(table: &[u8], node: usize) -> u32
     requires { ⌜ node < nodeCount (now table) ⌝ }
     ensures { λ r. ⌜ r ≡ lowWord (now (table .entry)) node ⌝ }
 {
     low_word(table, node)
+}
+
+// How many children a list or a map has, as its record says.
+pub fn children(table: &[u8], node: usize) -> u32
+    requires { ⌜ node < nodeCount (now table) ⌝ }
+    ensures { λ r. ⌜ r ≡ highWord (now (table .entry)) node ⌝ }
+{
+    high_word(table, node)
 }
 
 // How many children a node has: none, if it is neither a list nor a map.

@@ -75,7 +75,7 @@ pub +apply-selector+apply-selectors+each-child+each-place+eval-filter+eval-filte
     (EachChild.loop-again-2 t) (EachChild.returns-4 t))
     (λ t. each-place-lts.spec (EachPlace.calls t) (each-place-at t) each-place.Post EachPlace.Inv-loop
     EachPlace.μ-loop (EachPlace.element-copy-out-plan t) (EachPlace.element-copy-out-table t)
-    (EachPlace.low-word-requires t) (EachPlace.cast-from t) (EachPlace.slice-at-requires t)
+    (EachPlace.first-child-requires t) (EachPlace.cast-from t) (EachPlace.slice-at-requires t)
     (EachPlace.placed-requires t) (EachPlace.shared-slice-read-if1 t) (EachPlace.element-copy-out-at t)
     (EachPlace.slice-aggregate-push-places t) (EachPlace.element-copy-out-push-places t)
     (EachPlace.push-places-requires t) (EachPlace.element-write-state t) (EachPlace.returns t)
@@ -85,7 +85,7 @@ pub +apply-selector+apply-selectors+each-child+each-place+eval-filter+eval-filte
     (λ t. eval-filter-lts.spec (EvalFilter.calls t) (eval-filter-at t) eval-filter.Post EvalFilter.Inv-loop
     EvalFilter.μ-loop (EvalFilter.add-z t) (EvalFilter.element-copy-out-word16 t) (EvalFilter.add-word16 t)
     (EvalFilter.word16-requires t) (EvalFilter.add-z-2 t) (EvalFilter.element-copy-out-table t)
-    (EvalFilter.low-word-requires t) (EvalFilter.cast-i t) (EvalFilter.child-count-requires t)
+    (EvalFilter.first-child-requires t) (EvalFilter.cast-i t) (EvalFilter.child-count-requires t)
     (EvalFilter.cast-n t) (EvalFilter.add-e t) (EvalFilter.element-copy-out-next-kept t)
     (EvalFilter.add-next-kept t) (EvalFilter.next-kept-requires t) (EvalFilter.loop-holds t)
     (EvalFilter.evaluate-segment-requires t) (EvalFilter.element-copy-out-if1 t)

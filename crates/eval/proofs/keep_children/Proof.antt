@@ -8,7 +8,7 @@ use Rattle.eval_filters.proofs.kept.keep.Reads as keep-reads
 use Rattle.eval.proofs.keep_matched.Reads as keep-matched-reads
 use Rattle.eval_filters.proofs.kept.read_form.Reads as read-form-reads
 use Rattle.table.proofs.records.child_count.Reads as child-count-reads
-use Rattle.table.proofs.records.low_word.Reads as low-word-reads
+use Rattle.table.proofs.records.first_child.Reads as first-child-reads
 use Rattle.text.proofs.bytes.word16.Reads as word16-reads
 use mathlib.Core.Path.{refl}
 use native.Mathlib.Omega.{arith}
@@ -46,8 +46,8 @@ returns c = c .keep-matched .ensures
 element-copy-out-table : tie.Need-element-copy-out-table
 element-copy-out-table c = search needs
 
-low-word-requires : tie.Need-low-word-requires
-low-word-requires c κs = search needs
+first-child-requires : tie.Need-first-child-requires
+first-child-requires c κs = search needs
 
 cast-i : tie.Need-cast-i
 cast-i c = search needs
@@ -83,7 +83,7 @@ slice-aggregate-keep : tie.Need-slice-aggregate-keep
 slice-aggregate-keep c = search needs
 
 keep-requires : tie.Need-keep-requires
-keep-requires c κs = let p = c .before .before .before .before .before .before .before .before .before .before .before .before .before .before .pre in (keep-asked (p .0) (p .1 .0) (p .1 .1) (c .before .before .before .before .before .before .before .before .before .before .before .before .word16 .ensures) (c .before .before .before .before .before .before .before .low-word .ensures) (c .before .before .before .before .before .before .child-count .ensures), (test-asked (p .0) (p .1 .0) (p .1 .1) (c .before .before .before .before .before .before .before .before .before .before .before .before .word16 .ensures), (c .before .before .before .before .before .before .before .before .before .before .before .read-form .ensures, c .before .before .before .before .before .before .before .before .before .if1 .left)))
+keep-requires c κs = let p = c .before .before .before .before .before .before .before .before .before .before .before .before .before .before .pre in (keep-asked (p .0) (p .1 .0) (p .1 .1) (c .before .before .before .before .before .before .before .before .before .before .before .before .word16 .ensures) (c .before .before .before .before .before .before .before .first-child .ensures) (c .before .before .before .before .before .before .child-count .ensures), (test-asked (p .0) (p .1 .0) (p .1 .1) (c .before .before .before .before .before .before .before .before .before .before .before .before .word16 .ensures), (c .before .before .before .before .before .before .before .before .before .before .before .read-form .ensures, c .before .before .before .before .before .before .before .before .before .if1 .left)))
 
 element-write-state : tie.Need-element-write-state
 element-write-state c = search needs
@@ -91,7 +91,7 @@ element-write-state c = search needs
 returns-2 : tie.Need-returns-2
 returns-2 c =
     let p = c .before .before .before .before .before .before .before .before .before .before .before .before .before .before .before .pre in
-    (steady-wrote _ _ _ _ (c .keep .kept .1 .1 .1 .1 .1 .1 .1 .1 .1 .1 .1 .0) refl, kept-done _ _ _ _ _ _ _ _ (keep-done (p .0) (p .1 .0) (p .1 .1) (c .before .before .before .before .before .before .before .before .before .before .before .before .before .word16 .ensures) (c .before .before .before .before .before .before .before .before .low-word .ensures) (c .before .before .before .before .before .before .before .child-count .ensures) _ _ (c .keep .ensures)))
+    (steady-wrote _ _ _ _ (c .keep .kept .1 .1 .1 .1 .1 .1 .1 .1 .1 .1 .1 .0) refl, kept-done _ _ _ _ _ _ _ _ (keep-done (p .0) (p .1 .0) (p .1 .1) (c .before .before .before .before .before .before .before .before .before .before .before .before .before .word16 .ensures) (c .before .before .before .before .before .before .before .before .first-child .ensures) (c .before .before .before .before .before .before .before .child-count .ensures) _ _ (c .keep .ensures)))
 
 pub keep-children-spec : {M : Type 1} → statement M
 keep-children-spec =
@@ -107,7 +107,7 @@ keep-children-spec =
     keep-matched-requires
     returns
     element-copy-out-table
-    low-word-requires
+    first-child-requires
     cast-i
     child-count-requires
     cast-n

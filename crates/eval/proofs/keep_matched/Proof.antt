@@ -13,7 +13,7 @@ use Rattle.eval.proofs.keep_matched.Lts as lts
 use Rattle.eval_rows.proofs.calls.read_call.Reads as read-call-reads
 use Rattle.eval_rows.proofs.keep_matched.Reads as keep-matched-reads
 use Rattle.table.proofs.records.child_count.Reads as child-count-reads
-use Rattle.table.proofs.records.low_word.Reads as low-word-reads
+use Rattle.table.proofs.records.first_child.Reads as first-child-reads
 use Rattle.text.proofs.bytes.word16.Reads as word16-reads
 
 returns : tie.Need-returns
@@ -46,8 +46,8 @@ returns-2 c = (steady-refl _ _, kept-none _ _ _ _ _ _)
 element-copy-out-table : tie.Need-element-copy-out-table
 element-copy-out-table c = search needs
 
-low-word-requires : tie.Need-low-word-requires
-low-word-requires c κs = search needs
+first-child-requires : tie.Need-first-child-requires
+first-child-requires c κs = search needs
 
 cast-i : tie.Need-cast-i
 cast-i c = search needs
@@ -83,13 +83,13 @@ slice-aggregate-keep-matched : tie.Need-slice-aggregate-keep-matched
 slice-aggregate-keep-matched c = search needs
 
 keep-matched-requires : tie.Need-keep-matched-requires
-keep-matched-requires c κs = let p = c .before .before .before .before .before .before .before .before .before .before .before .before .before .before .before .pre in (keep-asked (p .0) (p .1 .0) (p .1 .1 .0) (c .before .before .before .before .before .before .before .before .before .before .before .before .word16 .ensures) (c .before .before .before .before .before .before .before .low-word .ensures) (c .before .before .before .before .before .before .child-count .ensures), ((test-asked (p .0) (p .1 .0) (p .1 .1 .0) (c .before .before .before .before .before .before .before .before .before .before .before .before .word16 .ensures), c .before .before .before .before .before .before .before .before .before .before .before .read-call .ensures (not-false _ (c .before .before .before .before .before .before .before .before .before .if2 .left))), (p .1 .1 .1, c .before .before .before .before .before .before .before .before .before .before .before .before .before .before .if1 .left)))
+keep-matched-requires c κs = let p = c .before .before .before .before .before .before .before .before .before .before .before .before .before .before .before .pre in (keep-asked (p .0) (p .1 .0) (p .1 .1 .0) (c .before .before .before .before .before .before .before .before .before .before .before .before .word16 .ensures) (c .before .before .before .before .before .before .before .first-child .ensures) (c .before .before .before .before .before .before .child-count .ensures), ((test-asked (p .0) (p .1 .0) (p .1 .1 .0) (c .before .before .before .before .before .before .before .before .before .before .before .before .word16 .ensures), c .before .before .before .before .before .before .before .before .before .before .before .read-call .ensures (not-false _ (c .before .before .before .before .before .before .before .before .before .if2 .left))), (p .1 .1 .1, c .before .before .before .before .before .before .before .before .before .before .before .before .before .before .if1 .left)))
 
 element-write-state : tie.Need-element-write-state
 element-write-state c = search needs
 
 returns-3 : tie.Need-returns-3
-returns-3 c = let p = c .before .before .before .before .before .before .before .before .before .before .before .before .before .before .before .before .pre in (steady-wrote _ _ _ _ (c .keep-matched .kept .1 .1 .1 .1 .1 .1 .1 .1 .1 .1 .1 .1 .0) refl, kept-done _ _ _ _ _ _ _ _ (keep-done (p .0) (p .1 .0) (p .1 .1 .0) (c .before .before .before .before .before .before .before .before .before .before .before .before .before .word16 .ensures) (c .before .before .before .before .before .before .before .before .low-word .ensures) (c .before .before .before .before .before .before .before .child-count .ensures) _ _ (c .keep-matched .ensures)))
+returns-3 c = let p = c .before .before .before .before .before .before .before .before .before .before .before .before .before .before .before .before .pre in (steady-wrote _ _ _ _ (c .keep-matched .kept .1 .1 .1 .1 .1 .1 .1 .1 .1 .1 .1 .1 .0) refl, kept-done _ _ _ _ _ _ _ _ (keep-done (p .0) (p .1 .0) (p .1 .1 .0) (c .before .before .before .before .before .before .before .before .before .before .before .before .before .word16 .ensures) (c .before .before .before .before .before .before .before .before .first-child .ensures) (c .before .before .before .before .before .before .before .child-count .ensures) _ _ (c .keep-matched .ensures)))
 
 pub keep-matched-spec : {M : Type 1} → statement M
 keep-matched-spec =
@@ -105,7 +105,7 @@ keep-matched-spec =
     read-call-requires
     returns-2
     element-copy-out-table
-    low-word-requires
+    first-child-requires
     cast-i
     child-count-requires
     cast-n

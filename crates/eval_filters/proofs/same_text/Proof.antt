@@ -8,14 +8,14 @@ use Rattle.eval_filters.specs.Tests.{texts-in, texts-done}
 use Rattle.eval_filters.proofs.same_text.Statement.{statement}
 use Rattle.eval_filters.proofs.same_text.Tie as tie
 
-low-word-requires : tie.Need-low-word-requires
-low-word-requires c κs = search needs
+text-start-requires : tie.Need-text-start-requires
+text-start-requires c κs = search needs
 
 cast-a : tie.Need-cast-a
 cast-a c = search needs
 
-high-word-requires : tie.Need-high-word-requires
-high-word-requires c κs = search needs
+text-length-requires : tie.Need-text-length-requires
+text-length-requires c κs = search needs
 
 cast-n : tie.Need-cast-n
 cast-n c = search needs
@@ -35,20 +35,20 @@ word16-requires-2 c κs = let s = c .before .before .before .before .before .bef
 same-part-requires : tie.Need-same-part-requires
 same-part-requires c κs =
     let s = c .before .before .before .before .before .before .before .before in
-    texts-in (s .pre .0) 0 true (s .pre .1 .0) (s .pre .1 .1) _ _ _ _ (c .before .before .before .low-word .ensures) (c .before .before .high-word .ensures) (c .before .word16 .ensures .is) (c .word162 .ensures .is)
+    texts-in (s .pre .0) 0 true (s .pre .1 .0) (s .pre .1 .1) _ _ _ _ (c .before .before .before .text-start .ensures) (c .before .before .text-length .ensures) (c .before .word16 .ensures .is) (c .word162 .ensures .is)
 
 returns : tie.Need-returns
 returns c =
     let s = c .before .before .before .before .before .before .before .before .before in
-    texts-done (s .pre .0) 0 _ (s .pre .1 .0) (s .pre .1 .1) _ _ _ _ (c .before .before .before .before .low-word .ensures) (c .before .before .before .high-word .ensures) (c .before .before .word16 .ensures .is) (c .before .word162 .ensures .is) refl (c .same-part .ensures)
+    texts-done (s .pre .0) 0 _ (s .pre .1 .0) (s .pre .1 .1) _ _ _ _ (c .before .before .before .before .text-start .ensures) (c .before .before .before .text-length .ensures) (c .before .before .word16 .ensures .is) (c .before .word162 .ensures .is) refl (c .same-part .ensures)
 
 pub same-text-spec : {M : Type 1} → statement M
 same-text-spec =
     tie.close
     (tie.spec
-    low-word-requires
+    text-start-requires
     cast-a
-    high-word-requires
+    text-length-requires
     cast-n
     add-word16
     word16-requires

@@ -20,15 +20,15 @@ pub +same-elements+same-members+same-nodes+same-values-spec : {M : Type 1} → s
 +same-elements+same-members+same-nodes+same-values-spec =
     close μ-same-elements μ-same-members μ-same-nodes μ-same-values
     (λ t. same-elements-lts.spec (SameElements.calls t) (same-elements-at t) same-elements.Post
-    SameElements.Inv-loop SameElements.μ-loop (SameElements.low-word-requires t) (SameElements.cast-a t)
-    (SameElements.low-word-requires-2 t) (SameElements.cast-b t) (SameElements.child-count-requires t)
+    SameElements.Inv-loop SameElements.μ-loop (SameElements.first-child-requires t) (SameElements.cast-a t)
+    (SameElements.first-child-requires-2 t) (SameElements.cast-b t) (SameElements.child-count-requires t)
     (SameElements.cast-count t) (SameElements.loop-holds t) (SameElements.add-get-value t)
     (SameElements.get-value-requires t) (SameElements.add-get-value-2 t)
     (SameElements.get-value-requires-2 t) (SameElements.same-values-requires t) (SameElements.returns t)
     (SameElements.add-k t) (SameElements.loop-less t) (SameElements.loop-again t) (SameElements.returns-2 t))
     (λ t. same-members-lts.spec (SameMembers.calls t) (same-members-at t) same-members.Post
-    SameMembers.Inv-loop SameMembers.μ-loop (SameMembers.low-word-requires t) (SameMembers.cast-a t)
-    (SameMembers.low-word-requires-2 t) (SameMembers.cast-b t) (SameMembers.child-count-requires t)
+    SameMembers.Inv-loop SameMembers.μ-loop (SameMembers.first-child-requires t) (SameMembers.cast-a t)
+    (SameMembers.first-child-requires-2 t) (SameMembers.cast-b t) (SameMembers.child-count-requires t)
     (SameMembers.cast-count t) (SameMembers.child-count-requires-2 t) (SameMembers.cast-many t)
     (SameMembers.loop-holds t) (SameMembers.add-partner t) (SameMembers.partner-requires t)
     (SameMembers.enum-known-found t) (SameMembers.enum-told t) (SameMembers.returns t)

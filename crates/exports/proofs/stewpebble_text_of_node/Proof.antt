@@ -13,23 +13,23 @@ returns : tie.Need-returns
 unfolding textOutcome
 returns c = hands-none _ _ _ _ _ _ _ (c .before .before .text-of-node .ensures .0) (c .before .if1 .taken)
 
-low-word-requires : tie.Need-low-word-requires
+text-start-requires : tie.Need-text-start-requires
 unfolding textOutcome
-low-word-requires c κs = text-has _ _ (has-part _ _ _ _ _ (c .before .text-of-node .ensures .0) (c .if1 .left)) .0
+text-start-requires c κs = text-has _ _ (has-part _ _ _ _ _ (c .before .text-of-node .ensures .0) (c .if1 .left)) .0
 
 cast-start : tie.Need-cast-start
 cast-start c = search needs
 
-high-word-requires : tie.Need-high-word-requires
+text-length-requires : tie.Need-text-length-requires
 unfolding textOutcome
-high-word-requires c κs = text-has _ _ (has-part _ _ _ _ _ (c .before .before .text-of-node .ensures .0) (c .before .if1 .left)) .0
+text-length-requires c κs = text-has _ _ (has-part _ _ _ _ _ (c .before .before .text-of-node .ensures .0) (c .before .if1 .left)) .0
 
 cast-length : tie.Need-cast-length
 cast-length c = search needs
 
 returns-2 : tie.Need-returns-2
 unfolding textOutcome
-returns-2 c = hands-part _ _ _ _ _ _ _ (c .before .before .before .text-of-node .ensures .0) (c .before .before .if1 .left) (c .before .low-word .ensures) (c .high-word .ensures)
+returns-2 c = hands-part _ _ _ _ _ _ _ (c .before .before .before .text-of-node .ensures .0) (c .before .before .if1 .left) (c .before .text-start .ensures) (c .text-length .ensures)
 
 pub stewpebble-text-of-node-spec : {M : Type 1} → statement M
 stewpebble-text-of-node-spec =
@@ -37,8 +37,8 @@ stewpebble-text-of-node-spec =
     (tie.spec
     text-of-node-requires
     returns
-    low-word-requires
+    text-start-requires
     cast-start
-    high-word-requires
+    text-length-requires
     cast-length
     returns-2)

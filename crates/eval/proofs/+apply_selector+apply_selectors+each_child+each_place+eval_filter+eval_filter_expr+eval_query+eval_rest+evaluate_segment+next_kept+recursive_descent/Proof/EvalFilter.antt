@@ -5,7 +5,7 @@ use Rattle.eval.proofs.eval_filter.Reads as eval-filter
 use Rattle.eval.proofs.evaluate_segment.Reads as evaluate-segment
 use Rattle.eval.proofs.next_kept.Reads as next-kept
 use Rattle.table.proofs.records.child_count.Reads as child-count-reads
-use Rattle.table.proofs.records.low_word.Reads as low-word-reads
+use Rattle.table.proofs.records.first_child.Reads as first-child-reads
 use Rattle.text.proofs.bytes.word16.Reads as word16-reads
 use Rattle.eval.proofs.+apply_selector+apply_selectors+each_child+each_place+eval_filter+eval_filter_expr+eval_query+eval_rest+evaluate_segment+next_kept+recursive_descent.Proof.Base.{eval-filter-at, evaluate-segment-below, next-kept-below}
 use borrow.Author.Needs.{needs}
@@ -16,7 +16,7 @@ use Rattle.eval.specs.Calls.{segment-room}
 use Rattle.eval.specs.Kinds.{rest-in, filter-bound, filter-inside, rest-asked, next-asked, kept-in-table, filter-done, InFilter, filter-start, filter-end-all, filter-full, filter-again, next-later}
 
 abbrev pub calls : ℕ → lts.Claims
-calls t = (word16-reads.Asked, word16-reads.Learnt, low-word-reads.Asked, low-word-reads.Learnt, child-count-reads.Asked, child-count-reads.Learnt, next-kept-below t, next-kept.Post, evaluate-segment-below t, evaluate-segment.Post)
+calls t = (word16-reads.Asked, word16-reads.Learnt, first-child-reads.Asked, first-child-reads.Learnt, child-count-reads.Asked, child-count-reads.Learnt, next-kept-below t, next-kept.Post, evaluate-segment-below t, evaluate-segment.Post)
 
 abbrev pub Inv-loop : lts.InvT-loop
 Inv-loop lent state₀ list₀ node p rest z i n e j₀ state list j = InFilter lent i e (p + 3) z rest state₀ list₀ state list j
@@ -43,8 +43,8 @@ module _ (t : ℕ) where
   pub element-copy-out-table : lts.Need-element-copy-out-table (calls t) (eval-filter-at t) eval-filter.Post Inv-loop μ-loop
   element-copy-out-table c = search needs
 
-  pub low-word-requires : lts.Need-low-word-requires (calls t) (eval-filter-at t) eval-filter.Post Inv-loop μ-loop
-  low-word-requires c κs = c .before .before .before .pre .1 .1 .0 .node-in
+  pub first-child-requires : lts.Need-first-child-requires (calls t) (eval-filter-at t) eval-filter.Post Inv-loop μ-loop
+  first-child-requires c κs = c .before .before .before .pre .1 .1 .0 .node-in
 
   pub cast-i : lts.Need-cast-i (calls t) (eval-filter-at t) eval-filter.Post Inv-loop μ-loop
   cast-i c = search needs
@@ -56,7 +56,7 @@ module _ (t : ℕ) where
   cast-n c = search needs
 
   pub add-e : lts.Need-add-e (calls t) (eval-filter-at t) eval-filter.Post Inv-loop μ-loop
-  add-e c = omega (arith, c .before .low-word .ok, c .child-count .ok)
+  add-e c = omega (arith, c .before .first-child .ok, c .child-count .ok)
 
   pub element-copy-out-next-kept : lts.Need-element-copy-out-next-kept (calls t) (eval-filter-at t) eval-filter.Post Inv-loop μ-loop
   element-copy-out-next-kept c = search needs
@@ -67,7 +67,7 @@ module _ (t : ℕ) where
   pub next-kept-requires : lts.Need-next-kept-requires (calls t) (eval-filter-at t) eval-filter.Post Inv-loop μ-loop
   next-kept-requires c κs =
       let p = c .before .before .before .before .before .before .pre .1 in
-      (omega arith, next-asked (p .0) (p .1 .0) (p .1 .1) (c .before .before .before .before .word16 .ensures) (c .before .before .low-word .ensures) (c .before .child-count .ensures) _ (omega arith))
+      (omega arith, next-asked (p .0) (p .1 .0) (p .1 .1) (c .before .before .before .before .word16 .ensures) (c .before .before .first-child .ensures) (c .before .child-count .ensures) _ (omega arith))
 
   pub loop-holds : lts.Need-loop-holds (calls t) (eval-filter-at t) eval-filter.Post Inv-loop μ-loop
   loop-holds c = let p = c .before .before .before .before .before .before .before .pre .1 in filter-start _ _ _ (p .0) (omega arith) (c .next-kept .ensures)
@@ -77,7 +77,7 @@ module _ (t : ℕ) where
       let p = c .before .before .before .before .before .before .before .before .before .before .before .pre .1 in
       let i = c .before .before .before .loop .inv in
       let w = rest-in (p .0) (p .1 .0) in
-      let t = kept-in-table (p .0) (p .1 .0) (p .1 .1) (c .before .before .before .before .before .before .before .before .before .word16 .ensures) (c .before .before .before .before .before .before .before .low-word .ensures) (c .before .before .before .before .before .before .child-count .ensures) (omega (arith, i .low, c .before .before .loop-test .taken)) in
+      let t = kept-in-table (p .0) (p .1 .0) (p .1 .1) (c .before .before .before .before .before .before .before .before .before .word16 .ensures) (c .before .before .before .before .before .before .before .first-child .ensures) (c .before .before .before .before .before .before .child-count .ensures) (omega (arith, i .low, c .before .before .loop-test .taken)) in
       (omega (arith, w .0), (going-asked (i .going) (p .0), record { node-in = omega (arith, c .before .before .loop-test .taken); query = rest-asked (p .0) (p .1 .0) (p .1 .1) (c .before .before .before .before .before .before .before .before .before .word16 .ensures) }))
 
   pub element-copy-out-if1 : lts.Need-element-copy-out-if1 (calls t) (eval-filter-at t) eval-filter.Post Inv-loop μ-loop
@@ -92,15 +92,15 @@ module _ (t : ℕ) where
       let i = c .before .before .before .before .before .before .before .loop .inv in
       let d = c .before .before .before .evaluate-segment .ensures in
       let a = going-asked (i .going) (p .0) in
-      let t = kept-in-table (p .0) (p .1 .0) (p .1 .1) (c .before .before .before .before .before .before .before .before .before .before .before .before .before .word16 .ensures) (c .before .before .before .before .before .before .before .before .before .before .before .low-word .ensures) (c .before .before .before .before .before .before .before .before .before .before .child-count .ensures) (omega (arith, i .low, c .before .before .before .before .before .before .loop-test .taken)) in
+      let t = kept-in-table (p .0) (p .1 .0) (p .1 .1) (c .before .before .before .before .before .before .before .before .before .before .before .before .before .word16 .ensures) (c .before .before .before .before .before .before .before .before .before .before .before .first-child .ensures) (c .before .before .before .before .before .before .before .before .before .before .child-count .ensures) (omega (arith, i .low, c .before .before .before .before .before .before .loop-test .taken)) in
       let b = segment-room a (record { node-in = omega (arith, c .before .before .before .before .before .before .loop-test .taken); query = rest-asked (p .0) (p .1 .0) (p .1 .1) (c .before .before .before .before .before .before .before .before .before .before .before .before .before .word16 .ensures) }) (d .1) in
-      (steady-then (i .going .kept) (d .0), filter-done (p .0) (p .1 .0) (p .1 .1) (c .before .before .before .before .before .before .before .before .before .before .before .before .before .word16 .ensures) (c .before .before .before .before .before .before .before .before .before .before .before .low-word .ensures) (c .before .before .before .before .before .before .before .before .before .before .child-count .ensures) (filter-full i (c .before .before .before .before .before .before .loop-test .taken) (d .0) b (d .1) (p .0) (c .if1 .taken)))
+      (steady-then (i .going .kept) (d .0), filter-done (p .0) (p .1 .0) (p .1 .1) (c .before .before .before .before .before .before .before .before .before .before .before .before .before .word16 .ensures) (c .before .before .before .before .before .before .before .before .before .before .before .first-child .ensures) (c .before .before .before .before .before .before .before .before .before .before .child-count .ensures) (filter-full i (c .before .before .before .before .before .before .loop-test .taken) (d .0) b (d .1) (p .0) (c .if1 .taken)))
 
   pub element-copy-out-next-kept-2 : lts.Need-element-copy-out-next-kept-2 (calls t) (eval-filter-at t) eval-filter.Post Inv-loop μ-loop
   element-copy-out-next-kept-2 c = search needs
 
   pub add-next-kept-2 : lts.Need-add-next-kept-2 (calls t) (eval-filter-at t) eval-filter.Post Inv-loop μ-loop
-  add-next-kept-2 c = omega (arith, c .before .before .before .before .before .before .before .loop-test .taken, c .before .before .before .before .before .before .before .before .before .before .before .before .low-word .ok, c .before .before .before .before .before .before .before .before .before .before .before .child-count .ok)
+  add-next-kept-2 c = omega (arith, c .before .before .before .before .before .before .before .loop-test .taken, c .before .before .before .before .before .before .before .before .before .before .before .before .first-child .ok, c .before .before .before .before .before .before .before .before .before .before .before .child-count .ok)
 
   pub add-next-kept-3 : lts.Need-add-next-kept-3 (calls t) (eval-filter-at t) eval-filter.Post Inv-loop μ-loop
   add-next-kept-3 c = let p = c .before .before .before .before .before .before .before .before .before .before .before .before .before .before .before .before .pre .1 in omega (arith, filter-bound (p .0) (p .1 .0) (p .1 .1), p .0 .given .fewP)
@@ -110,7 +110,7 @@ module _ (t : ℕ) where
       let p = c .before .before .before .before .before .before .before .before .before .before .before .before .before .before .before .before .pre .1 in
       let i = c .before .before .before .before .before .before .before .before .loop .inv in
       let d = c .before .before .before .before .evaluate-segment .ensures in
-      (omega arith, next-later (steady-then (i .going .kept) (d .0)) (next-asked (p .0) (p .1 .0) (p .1 .1) (c .before .before .before .before .before .before .before .before .before .before .before .before .before .before .word16 .ensures) (c .before .before .before .before .before .before .before .before .before .before .before .before .low-word .ensures) (c .before .before .before .before .before .before .before .before .before .before .before .child-count .ensures) _ (omega (arith, i .low))))
+      (omega arith, next-later (steady-then (i .going .kept) (d .0)) (next-asked (p .0) (p .1 .0) (p .1 .1) (c .before .before .before .before .before .before .before .before .before .before .before .before .before .before .word16 .ensures) (c .before .before .before .before .before .before .before .before .before .before .before .before .first-child .ensures) (c .before .before .before .before .before .before .before .before .before .before .before .child-count .ensures) _ (omega (arith, i .low))))
 
   pub loop-less : lts.Need-loop-less (calls t) (eval-filter-at t) eval-filter.Post Inv-loop μ-loop
   loop-less c = omega (arith, c .next-kept2 .ensures .low, c .before .before .before .before .before .before .before .before .loop-test .taken)
@@ -121,7 +121,7 @@ module _ (t : ℕ) where
       let i = c .before .before .before .before .before .before .before .before .before .loop .inv in
       let d = c .before .before .before .before .before .evaluate-segment .ensures in
       let a = going-asked (i .going) (p .0) in
-      let t = kept-in-table (p .0) (p .1 .0) (p .1 .1) (c .before .before .before .before .before .before .before .before .before .before .before .before .before .before .before .word16 .ensures) (c .before .before .before .before .before .before .before .before .before .before .before .before .before .low-word .ensures) (c .before .before .before .before .before .before .before .before .before .before .before .before .child-count .ensures) (omega (arith, i .low, c .before .before .before .before .before .before .before .before .loop-test .taken)) in
+      let t = kept-in-table (p .0) (p .1 .0) (p .1 .1) (c .before .before .before .before .before .before .before .before .before .before .before .before .before .before .before .word16 .ensures) (c .before .before .before .before .before .before .before .before .before .before .before .before .before .first-child .ensures) (c .before .before .before .before .before .before .before .before .before .before .before .before .child-count .ensures) (omega (arith, i .low, c .before .before .before .before .before .before .before .before .loop-test .taken)) in
       let b = segment-room a (record { node-in = omega (arith, c .before .before .before .before .before .before .before .before .loop-test .taken); query = rest-asked (p .0) (p .1 .0) (p .1 .1) (c .before .before .before .before .before .before .before .before .before .before .before .before .before .before .before .word16 .ensures) }) (d .1) in
       filter-again i (c .before .before .before .before .before .before .before .before .loop-test .taken) (d .0) b (d .1) (c .next-kept2 .ensures)
 
@@ -129,4 +129,4 @@ module _ (t : ℕ) where
   returns-2 c =
       let p = c .before .before .before .before .before .before .before .before .before .pre .1 in
       let i = c .before .loop .inv in
-      (i .going .kept, filter-done (p .0) (p .1 .0) (p .1 .1) (c .before .before .before .before .before .before .before .word16 .ensures) (c .before .before .before .before .before .low-word .ensures) (c .before .before .before .before .child-count .ensures) (filter-end-all i (c .loop-test .left)))
+      (i .going .kept, filter-done (p .0) (p .1 .0) (p .1 .1) (c .before .before .before .before .before .before .before .word16 .ensures) (c .before .before .before .before .before .first-child .ensures) (c .before .before .before .before .child-count .ensures) (filter-end-all i (c .loop-test .left)))

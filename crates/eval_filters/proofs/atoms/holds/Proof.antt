@@ -8,7 +8,7 @@ use Rattle.eval_filters.proofs.atoms.holds.Reads as reads
 use Rattle.eval_filters.proofs.atoms.holds.Lts as lts
 use Rattle.eval_filters.proofs.atoms.compare_form.Reads as compare-form-reads
 use Rattle.eval_filters.proofs.atoms.named.Reads as named-reads
-use Rattle.table.proofs.records.low_word.Reads as low-word-reads
+use Rattle.table.proofs.records.first_child.Reads as first-child-reads
 
 add-c : tie.Need-add-c
 add-c c = search needs
@@ -32,14 +32,14 @@ returns c =
     let s = c .before .before .before .before .before .before .before .pre in
     atom-absent (s .0) (s .1) _ (c .before .before .named .ensures) (c .enum-told .given .1)
 
-low-word-requires : tie.Need-low-word-requires
-low-word-requires c κs = search needs
+first-child-requires : tie.Need-first-child-requires
+first-child-requires c κs = search needs
 
 cast-there : tie.Need-cast-there
 cast-there c = search needs
 
 sub-there : tie.Need-sub-there
-sub-there c = omega (arith, c .before .before .before .before .named .ensures .low _ (c .before .before .found .given .1), c .low-word .ensures)
+sub-there c = omega (arith, c .before .before .before .before .named .ensures .low _ (c .before .before .found .given .1), c .first-child .ensures)
 
 returns-2 : tie.Need-returns-2
 returns-2 c =
@@ -69,7 +69,7 @@ holds-spec =
     enum-known-found
     enum-told
     returns
-    low-word-requires
+    first-child-requires
     cast-there
     sub-there
     returns-2

@@ -8,15 +8,15 @@ use Rattle.eval_filters.proofs.atoms.named.Reads as reads
 use Rattle.eval_filters.proofs.atoms.named.Lts as lts
 use Rattle.eval_values.proofs.members.is_near.Reads as is-near-reads
 use Rattle.eval_items.proofs.leaves.select_one.Reads as select-one-reads
-use Rattle.table.proofs.records.low_word.Reads as low-word-reads
+use Rattle.table.proofs.records.first_child.Reads as first-child-reads
 
 is-near-requires : tie.Need-is-near-requires
 is-near-requires c κs =
     let s = c .before .before .before .before .pre in
     ((s .0 .tab, s .0 .node-in), name-inside (s .0) (s .1 .0) (s .1 .1))
 
-low-word-requires : tie.Need-low-word-requires
-low-word-requires c κs = search needs
+first-child-requires : tie.Need-first-child-requires
+first-child-requires c κs = search needs
 
 cast-t12 : tie.Need-cast-t12
 cast-t12 c = search needs
@@ -24,12 +24,12 @@ cast-t12 c = search needs
 add-t13 : tie.Need-add-t13
 add-t13 c =
     let s = c .before .before .before .before .before .before .before .pre in
-    omega (arith, near-room (s .0) (s .1 .0) (s .1 .1) (c .before .before .is-near .ensures (c .before .if1 .taken)) _ (c .low-word .ensures))
+    omega (arith, near-room (s .0) (s .1 .0) (s .1 .1) (c .before .before .is-near .ensures (c .before .if1 .taken)) _ (c .first-child .ensures))
 
 returns : tie.Need-returns
 returns c =
     let s = c .before .before .before .before .before .before .before .pre in
-    name-near (s .0) (s .1 .0) (s .1 .1) (c .before .before .is-near .ensures (c .before .if1 .taken)) _ (c .low-word .ensures)
+    name-near (s .0) (s .1 .0) (s .1 .1) (c .before .before .is-near .ensures (c .before .if1 .taken)) _ (c .first-child .ensures)
 
 select-one-requires : tie.Need-select-one-requires
 select-one-requires c κs = name-any (c .before .before .before .before .before .before .pre .0)
@@ -42,7 +42,7 @@ named-spec =
     tie.close
     (tie.spec
     is-near-requires
-    low-word-requires
+    first-child-requires
     cast-t12
     add-t13
     returns

@@ -7,7 +7,7 @@ use Rattle.eval_filters.proofs.kept.push_tail.Tie as tie
 use Rattle.eval_filters.proofs.kept.push_tail.Reads as reads
 use Rattle.eval_filters.proofs.kept.push_tail.Lts as lts
 use Rattle.eval_filters.proofs.kept.tail_named.Reads as tail-named-reads
-use Rattle.table.proofs.records.low_word.Reads as low-word-reads
+use Rattle.table.proofs.records.first_child.Reads as first-child-reads
 use Rattle.text.proofs.bytes.word16.Reads as word16-reads
 use Rattle.eval_front.proofs.push.Reads as push-reads
 
@@ -63,14 +63,14 @@ returns-2 c =
     let s = c .before .before .before .before .before .before .before .before .before .before .before .pre in
     pushed-lost (s .0) _ (tail-named (s .1 .0) (s .1 .1) (c .before .before .before .before .before .if1 .left)) _ (c .before .before .tail-named .ensures) (c .enum-told .given .1)
 
-low-word-requires : tie.Need-low-word-requires
-low-word-requires c κs = search needs
+first-child-requires : tie.Need-first-child-requires
+first-child-requires c κs = search needs
 
 cast-there : tie.Need-cast-there
 cast-there c = search needs
 
 sub-there : tie.Need-sub-there
-sub-there c = omega (arith, c .before .before .before .before .tail-named .ensures .low _ (c .before .before .found .given .1), c .low-word .ensures)
+sub-there c = omega (arith, c .before .before .before .before .tail-named .ensures .low _ (c .before .before .found .given .1), c .first-child .ensures)
 
 push-requires-2 : tie.Need-push-requires-2
 push-requires-2 c κs =
@@ -101,7 +101,7 @@ push-tail-spec =
     enum-known-found
     enum-told
     returns-2
-    low-word-requires
+    first-child-requires
     cast-there
     sub-there
     push-requires-2

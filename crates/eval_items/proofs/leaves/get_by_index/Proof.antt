@@ -11,7 +11,7 @@ use Rattle.eval_items.proofs.leaves.get_by_index.Lts as lts
 use Rattle.slices.proofs.index_place.Reads as index-place-reads
 use Rattle.table.proofs.records.child_count.Reads as child-count-reads
 use Rattle.table.proofs.records.kind.Reads as kind-reads
-use Rattle.table.proofs.records.low_word.Reads as low-word-reads
+use Rattle.table.proofs.records.first_child.Reads as first-child-reads
 use Rattle.text.proofs.bytes.int64.Reads as int64-reads
 use Rattle.number_integers.specs.Signs.{back}
 
@@ -23,8 +23,8 @@ returns c =
     let s = c .before .before .before .before .before .before in
     index-else (s .pre) (λ z. c .if1 .taken (c .before .kind .ensures ∙ z))
 
-low-word-requires : tie.Need-low-word-requires
-low-word-requires c κs = c .before .before .before .before .before .before .pre .node-in
+first-child-requires : tie.Need-first-child-requires
+first-child-requires c κs = c .before .before .before .before .before .before .pre .node-in
 
 cast-first : tie.Need-cast-first
 cast-first c = search needs
@@ -52,7 +52,7 @@ enum-known-k c = search needs
 add-t17 : tie.Need-add-t17
 add-t17 c =
     let s = c .before .before .before .before .before .before .before .before .before .before .before .before .before in
-    omega (arith, index-room (s .pre) _ _ (c .before .before .before .before .before .before .low-word .ensures) (c .before .before .before .before .before .child-count .ensures) _ _ (c .before .before .before .index-place .ensures) _ (c .before .k .given .1))
+    omega (arith, index-room (s .pre) _ _ (c .before .before .before .before .before .before .first-child .ensures) (c .before .before .before .before .before .child-count .ensures) _ _ (c .before .before .before .index-place .ensures) _ (c .before .k .given .1))
 
 enum-told : tie.Need-enum-told
 enum-told c = search needs
@@ -60,13 +60,13 @@ enum-told c = search needs
 returns-2 : tie.Need-returns-2
 returns-2 c =
     let s = c .before .before .before .before .before .before .before .before .before .before .before .before .before in
-    index-found (s .pre) _ _ (c .before .before .before .before .before .before .low-word .ensures) (c .before .before .before .before .before .child-count .ensures) _ _ (c .before .before .before .index-place .ensures)
+    index-found (s .pre) _ _ (c .before .before .before .before .before .before .first-child .ensures) (c .before .before .before .before .before .child-count .ensures) _ _ (c .before .before .before .index-place .ensures)
     (sym (c .before .before .before .before .before .before .before .before .kind .ensures) ∙ c .before .before .before .before .before .before .before .if1 .left) (back (c .before .before .before .before .int64 .result) (c .before .before .before .before .int64 .ok) ∙ c .before .before .before .before .int64 .ensures) _ (c .before .k .given .1)
 
 returns-3 : tie.Need-returns-3
 returns-3 c =
     let s = c .before .before .before .before .before .before .before .before .before .before .before .before in
-    index-nothing (s .pre) _ _ (c .before .before .before .before .before .low-word .ensures) (c .before .before .before .before .child-count .ensures) _ _ (c .before .before .index-place .ensures)
+    index-nothing (s .pre) _ _ (c .before .before .before .before .before .first-child .ensures) (c .before .before .before .before .child-count .ensures) _ _ (c .before .before .index-place .ensures)
     (sym (c .before .before .before .before .before .before .before .kind .ensures) ∙ c .before .before .before .before .before .before .if1 .left) (back (c .before .before .before .int64 .result) (c .before .before .before .int64 .ok) ∙ c .before .before .before .int64 .ensures) (c .enum-told .given .1)
 
 pub get-by-index-spec : {M : Type 1} → statement M
@@ -75,7 +75,7 @@ get-by-index-spec =
     (tie.spec
     kind-requires
     returns
-    low-word-requires
+    first-child-requires
     cast-first
     child-count-requires
     cast-count

@@ -9,9 +9,9 @@ use Rattle.eval_rows.proofs.rows.text_of.Tie as tie
 use Rattle.eval_rows.proofs.rows.text_of.Reads as reads
 use Rattle.eval_rows.proofs.rows.text_of.Lts as lts
 use Rattle.eval_rows.proofs.paths.follow.Reads as follow-reads
-use Rattle.table.proofs.records.high_word.Reads as high-word-reads
+use Rattle.table.proofs.records.text_length.Reads as text-length-reads
 use Rattle.table.proofs.records.kind.Reads as kind-reads
-use Rattle.table.proofs.records.low_word.Reads as low-word-reads
+use Rattle.table.proofs.records.text_start.Reads as text-start-reads
 
 add-follow : tie.Need-add-follow
 add-follow c = let s = c .before .before .before .before .pre in omega (arith, call-near (s .0) (s .1 .1) (s .1 .0))
@@ -28,20 +28,20 @@ kind-requires c κs = search needs
 returns-2 : tie.Need-returns-2
 returns-2 c = let s = c .before .before .before .before .before .before .before .before .before .pre in let k = c .before .kind .ensures in text-other (s .0) (s .1 .1) (c .before .before .before .before .follow .ensures) (not-false _ (c .before .before .if1 .left)) (λ e. c .if2 .taken (omega arith))
 
-low-word-requires : tie.Need-low-word-requires
-low-word-requires c κs = search needs
+text-start-requires : tie.Need-text-start-requires
+text-start-requires c κs = search needs
 
 cast-start : tie.Need-cast-start
 cast-start c = search needs
 
-high-word-requires : tie.Need-high-word-requires
-high-word-requires c κs = search needs
+text-length-requires : tie.Need-text-length-requires
+text-length-requires c κs = search needs
 
 cast-size : tie.Need-cast-size
 cast-size c = search needs
 
 returns-3 : tie.Need-returns-3
-returns-3 c = let s = c .before .before .before .before .before .before .before .before .before .before .before .pre in let k = c .before .before .before .kind .ensures in let u = c .before .before .if2 .left in text-found (s .0) (s .1 .1) (c .before .before .before .before .before .before .follow .ensures) (not-false _ (c .before .before .before .before .if1 .left)) (omega arith) _ _ (c .before .low-word .ensures) (c .high-word .ensures)
+returns-3 c = let s = c .before .before .before .before .before .before .before .before .before .before .before .pre in let k = c .before .before .before .kind .ensures in let u = c .before .before .if2 .left in text-found (s .0) (s .1 .1) (c .before .before .before .before .before .before .follow .ensures) (not-false _ (c .before .before .before .before .if1 .left)) (omega arith) _ _ (c .before .text-start .ensures) (c .text-length .ensures)
 
 pub text-of-spec : {M : Type 1} → statement M
 text-of-spec =
@@ -52,8 +52,8 @@ text-of-spec =
     returns
     kind-requires
     returns-2
-    low-word-requires
+    text-start-requires
     cast-start
-    high-word-requires
+    text-length-requires
     cast-size
     returns-3)

@@ -10,7 +10,6 @@ use Rattle.eval_shortcuts.proofs.flats.push_selected.Reads as reads
 use Rattle.eval_shortcuts.proofs.flats.push_selected.Lts as lts
 use Rattle.table.proofs.records.child_count.Reads as child-count-reads
 use Rattle.table.proofs.records.first_child.Reads as first-child-reads
-use Rattle.table.proofs.records.low_word.Reads as low-word-reads
 use Rattle.eval_shortcuts.proofs.flats.select_near.Reads as select-near-reads
 use Rattle.eval_front.proofs.push.Reads as push-reads
 use Rattle.eval_front.proofs.push_each.Reads as push-each-reads
@@ -64,14 +63,14 @@ enum-told c = search needs
 returns-3 : tie.Need-returns-3
 returns-3 c = selected-absent (c .before .before .before .before .before .before .before .before .before .before .pre) _ _ (c .before .before .select-near .ensures) (c .enum-told .given .1)
 
-low-word-requires : tie.Need-low-word-requires
-low-word-requires c κs = search needs
+first-child-requires-2 : tie.Need-first-child-requires-2
+first-child-requires-2 c κs = search needs
 
 cast-there : tie.Need-cast-there
 cast-there c = search needs
 
 sub-there : tie.Need-sub-there
-sub-there c = omega (arith, c .before .before .before .before .select-near .ensures .low _ (c .before .before .found .given .1), c .low-word .ensures)
+sub-there c = omega (arith, c .before .before .before .before .select-near .ensures .low _ (c .before .before .found .given .1), c .first-child2 .ensures)
 
 push-requires : tie.Need-push-requires
 push-requires c κs =
@@ -102,7 +101,7 @@ push-selected-spec =
     enum-known-found
     enum-told
     returns-3
-    low-word-requires
+    first-child-requires-2
     cast-there
     sub-there
     push-requires

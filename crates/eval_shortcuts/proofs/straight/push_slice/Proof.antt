@@ -13,8 +13,8 @@ add-slice-at c =
 slice-at-requires : tie.Need-slice-at-requires
 slice-at-requires c κs = let z = c .before .before .before .before .before .pre in last-asked (z .0) (z .1)
 
-low-word-requires : tie.Need-low-word-requires
-low-word-requires c κs = c .before .before .before .before .before .before .pre .0 .node-in
+first-child-requires : tie.Need-first-child-requires
+first-child-requires c κs = c .before .before .before .before .before .before .pre .0 .node-in
 
 cast-first : tie.Need-cast-first
 cast-first c = search needs
@@ -22,12 +22,12 @@ cast-first c = search needs
 placed-requires : tie.Need-placed-requires
 placed-requires c κs =
     let z = c .before .before .before .before .before .before .before .pre in
-    last-placed (z .0) (z .1) _ (c .low-word .ensures) _ (c .before .slice-at .ensures)
+    last-placed (z .0) (z .1) _ (c .first-child .ensures) _ (c .before .slice-at .ensures)
 
 push-places-requires : tie.Need-push-places-requires
 push-places-requires c κs =
     let z = c .before .before .before .before .before .before .before .before .before .pre in
-    last-walked (z .0) (z .1) _ (c .before .before .low-word .ensures) _ (c .before .before .before .slice-at .ensures) _ (c .before .placed .ensures)
+    last-walked (z .0) (z .1) _ (c .before .before .first-child .ensures) _ (c .before .before .before .slice-at .ensures) _ (c .before .placed .ensures)
 
 same-length : tie.Need-same-length
 same-length c = c .before .before .push-places .kept .0
@@ -36,7 +36,7 @@ returns : tie.Need-returns
 returns c =
     let d = c .before .before .before .before .before .before in
     let z = d .before .before .before .before .before .before .pre in
-    last-done (z .0) (z .1) _ (c .before .before .before .before .before .low-word .ensures) _ (d .slice-at .ensures) _ (c .before .before .before .before .placed .ensures) _ _ _ (c .before .before .push-places .ensures)
+    last-done (z .0) (z .1) _ (c .before .before .before .before .before .first-child .ensures) _ (d .slice-at .ensures) _ (c .before .before .before .before .placed .ensures) _ _ _ (c .before .before .push-places .ensures)
 
 pub push-slice-spec : {M : Type 1} → statement M
 push-slice-spec =
@@ -44,7 +44,7 @@ push-slice-spec =
     (tie.spec
     add-slice-at
     slice-at-requires
-    low-word-requires
+    first-child-requires
     cast-first
     placed-requires
     push-places-requires

@@ -15,11 +15,11 @@ use Rattle.eval_values.proofs.same_elements.Reads as same-elements
 use Rattle.eval_values.proofs.same_values.Reads as same-values
 use Rattle.eval_values.proofs.operands.get_value.Reads as get-value-reads
 use Rattle.table.proofs.records.child_count.Reads as child-count-reads
-use Rattle.table.proofs.records.low_word.Reads as low-word-reads
+use Rattle.table.proofs.records.first_child.Reads as first-child-reads
 use Rattle.eval_values.proofs.+same_elements+same_members+same_nodes+same_values.Proof.Base.{same-elements-at, same-values-below}
 
 abbrev pub calls : ℕ → lts.Claims
-calls t = (low-word-reads.Asked, low-word-reads.Learnt, child-count-reads.Asked, child-count-reads.Learnt, get-value-reads.Asked, get-value-reads.Learnt, same-values-below t, same-values.Post)
+calls t = (first-child-reads.Asked, first-child-reads.Learnt, child-count-reads.Asked, child-count-reads.Learnt, get-value-reads.Asked, get-value-reads.Learnt, same-values-below t, same-values.Post)
 
 abbrev pub Inv-loop : lts.InvT-loop
 Inv-loop table text pool i j a b count k₀ k = (sameElements (kids table text (a + k) (count - k)) (kids table text (b + k) (count - k)) ≡ sameElements (kids table text a count) (kids table text b count)) × (k ≤ count)
@@ -29,16 +29,16 @@ abbrev pub μ-loop : lts.MeasureT-loop
 
 module _ (t : ℕ) where
   -- src/lib.rt:89:13
-  pub low-word-requires : lts.Need-low-word-requires (calls t) (same-elements-at t) same-elements.Post Inv-loop μ-loop
-  low-word-requires c κs = c .before .before .before .pre .1 .1 .0 .first
+  pub first-child-requires : lts.Need-first-child-requires (calls t) (same-elements-at t) same-elements.Post Inv-loop μ-loop
+  first-child-requires c κs = c .before .before .before .pre .1 .1 .0 .first
 
   -- src/lib.rt:89:13
   pub cast-a : lts.Need-cast-a (calls t) (same-elements-at t) same-elements.Post Inv-loop μ-loop
   cast-a c = search needs
 
   -- src/lib.rt:90:13
-  pub low-word-requires-2 : lts.Need-low-word-requires-2 (calls t) (same-elements-at t) same-elements.Post Inv-loop μ-loop
-  low-word-requires-2 c κs = c .before .before .before .before .pre .1 .1 .0 .second
+  pub first-child-requires-2 : lts.Need-first-child-requires-2 (calls t) (same-elements-at t) same-elements.Post Inv-loop μ-loop
+  first-child-requires-2 c κs = c .before .before .before .before .pre .1 .1 .0 .second
 
   -- src/lib.rt:90:13
   pub cast-b : lts.Need-cast-b (calls t) (same-elements-at t) same-elements.Post Inv-loop μ-loop
@@ -58,27 +58,27 @@ module _ (t : ℕ) where
 
   -- src/lib.rt:94:51
   pub add-get-value : lts.Need-add-get-value (calls t) (same-elements-at t) same-elements.Post Inv-loop μ-loop
-  add-get-value c = omega (arith, (child-at (c .before .before .before .before .before .before .before .before .args .table .now) (c .before .before .before .before .before .before .before .before .args .text .now) (c .before .before .before .before .before .before .before .before .pre .1 .0) (c .before .before .before .before .before .before .before .before .args .i) (c .before .before .before .before .before .before .before .before .pre .1 .1 .0 .first) _ _ (range-of (c .before .before .before .before .before .before .before .before .args .table .now) (c .before .before .before .before .before .before .before .before .args .text .now) (c .before .before .before .before .before .before .before .before .pre .1 .0) (c .before .before .before .before .before .before .before .before .args .i) (c .before .before .before .before .before .before .before .before .pre .1 .1 .0 .first) _ _ (c .before .before .before .before .low-word .ensures) (c .before .before .child-count .ensures)) (c .before .loop .k) (c .loop-test .taken)) .0)
+  add-get-value c = omega (arith, (child-at (c .before .before .before .before .before .before .before .before .args .table .now) (c .before .before .before .before .before .before .before .before .args .text .now) (c .before .before .before .before .before .before .before .before .pre .1 .0) (c .before .before .before .before .before .before .before .before .args .i) (c .before .before .before .before .before .before .before .before .pre .1 .1 .0 .first) _ _ (range-of (c .before .before .before .before .before .before .before .before .args .table .now) (c .before .before .before .before .before .before .before .before .args .text .now) (c .before .before .before .before .before .before .before .before .pre .1 .0) (c .before .before .before .before .before .before .before .before .args .i) (c .before .before .before .before .before .before .before .before .pre .1 .1 .0 .first) _ _ (c .before .before .before .before .first-child .ensures) (c .before .before .child-count .ensures)) (c .before .loop .k) (c .loop-test .taken)) .0)
 
   -- src/lib.rt:94:13
   pub get-value-requires : lts.Need-get-value-requires (calls t) (same-elements-at t) same-elements.Post Inv-loop μ-loop
-  get-value-requires c κs = (c .before .before .before .before .before .before .before .before .pre .1 .0, (child-at (c .before .before .before .before .before .before .before .before .args .table .now) (c .before .before .before .before .before .before .before .before .args .text .now) (c .before .before .before .before .before .before .before .before .pre .1 .0) (c .before .before .before .before .before .before .before .before .args .i) (c .before .before .before .before .before .before .before .before .pre .1 .1 .0 .first) _ _ (range-of (c .before .before .before .before .before .before .before .before .args .table .now) (c .before .before .before .before .before .before .before .before .args .text .now) (c .before .before .before .before .before .before .before .before .pre .1 .0) (c .before .before .before .before .before .before .before .before .args .i) (c .before .before .before .before .before .before .before .before .pre .1 .1 .0 .first) _ _ (c .before .before .before .before .low-word .ensures) (c .before .before .child-count .ensures)) (c .before .loop .k) (c .loop-test .taken)) .0)
+  get-value-requires c κs = (c .before .before .before .before .before .before .before .before .pre .1 .0, (child-at (c .before .before .before .before .before .before .before .before .args .table .now) (c .before .before .before .before .before .before .before .before .args .text .now) (c .before .before .before .before .before .before .before .before .pre .1 .0) (c .before .before .before .before .before .before .before .before .args .i) (c .before .before .before .before .before .before .before .before .pre .1 .1 .0 .first) _ _ (range-of (c .before .before .before .before .before .before .before .before .args .table .now) (c .before .before .before .before .before .before .before .before .args .text .now) (c .before .before .before .before .before .before .before .before .pre .1 .0) (c .before .before .before .before .before .before .before .before .args .i) (c .before .before .before .before .before .before .before .before .pre .1 .1 .0 .first) _ _ (c .before .before .before .before .first-child .ensures) (c .before .before .child-count .ensures)) (c .before .loop .k) (c .loop-test .taken)) .0)
 
   -- src/lib.rt:95:51
   pub add-get-value-2 : lts.Need-add-get-value-2 (calls t) (same-elements-at t) same-elements.Post Inv-loop μ-loop
-  add-get-value-2 c = omega (arith, (child-at (c .before .before .before .before .before .before .before .before .before .args .table .now) (c .before .before .before .before .before .before .before .before .before .args .text .now) (c .before .before .before .before .before .before .before .before .before .pre .1 .0) (c .before .before .before .before .before .before .before .before .before .args .j) (c .before .before .before .before .before .before .before .before .before .pre .1 .1 .0 .second) _ _ (range-of (c .before .before .before .before .before .before .before .before .before .args .table .now) (c .before .before .before .before .before .before .before .before .before .args .text .now) (c .before .before .before .before .before .before .before .before .before .pre .1 .0) (c .before .before .before .before .before .before .before .before .before .args .j) (c .before .before .before .before .before .before .before .before .before .pre .1 .1 .0 .second) _ _ (c .before .before .before .before .low-word2 .ensures) (c .before .before .before .child-count .ensures ∙ c .before .before .before .before .before .before .before .before .before .pre .1 .1 .1)) (c .before .before .loop .k) (c .before .loop-test .taken)) .0)
+  add-get-value-2 c = omega (arith, (child-at (c .before .before .before .before .before .before .before .before .before .args .table .now) (c .before .before .before .before .before .before .before .before .before .args .text .now) (c .before .before .before .before .before .before .before .before .before .pre .1 .0) (c .before .before .before .before .before .before .before .before .before .args .j) (c .before .before .before .before .before .before .before .before .before .pre .1 .1 .0 .second) _ _ (range-of (c .before .before .before .before .before .before .before .before .before .args .table .now) (c .before .before .before .before .before .before .before .before .before .args .text .now) (c .before .before .before .before .before .before .before .before .before .pre .1 .0) (c .before .before .before .before .before .before .before .before .before .args .j) (c .before .before .before .before .before .before .before .before .before .pre .1 .1 .0 .second) _ _ (c .before .before .before .before .first-child2 .ensures) (c .before .before .before .child-count .ensures ∙ c .before .before .before .before .before .before .before .before .before .pre .1 .1 .1)) (c .before .before .loop .k) (c .before .loop-test .taken)) .0)
 
   -- src/lib.rt:95:13
   pub get-value-requires-2 : lts.Need-get-value-requires-2 (calls t) (same-elements-at t) same-elements.Post Inv-loop μ-loop
-  get-value-requires-2 c κs = (c .before .before .before .before .before .before .before .before .before .pre .1 .0, (child-at (c .before .before .before .before .before .before .before .before .before .args .table .now) (c .before .before .before .before .before .before .before .before .before .args .text .now) (c .before .before .before .before .before .before .before .before .before .pre .1 .0) (c .before .before .before .before .before .before .before .before .before .args .j) (c .before .before .before .before .before .before .before .before .before .pre .1 .1 .0 .second) _ _ (range-of (c .before .before .before .before .before .before .before .before .before .args .table .now) (c .before .before .before .before .before .before .before .before .before .args .text .now) (c .before .before .before .before .before .before .before .before .before .pre .1 .0) (c .before .before .before .before .before .before .before .before .before .args .j) (c .before .before .before .before .before .before .before .before .before .pre .1 .1 .0 .second) _ _ (c .before .before .before .before .low-word2 .ensures) (c .before .before .before .child-count .ensures ∙ c .before .before .before .before .before .before .before .before .before .pre .1 .1 .1)) (c .before .before .loop .k) (c .before .loop-test .taken)) .0)
+  get-value-requires-2 c κs = (c .before .before .before .before .before .before .before .before .before .pre .1 .0, (child-at (c .before .before .before .before .before .before .before .before .before .args .table .now) (c .before .before .before .before .before .before .before .before .before .args .text .now) (c .before .before .before .before .before .before .before .before .before .pre .1 .0) (c .before .before .before .before .before .before .before .before .before .args .j) (c .before .before .before .before .before .before .before .before .before .pre .1 .1 .0 .second) _ _ (range-of (c .before .before .before .before .before .before .before .before .before .args .table .now) (c .before .before .before .before .before .before .before .before .before .args .text .now) (c .before .before .before .before .before .before .before .before .before .pre .1 .0) (c .before .before .before .before .before .before .before .before .before .args .j) (c .before .before .before .before .before .before .before .before .before .pre .1 .1 .0 .second) _ _ (c .before .before .before .before .first-child2 .ensures) (c .before .before .before .child-count .ensures ∙ c .before .before .before .before .before .before .before .before .before .pre .1 .1 .1)) (c .before .before .loop .k) (c .before .loop-test .taken)) .0)
 
   -- src/lib.rt:96:13
   pub same-values-requires : lts.Need-same-values-requires (calls t) (same-elements-at t) same-elements.Post Inv-loop μ-loop
-  same-values-requires c κs = (child-height (c .before .before .before .before .before .before .before .before .before .before .args .table .now) (c .before .before .before .before .before .before .before .before .before .before .args .text .now) (c .before .before .before .before .before .before .before .before .before .before .pre .1 .0) (c .before .before .before .before .before .before .before .before .before .before .args .i) _ _ _ (c .before .get-value .ensures) ((child-at (c .before .before .before .before .before .before .before .before .before .before .args .table .now) (c .before .before .before .before .before .before .before .before .before .before .args .text .now) (c .before .before .before .before .before .before .before .before .before .before .pre .1 .0) (c .before .before .before .before .before .before .before .before .before .before .args .i) (c .before .before .before .before .before .before .before .before .before .before .pre .1 .1 .0 .first) _ _ (range-of (c .before .before .before .before .before .before .before .before .before .before .args .table .now) (c .before .before .before .before .before .before .before .before .before .before .args .text .now) (c .before .before .before .before .before .before .before .before .before .before .pre .1 .0) (c .before .before .before .before .before .before .before .before .before .before .args .i) (c .before .before .before .before .before .before .before .before .before .before .pre .1 .1 .0 .first) _ _ (c .before .before .before .before .before .before .low-word .ensures) (c .before .before .before .before .child-count .ensures)) (c .before .before .before .loop .k) (c .before .before .loop-test .taken)) .0) ((child-at (c .before .before .before .before .before .before .before .before .before .before .args .table .now) (c .before .before .before .before .before .before .before .before .before .before .args .text .now) (c .before .before .before .before .before .before .before .before .before .before .pre .1 .0) (c .before .before .before .before .before .before .before .before .before .before .args .i) (c .before .before .before .before .before .before .before .before .before .before .pre .1 .1 .0 .first) _ _ (range-of (c .before .before .before .before .before .before .before .before .before .before .args .table .now) (c .before .before .before .before .before .before .before .before .before .before .args .text .now) (c .before .before .before .before .before .before .before .before .before .before .pre .1 .0) (c .before .before .before .before .before .before .before .before .before .before .args .i) (c .before .before .before .before .before .before .before .before .before .before .pre .1 .1 .0 .first) _ _ (c .before .before .before .before .before .before .low-word .ensures) (c .before .before .before .before .child-count .ensures)) (c .before .before .before .loop .k) (c .before .before .loop-test .taken)) .1) (c .before .before .before .before .before .before .before .before .before .before .pre .0), (c .before .before .before .before .before .before .before .before .before .before .pre .1 .0, of-nodes (c .before .before .before .before .before .before .before .before .before .before .args .table .now) (c .before .before .before .before .before .before .before .before .before .before .args .text .now) (c .before .before .before .before .before .before .before .before .before .before .args .pool .now) _ _ _ _ (c .before .get-value .ensures) (c .get-value2 .ensures)))
+  same-values-requires c κs = (child-height (c .before .before .before .before .before .before .before .before .before .before .args .table .now) (c .before .before .before .before .before .before .before .before .before .before .args .text .now) (c .before .before .before .before .before .before .before .before .before .before .pre .1 .0) (c .before .before .before .before .before .before .before .before .before .before .args .i) _ _ _ (c .before .get-value .ensures) ((child-at (c .before .before .before .before .before .before .before .before .before .before .args .table .now) (c .before .before .before .before .before .before .before .before .before .before .args .text .now) (c .before .before .before .before .before .before .before .before .before .before .pre .1 .0) (c .before .before .before .before .before .before .before .before .before .before .args .i) (c .before .before .before .before .before .before .before .before .before .before .pre .1 .1 .0 .first) _ _ (range-of (c .before .before .before .before .before .before .before .before .before .before .args .table .now) (c .before .before .before .before .before .before .before .before .before .before .args .text .now) (c .before .before .before .before .before .before .before .before .before .before .pre .1 .0) (c .before .before .before .before .before .before .before .before .before .before .args .i) (c .before .before .before .before .before .before .before .before .before .before .pre .1 .1 .0 .first) _ _ (c .before .before .before .before .before .before .first-child .ensures) (c .before .before .before .before .child-count .ensures)) (c .before .before .before .loop .k) (c .before .before .loop-test .taken)) .0) ((child-at (c .before .before .before .before .before .before .before .before .before .before .args .table .now) (c .before .before .before .before .before .before .before .before .before .before .args .text .now) (c .before .before .before .before .before .before .before .before .before .before .pre .1 .0) (c .before .before .before .before .before .before .before .before .before .before .args .i) (c .before .before .before .before .before .before .before .before .before .before .pre .1 .1 .0 .first) _ _ (range-of (c .before .before .before .before .before .before .before .before .before .before .args .table .now) (c .before .before .before .before .before .before .before .before .before .before .args .text .now) (c .before .before .before .before .before .before .before .before .before .before .pre .1 .0) (c .before .before .before .before .before .before .before .before .before .before .args .i) (c .before .before .before .before .before .before .before .before .before .before .pre .1 .1 .0 .first) _ _ (c .before .before .before .before .before .before .first-child .ensures) (c .before .before .before .before .child-count .ensures)) (c .before .before .before .loop .k) (c .before .before .loop-test .taken)) .1) (c .before .before .before .before .before .before .before .before .before .before .pre .0), (c .before .before .before .before .before .before .before .before .before .before .pre .1 .0, of-nodes (c .before .before .before .before .before .before .before .before .before .before .args .table .now) (c .before .before .before .before .before .before .before .before .before .before .args .text .now) (c .before .before .before .before .before .before .before .before .before .before .args .pool .now) _ _ _ _ (c .before .get-value .ensures) (c .get-value2 .ensures)))
 
   -- src/lib.rt:97:13
   pub returns : lts.Need-returns (calls t) (same-elements-at t) same-elements.Post Inv-loop μ-loop
-  returns c = elements-stop (c .before .before .before .before .before .before .before .before .before .before .before .before .args .table .now) (c .before .before .before .before .before .before .before .before .before .before .before .before .args .text .now) _ _ _ _ (c .before .before .before .before .before .loop .k) (c .before .before .before .before .loop-test .taken) _ (at-nodes (c .before .before .before .before .before .before .before .before .before .before .before .before .args .table .now) (c .before .before .before .before .before .before .before .before .before .before .before .before .args .text .now) (c .before .before .before .before .before .before .before .before .before .before .before .before .args .pool .now) _ _ _ _ (c .before .before .before .get-value .ensures) (c .before .before .get-value2 .ensures) _ (c .before .same-values .ensures)) (not-taken _ (c .if1 .taken)) (c .before .before .before .before .before .loop .inv .0) ∙ elements-are (c .before .before .before .before .before .before .before .before .before .before .before .before .args .table .now) (c .before .before .before .before .before .before .before .before .before .before .before .before .args .text .now) (c .before .before .before .before .before .before .before .before .before .before .before .before .pre .1 .0) _ _ (c .before .before .before .before .before .before .before .before .before .before .before .before .pre .1 .1 .0) _ _ _ (range-of (c .before .before .before .before .before .before .before .before .before .before .before .before .args .table .now) (c .before .before .before .before .before .before .before .before .before .before .before .before .args .text .now) (c .before .before .before .before .before .before .before .before .before .before .before .before .pre .1 .0) (c .before .before .before .before .before .before .before .before .before .before .before .before .args .i) (c .before .before .before .before .before .before .before .before .before .before .before .before .pre .1 .1 .0 .first) _ _ (c .before .before .before .before .before .before .before .before .low-word .ensures) (c .before .before .before .before .before .before .child-count .ensures)) (range-of (c .before .before .before .before .before .before .before .before .before .before .before .before .args .table .now) (c .before .before .before .before .before .before .before .before .before .before .before .before .args .text .now) (c .before .before .before .before .before .before .before .before .before .before .before .before .pre .1 .0) (c .before .before .before .before .before .before .before .before .before .before .before .before .args .j) (c .before .before .before .before .before .before .before .before .before .before .before .before .pre .1 .1 .0 .second) _ _ (c .before .before .before .before .before .before .before .low-word2 .ensures) (c .before .before .before .before .before .before .child-count .ensures ∙ c .before .before .before .before .before .before .before .before .before .before .before .before .pre .1 .1 .1))
+  returns c = elements-stop (c .before .before .before .before .before .before .before .before .before .before .before .before .args .table .now) (c .before .before .before .before .before .before .before .before .before .before .before .before .args .text .now) _ _ _ _ (c .before .before .before .before .before .loop .k) (c .before .before .before .before .loop-test .taken) _ (at-nodes (c .before .before .before .before .before .before .before .before .before .before .before .before .args .table .now) (c .before .before .before .before .before .before .before .before .before .before .before .before .args .text .now) (c .before .before .before .before .before .before .before .before .before .before .before .before .args .pool .now) _ _ _ _ (c .before .before .before .get-value .ensures) (c .before .before .get-value2 .ensures) _ (c .before .same-values .ensures)) (not-taken _ (c .if1 .taken)) (c .before .before .before .before .before .loop .inv .0) ∙ elements-are (c .before .before .before .before .before .before .before .before .before .before .before .before .args .table .now) (c .before .before .before .before .before .before .before .before .before .before .before .before .args .text .now) (c .before .before .before .before .before .before .before .before .before .before .before .before .pre .1 .0) _ _ (c .before .before .before .before .before .before .before .before .before .before .before .before .pre .1 .1 .0) _ _ _ (range-of (c .before .before .before .before .before .before .before .before .before .before .before .before .args .table .now) (c .before .before .before .before .before .before .before .before .before .before .before .before .args .text .now) (c .before .before .before .before .before .before .before .before .before .before .before .before .pre .1 .0) (c .before .before .before .before .before .before .before .before .before .before .before .before .args .i) (c .before .before .before .before .before .before .before .before .before .before .before .before .pre .1 .1 .0 .first) _ _ (c .before .before .before .before .before .before .before .before .first-child .ensures) (c .before .before .before .before .before .before .child-count .ensures)) (range-of (c .before .before .before .before .before .before .before .before .before .before .before .before .args .table .now) (c .before .before .before .before .before .before .before .before .before .before .before .before .args .text .now) (c .before .before .before .before .before .before .before .before .before .before .before .before .pre .1 .0) (c .before .before .before .before .before .before .before .before .before .before .before .before .args .j) (c .before .before .before .before .before .before .before .before .before .before .before .before .pre .1 .1 .0 .second) _ _ (c .before .before .before .before .before .before .before .first-child2 .ensures) (c .before .before .before .before .before .before .child-count .ensures ∙ c .before .before .before .before .before .before .before .before .before .before .before .before .pre .1 .1 .1))
 
   -- src/lib.rt:99:9
   pub add-k : lts.Need-add-k (calls t) (same-elements-at t) same-elements.Post Inv-loop μ-loop
@@ -94,4 +94,4 @@ module _ (t : ℕ) where
 
   -- src/lib.rt:84:1
   pub returns-2 : lts.Need-returns-2 (calls t) (same-elements-at t) same-elements.Post Inv-loop μ-loop
-  returns-2 c = elements-end (c .before .before .before .before .before .before .before .before .args .table .now) (c .before .before .before .before .before .before .before .before .args .text .now) _ _ _ _ (c .before .loop .k) (c .loop-test .left) (c .before .loop .inv .0) ∙ elements-are (c .before .before .before .before .before .before .before .before .args .table .now) (c .before .before .before .before .before .before .before .before .args .text .now) (c .before .before .before .before .before .before .before .before .pre .1 .0) _ _ (c .before .before .before .before .before .before .before .before .pre .1 .1 .0) _ _ _ (range-of (c .before .before .before .before .before .before .before .before .args .table .now) (c .before .before .before .before .before .before .before .before .args .text .now) (c .before .before .before .before .before .before .before .before .pre .1 .0) (c .before .before .before .before .before .before .before .before .args .i) (c .before .before .before .before .before .before .before .before .pre .1 .1 .0 .first) _ _ (c .before .before .before .before .low-word .ensures) (c .before .before .child-count .ensures)) (range-of (c .before .before .before .before .before .before .before .before .args .table .now) (c .before .before .before .before .before .before .before .before .args .text .now) (c .before .before .before .before .before .before .before .before .pre .1 .0) (c .before .before .before .before .before .before .before .before .args .j) (c .before .before .before .before .before .before .before .before .pre .1 .1 .0 .second) _ _ (c .before .before .before .low-word2 .ensures) (c .before .before .child-count .ensures ∙ c .before .before .before .before .before .before .before .before .pre .1 .1 .1))
+  returns-2 c = elements-end (c .before .before .before .before .before .before .before .before .args .table .now) (c .before .before .before .before .before .before .before .before .args .text .now) _ _ _ _ (c .before .loop .k) (c .loop-test .left) (c .before .loop .inv .0) ∙ elements-are (c .before .before .before .before .before .before .before .before .args .table .now) (c .before .before .before .before .before .before .before .before .args .text .now) (c .before .before .before .before .before .before .before .before .pre .1 .0) _ _ (c .before .before .before .before .before .before .before .before .pre .1 .1 .0) _ _ _ (range-of (c .before .before .before .before .before .before .before .before .args .table .now) (c .before .before .before .before .before .before .before .before .args .text .now) (c .before .before .before .before .before .before .before .before .pre .1 .0) (c .before .before .before .before .before .before .before .before .args .i) (c .before .before .before .before .before .before .before .before .pre .1 .1 .0 .first) _ _ (c .before .before .before .before .first-child .ensures) (c .before .before .child-count .ensures)) (range-of (c .before .before .before .before .before .before .before .before .args .table .now) (c .before .before .before .before .before .before .before .before .args .text .now) (c .before .before .before .before .before .before .before .before .pre .1 .0) (c .before .before .before .before .before .before .before .before .args .j) (c .before .before .before .before .before .before .before .before .pre .1 .1 .0 .second) _ _ (c .before .before .before .first-child2 .ensures) (c .before .before .child-count .ensures ∙ c .before .before .before .before .before .before .before .before .pre .1 .1 .1))

@@ -9,9 +9,9 @@ use Rattle.eval_values.proofs.operands.get_value.Statement.{statement}
 use Rattle.eval_values.proofs.operands.get_value.Tie as tie
 use Rattle.eval_values.proofs.operands.get_value.Reads as reads
 use Rattle.eval_values.proofs.operands.get_value.Lts as lts
-use Rattle.table.proofs.records.high_word.Reads as high-word-reads
+use Rattle.table.proofs.records.text_length.Reads as text-length-reads
 use Rattle.table.proofs.records.kind.Reads as kind-reads
-use Rattle.table.proofs.records.low_word.Reads as low-word-reads
+use Rattle.table.proofs.records.text_start.Reads as text-start-reads
 use Rattle.text.proofs.bytes.float64.Reads as float64-reads
 use Rattle.text.proofs.bytes.int64.Reads as int64-reads
 
@@ -64,16 +64,16 @@ returns-5 : tie.Need-returns-5
 returns-5 c = of-float _ _ (c .before .before .before .before .before .before .before .before .before .pre .0) _ (c .before .before .before .before .before .before .before .before .before .pre .1) (omega arith) _ (c .float64 .ensures)
 
 -- src/operands.rt:49:21
-low-word-requires : tie.Need-low-word-requires
-low-word-requires c κs = search needs
+text-start-requires : tie.Need-text-start-requires
+text-start-requires c κs = search needs
 
 -- src/operands.rt:49:21
 cast-start : tie.Need-cast-start
 cast-start c = search needs
 
 -- src/operands.rt:50:20
-high-word-requires : tie.Need-high-word-requires
-high-word-requires c κs = search needs
+text-length-requires : tie.Need-text-length-requires
+text-length-requires c κs = search needs
 
 -- src/operands.rt:50:20
 cast-size : tie.Need-cast-size
@@ -81,7 +81,7 @@ cast-size c = search needs
 
 -- src/operands.rt:51:9
 returns-6 : tie.Need-returns-6
-returns-6 c = of-text _ _ (c .before .before .before .before .before .before .before .before .before .before .before .pre .0) _ (c .before .before .before .before .before .before .before .before .before .before .before .pre .1) (omega arith) _ _ (c .before .low-word .ensures) (c .high-word .ensures)
+returns-6 c = of-text _ _ (c .before .before .before .before .before .before .before .before .before .before .before .pre .0) _ (c .before .before .before .before .before .before .before .before .before .before .before .pre .1) (omega arith) _ _ (c .before .text-start .ensures) (c .text-length .ensures)
 
 -- src/operands.rt:28:1
 returns-7 : tie.Need-returns-7
@@ -103,9 +103,9 @@ get-value-spec =
     add-float64
     float64-requires
     returns-5
-    low-word-requires
+    text-start-requires
     cast-start
-    high-word-requires
+    text-length-requires
     cast-size
     returns-6
     returns-7)
