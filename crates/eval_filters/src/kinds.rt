@@ -12,8 +12,6 @@ use table::records::KIND_FLOAT;
 use table::records::KIND_INTEGER;
 use table::records::KIND_NULL;
 use table::records::KIND_TRUE;
-use table::records::PAYLOAD;
-use table::records::RECORD;
 use text::bytes;
 ghost use mathlib.Core.Path.{_≡_};
 ghost use Prim.Native.Nat.{_+_, _<_};
@@ -35,7 +33,7 @@ pub fn node_int(table: &[u8], text: &[u8], m: usize) -> i64
     requires { ⌜ Accepted (now table) (now text) × (m < nodeCount (now table)) × (kindAt (now table) m ≡ 3) ⌝ }
     ensures { λ r. ⌜ OfNode (now (table .entry)) (now (text .entry)) m (Int r) ⌝ }
 {
-    bytes::int64(table, RECORD * m + PAYLOAD)
+    records::integer(table, m)
 }
 
 // The float of a node.
@@ -43,7 +41,7 @@ pub fn node_float(table: &[u8], text: &[u8], m: usize) -> f64
     requires { ⌜ Accepted (now table) (now text) × (m < nodeCount (now table)) × (kindAt (now table) m ≡ 4) ⌝ }
     ensures { λ r. ⌜ OfNode (now (table .entry)) (now (text .entry)) m (Float r) ⌝ }
 {
-    bytes::float64(table, RECORD * m + PAYLOAD)
+    records::float(table, m)
 }
 
 // The integer at q.

@@ -31,8 +31,6 @@ use plan_format::operators::NE;
 use table::records;
 use table::records::KIND_INTEGER;
 use table::records::KIND_TEXT;
-use table::records::PAYLOAD;
-use table::records::RECORD;
 use text::bytes;
 use text::parts;
 ghost use mathlib.Core.Path.{_≡_};
@@ -107,7 +105,7 @@ fn compare_integers(
     requires { ⌜ (getD (now plan) q 0 ≡ 0x10) × (kindAt (now table) m ≡ 3) ⌝ }
     ensures { λ r. ⌜ DoneNode (now (plan .entry)) (now (pool .entry)) (now (table .entry)) (now (text .entry)) m q op r ⌝ }
 {
-    let a = bytes::int64(table, RECORD * m + PAYLOAD);
+    let a = records::integer(table, m);
     let b = bytes::int64(plan, q + 1);
     compare_ints(op, a, b)
 }

@@ -9,9 +9,6 @@ use table::records::KIND_INTEGER;
 use table::records::KIND_NULL;
 use table::records::KIND_TEXT;
 use table::records::KIND_TRUE;
-use table::records::PAYLOAD;
-use table::records::RECORD;
-use text::bytes;
 use text::encoding;
 ghost use mathlib.Core.Path.{_≡_};
 ghost use mathlib.Core.Bool.{not};
@@ -40,10 +37,10 @@ pub fn get_value(table: &[u8], text: &[u8], node: usize) -> Operand
         return Operand::Bool(true);
     }
     if k == KIND_INTEGER {
-        return Operand::Int(bytes::int64(table, RECORD * node + PAYLOAD));
+        return Operand::Int(records::integer(table, node));
     }
     if k == KIND_FLOAT {
-        return Operand::Float(bytes::float64(table, RECORD * node + PAYLOAD));
+        return Operand::Float(records::float(table, node));
     }
     if k == KIND_TEXT {
         let start = records::text_start(table, node) as usize;

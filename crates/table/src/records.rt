@@ -1,6 +1,9 @@
 // The fields of a record of 24 bytes. Each function asks that the node is one of the table.
 ghost use mathlib.Core.Path.{_≡_};
+ghost use mathlib.Core.Bool.{false};
 ghost use Prim.Native.Nat.{_<_};
+ghost use lib.Ieee.{binary64, nanBits, ofBits};
+ghost use Rattle.definition.specs.Bytes.{signed64};
 ghost use Rattle.definition.specs.Tables.{nodeCount, field, kindAt, depthAt, keyStart, keyLength, parentAt, payload as payloadAt, lowWord, highWord, childCount};
 ghost use Rattle.table.specs.Words.{Head};
 use text::bytes;
@@ -89,7 +92,24 @@ pub fn payload(table: &[u8], node: usize) -> u64
     requires { ⌜ node < nodeCount (now table) ⌝ }
     ensures { λ r. ⌜ r ≡ payloadAt (now (table .entry)) node ⌝ }
 {
-    bytes::word64(table, RECORD * node + 16)
+    bytes::word64(table, RECORD * node + PAYLOAD)
+}
+
+// Bytes 16-23 as an integer in two's complement.
+pub fn integer(table: &[u8], node: usize) -> i64
+    requires { ⌜ node < nodeCount (now table) ⌝ }
+    ensures { λ r. ⌜ r ≡ signed64 (payloadAt (now (table .entry)) node) ⌝ }
+{
+    bytes::int64(table, RECORD * node + PAYLOAD)
+}
+
+// Bytes 16-23 as the bits of a float.
+pub fn float(table: &[u8], node: usize) -> f64
+    requires { ⌜ node < nodeCount (now table) ⌝ }
+    requires { ⌜ nanBits binary64 (payloadAt (now table) node) ≡ false ⌝ }
+    ensures { λ r. ⌜ r ≡ ofBits binary64 (payloadAt (now (table .entry)) node) ⌝ }
+{
+    bytes::float64(table, RECORD * node + PAYLOAD)
 }
 
 // Bytes 16-19: a text's start, a container's first child.

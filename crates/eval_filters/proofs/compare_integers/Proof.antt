@@ -9,38 +9,31 @@ use Rattle.eval_filters.proofs.compare_integers.Tie as tie
 use Rattle.eval_filters.proofs.compare_integers.Reads as reads
 use Rattle.eval_filters.proofs.compare_integers.Lts as lts
 use Rattle.eval_filters.proofs.compare_ints.Reads as compare-ints-reads
+use Rattle.table.proofs.records.integer.Reads as integer-reads
 use Rattle.text.proofs.bytes.int64.Reads as int64-reads
 use Rattle.number_integers.specs.Signs.{back}
 
-mul-int64 : tie.Need-mul-int64
-mul-int64 c = search needs
+integer-requires : tie.Need-integer-requires
+integer-requires c κs = search needs
 
 add-int64 : tie.Need-add-int64
-add-int64 c = search needs
+add-int64 c = omega (arith, literal-room (c .before .before .before .before .before .args .plan .now) (c .before .before .before .before .before .args .pool .now) (c .before .before .before .before .before .args .q) (c .before .before .before .before .before .pre .0 .literal) .two-bytes)
 
 int64-requires : tie.Need-int64-requires
-int64-requires c κs = search needs
-
-add-int64-2 : tie.Need-add-int64-2
-add-int64-2 c = omega (arith, literal-room (c .before .before .before .before .before .args .plan .now) (c .before .before .before .before .before .args .pool .now) (c .before .before .before .before .before .args .q) (c .before .before .before .before .before .pre .0 .literal) .two-bytes)
-
-int64-requires-2 : tie.Need-int64-requires-2
-int64-requires-2 c κs = omega (arith, literal-room (c .before .before .before .before .before .args .plan .now) (c .before .before .before .before .before .args .pool .now) (c .before .before .before .before .before .args .q) (c .before .before .before .before .before .pre .0 .literal) .of-integer (c .before .before .before .before .before .pre .1 .0))
+int64-requires c κs = omega (arith, literal-room (c .before .before .before .before .before .args .plan .now) (c .before .before .before .before .before .args .pool .now) (c .before .before .before .before .before .args .q) (c .before .before .before .before .before .pre .0 .literal) .of-integer (c .before .before .before .before .before .pre .1 .0))
 
 compare-ints-requires : tie.Need-compare-ints-requires
 compare-ints-requires c κs = search needs
 
 returns : tie.Need-returns
-returns c = integers-done (c .before .before .before .before .before .before .before .pre .0) _ _ (c .before .before .before .before .before .before .before .pre .1 .0) (c .before .before .before .before .before .before .before .pre .1 .1) _ _ (back (c .before .before .int64 .result) (c .before .before .int64 .ok) ∙ c .before .before .int64 .ensures) (back (c .before .int642 .result) (c .before .int642 .ok) ∙ c .before .int642 .ensures) (c .compare-ints .ensures)
+returns c = integers-done (c .before .before .before .before .before .before .before .pre .0) _ _ (c .before .before .before .before .before .before .before .pre .1 .0) (c .before .before .before .before .before .before .before .pre .1 .1) _ _ (back (c .before .before .integer .result) (c .before .before .integer .ok) ∙ c .before .before .integer .ensures) (back (c .before .int64 .result) (c .before .int64 .ok) ∙ c .before .int64 .ensures) (c .compare-ints .ensures)
 
 pub compare-integers-spec : {M : Type 1} → statement M
 compare-integers-spec =
     tie.close
     (tie.spec
-    mul-int64
+    integer-requires
     add-int64
     int64-requires
-    add-int64-2
-    int64-requires-2
     compare-ints-requires
     returns)

@@ -12,8 +12,8 @@ use Rattle.eval_values.proofs.operands.get_value.Lts as lts
 use Rattle.table.proofs.records.text_length.Reads as text-length-reads
 use Rattle.table.proofs.records.kind.Reads as kind-reads
 use Rattle.table.proofs.records.text_start.Reads as text-start-reads
-use Rattle.text.proofs.bytes.float64.Reads as float64-reads
-use Rattle.text.proofs.bytes.int64.Reads as int64-reads
+use Rattle.table.proofs.records.float.Reads as float-reads
+use Rattle.table.proofs.records.integer.Reads as integer-reads
 
 -- src/operands.rt:32:9
 kind-requires : tie.Need-kind-requires
@@ -31,37 +31,21 @@ returns-2 c = of-false _ _ (c .before .before .before .before .before .pre .0) _
 returns-3 : tie.Need-returns-3
 returns-3 c = of-true _ _ (c .before .before .before .before .before .before .pre .0) _ (c .before .before .before .before .before .before .pre .1) (omega arith)
 
--- src/operands.rt:43:49
-mul-int64 : tie.Need-mul-int64
-mul-int64 c = search needs
-
--- src/operands.rt:43:49
-add-int64 : tie.Need-add-int64
-add-int64 c = search needs
-
 -- src/operands.rt:43:29
-int64-requires : tie.Need-int64-requires
-int64-requires c κs = search needs
+integer-requires : tie.Need-integer-requires
+integer-requires c κs = search needs
 
 -- src/operands.rt:43:9
 returns-4 : tie.Need-returns-4
-returns-4 c = of-integer _ _ (c .before .before .before .before .before .before .before .before .pre .0) _ (c .before .before .before .before .before .before .before .before .pre .1) (omega arith) _ (back (c .int64 .result) (c .int64 .ok) ∙ c .int64 .ensures)
-
--- src/operands.rt:46:53
-mul-float64 : tie.Need-mul-float64
-mul-float64 c = search needs
-
--- src/operands.rt:46:53
-add-float64 : tie.Need-add-float64
-add-float64 c = search needs
+returns-4 c = of-integer _ _ (c .before .before .before .before .before .before .before .before .pre .0) _ (c .before .before .before .before .before .before .before .before .pre .1) (omega arith) _ (back (c .integer .result) (c .integer .ok) ∙ c .integer .ensures)
 
 -- src/operands.rt:46:31
-float64-requires : tie.Need-float64-requires
-float64-requires c κs = (omega arith, bits-number (payload (c .before .before .before .before .before .before .before .before .args .table .now) (c .before .before .before .before .before .before .before .before .args .node)) (c .before .before .before .before .before .before .before .before .pre .0 .floats (c .before .before .before .before .before .before .before .before .args .node) (c .before .before .before .before .before .before .before .before .pre .1) (omega arith)))
+float-requires : tie.Need-float-requires
+float-requires c κs = (omega arith, bits-number (payload (c .before .before .before .before .before .before .before .before .args .table .now) (c .before .before .before .before .before .before .before .before .args .node)) (c .before .before .before .before .before .before .before .before .pre .0 .floats (c .before .before .before .before .before .before .before .before .args .node) (c .before .before .before .before .before .before .before .before .pre .1) (omega arith)))
 
 -- src/operands.rt:46:9
 returns-5 : tie.Need-returns-5
-returns-5 c = of-float _ _ (c .before .before .before .before .before .before .before .before .before .pre .0) _ (c .before .before .before .before .before .before .before .before .before .pre .1) (omega arith) _ (c .float64 .ensures)
+returns-5 c = of-float _ _ (c .before .before .before .before .before .before .before .before .before .pre .0) _ (c .before .before .before .before .before .before .before .before .before .pre .1) (omega arith) _ (c .float .ensures)
 
 -- src/operands.rt:49:21
 text-start-requires : tie.Need-text-start-requires
@@ -95,13 +79,9 @@ get-value-spec =
     returns
     returns-2
     returns-3
-    mul-int64
-    add-int64
-    int64-requires
+    integer-requires
     returns-4
-    mul-float64
-    add-float64
-    float64-requires
+    float-requires
     returns-5
     text-start-requires
     cast-start
