@@ -2,6 +2,7 @@
 // The bare pass is made twice and timed the second time, so that each is timed with the table in the caches.
 // Tables: many small maps; 63 maps of 1,024 members, with any keys, with keys of one bucket and with keys of one hash; one list of numbers; lists in lists,
 // 60 levels deep; one list of texts, of 20 bytes each and of 2,000, in ASCII and in characters of two to four bytes; small maps with keys beyond ASCII.
+// With -DBEFORE_W2 the tables are those of the library before W2: a record names no parent, and each byte behind the words of a key is hashed by itself.
 #include "../include/stewpebble.h"
 #include <stdio.h>
 #include <stdlib.h>
@@ -32,7 +33,12 @@ static uint64_t bucket(const char *key) {
     uint32_t word;
     memcpy(&word, key, 4);
     uint64_t hash = mix(0, word);
+#ifndef BEFORE_W2
+    memcpy(&word, key + KEY - 4, 4);
+    hash = mix(hash, word);
+#else
     for (int i = 4; i < KEY; i++) hash = mix(hash, key[i]);
+#endif
     return (hash + hash / 65536) % 1024;
 }
 
@@ -145,6 +151,9 @@ static uint64_t bare(void) {
 }
 
 static void measure(const char *name) {
+#ifdef BEFORE_W2
+    for (size_t i = 0; i < nodes; i++) table[i].parent = 0;
+#endif
     uint64_t node = 0;
     uint32_t refusal = stewpebble_check_table(stewpebble_records(table), nodes * sizeof *table, text, text_length, &node);
     if (refusal) {
