@@ -4,15 +4,17 @@ use regex::test_less;
 use regex_marks::weigh;
 ghost use Rattle.regex.specs.Tested.{Tested};
 
-// Rooms for marks: a byte for each character position of the written-out expression. Where the largest is too small, the counts are brought down to what the text needs
-// first, in a room for the code; and where it is too small still, the test goes without marks.
+// Rooms for marks: a byte for each character position of the written-out expression. Where the second is too small, the counts of a short code are brought down to what
+// the text needs first, in a room for its words; where the largest is too small, those of any code.
 const FEW: usize = 256;
 
 const MORE: usize = 4096;
 
 const MOST: usize = 65535;
 
-// The most words that an expression's code has, and some.
+// The most words of the code of an expression of 128 bytes, and of any; with those of a search. A short code is brought down in little stack.
+const SHORT_WORDS: usize = 1039;
+
 const WORDS: usize = 8207;
 
 // A byte that is no kind of a plan's item.
@@ -49,6 +51,17 @@ fn with_most(code: &[u32], text: &[u8], again: u8) -> bool
     test(code, text, &mut marks)
 }
 
+fn with_fewer(code: &[u32], text: &[u8], again: u8) -> bool
+    ensures { λ r. ⌜ Tested (now (code .entry)) (now (text .entry)) r ⌝ }
+{
+    if 0 < again {
+        return with_fewer(code, text, again - 1);
+    }
+    let mut words = [0u32; SHORT_WORDS];
+    let mut marks = [0u8; MOST];
+    test_less(code, text, &mut words, &mut marks)
+}
+
 fn with_less(code: &[u32], text: &[u8], again: u8) -> bool
     ensures { λ r. ⌜ Tested (now (code .entry)) (now (text .entry)) r ⌝ }
 {
@@ -73,6 +86,9 @@ pub fn test_within(kind: u8, code: &[u32], text: &[u8]) -> bool
     }
     if n <= MORE {
         return with_more(code, text, again);
+    }
+    if code.len() <= SHORT_WORDS {
+        return with_fewer(code, text, again);
     }
     if n <= MOST {
         return with_most(code, text, again);
