@@ -5,3 +5,4 @@ pub mod Tables
 pub mod Writes
 pub mod Walks
 pub mod Answers
+pub mod Alike

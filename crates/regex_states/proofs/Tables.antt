@@ -16,9 +16,9 @@ use Rattle.regex_marks.specs.Marks.{size, Rest, Good}
 use Rattle.regex_marks.specs.Moves.{Shifted}
 use Rattle.regex_marks.proofs.Frames.{rest-none}
 use Rattle.regex_states.specs.States.{Leads, Settles, State}
-use Rattle.regex_states.specs.Ready.{part, width, count, marksOf, edgeOf, Known, Tables}
+use Rattle.regex_states.specs.Ready.{part, width, count, marksOf, edgeOf, otherOf, Known, Tables, Alike}
 use Rattle.regex_states.specs.Texts.{Stepped}
-use Rattle.regex_states.specs.Rooms.{Found, Settling, Added, Placed, full, known, fresh, Noted, nothing, edge}
+use Rattle.regex_states.specs.Rooms.{Found, Settling, Added, Placed, full, known, fresh, Noted, unnoted, edge, Beyond, nothing, other}
 use Rattle.regex_states.proofs.Parts.{part-same, part-is, length-part}
 use Rattle.regex_states.proofs.Steps.{leads-by, leads-other, told-by}
 
@@ -78,7 +78,9 @@ module _ {s es ss : List ℕ} (g : Tables s es ss) (k c t : ℕ) (low : 1 ≤ k)
         edges = omega (arith, length-set es (k * 128 + c) t, g .edges);
         sets = g .sets;
         inside = λ k' c' p q h. edge-inside r k' c' p q h (eqb (k' * 128 + c') (k * 128 + c)) refl;
+        among = g .among;
         grows = g .grows;
+        alike = g .alike;
         of =
             λ x e.
             record {
@@ -86,6 +88,7 @@ module _ {s es ss : List ℕ} (g : Tables s es ss) (k c t : ℕ) (low : 1 ≤ k)
               start = g .of x e .start;
               state = g .of x e .state;
               edge = λ k' c' p q h n. edge-leads x e (f x e) k' c' p q h n (eqb (k' * 128 + c') (k * 128 + c)) refl;
+              other = g .of x e .other;
             };
       }
 
@@ -174,6 +177,34 @@ module _ {s es ss ms es' ss' : List ℕ} {b : Bool} {r : ℕ} (g : Tables s es s
       (ap (marksOf ss') v ∙ old-marks (edgeOf es k c) (omega (arith, y)) (omega (arith, a .is)))
       (g .of x e .edge k c p (omega (arith, a .is)) h y)
 
+  among-of : (k : ℕ) → 1 ≤ k → k < count ss' → (i : Bool) → eqb k r ≡ i → otherOf ss' k < count ss'
+  among-of k p q true z =
+      let u : k ≡ r = eqb-true k r z in
+      rw u (let v = a .other in omega (arith, a .counted))
+  among-of k p q false z =
+      let l = below k q (eqb-false k r z) in
+      let v = old-byte k 125 p l (omega arith) in
+      let o = g .among k p (omega (arith, a .is)) in
+      omega (arith, a .counted, a .is)
+
+  other-of :
+      (x : Regexp) → s ≡ flat x [] → (k c : ℕ) → 1 ≤ k → k < count ss' → 128 ≤ c → (otherOf ss' k ≡ 0 → ⊥) → (i : Bool) → eqb k r ≡ i
+      → Leads x c k (marksOf ss' k) (otherOf ss' k) (marksOf ss' (otherOf ss' k))
+  other-of x e k c p q h m true z =
+      let u : k ≡ r = eqb-true k r z in
+      absurd (m (ap (otherOf ss') u ∙ a .other))
+  other-of x e k c p q h m false z =
+      let l = below k q (eqb-false k r z) in
+      let v : otherOf ss' k ≡ otherOf ss k = old-byte k 125 p l (omega arith) in
+      let y : otherOf ss k ≡ 0 → ⊥ = λ y. m (v ∙ y) in
+      let o = g .among k p (omega (arith, a .is)) in
+      leads-at refl refl v (old-marks k p l)
+      (ap (marksOf ss') v ∙ old-marks (otherOf ss k) (omega (arith, y)) (omega (arith, a .is)))
+      (g .of x e .other k c p (omega (arith, a .is)) h y)
+
+  same-alike : getD ss' 3 0 ≡ getD ss 3 0
+  same-alike = a .low 3 (omega (arith, a .is, g .some)) (λ e. omega arith)
+
   state-more : Moving s ms b → Tables s es' ss'
   state-more f =
       record {
@@ -184,6 +215,8 @@ module _ {s es ss ms es' ss' : List ℕ} {b : Bool} {r : ℕ} (g : Tables s es s
         edges = omega (arith, a .counted, a .room .edges, a .long .0);
         sets = omega (arith, a .counted, a .room .sets, a .long .1);
         inside = λ k c p q h. inside-of k c p q h (eqb k r) refl;
+        among = λ k p q. among-of k p q (eqb k r) refl;
+        alike = λ h. g .alike (sym same-alike ∙ h);
         grows = λ h. g .grows (sym same-open ∙ h);
         of =
             λ x e.
@@ -194,6 +227,81 @@ module _ {s es ss ms es' ss' : List ℕ} {b : Bool} {r : ℕ} (g : Tables s es s
                   (subst (λ l. Rest x 0 l w) (old-marks 1 (omega arith) (omega (arith, a .is, g .some))) h);
               state = λ k p q. state-of f x e k p q (eqb k r) refl;
               edge = λ k c p q h m. edge-of x e k c p q h m (eqb k r) refl;
+              other = λ k c p q h m. other-of x e k c p q h m (eqb k r) refl;
+            };
+      }
+
+-- WHERE CHARACTERS BEYOND ASCII LEAD
+module _ {s es ss : List ℕ} (g : Tables s es ss) (k t : ℕ) (low : 1 ≤ k) (high : k < count ss) where
+  -- a byte that is not written
+  beside : (i : ℕ) → (i ≡ k * 128 + 125 → ⊥) → getD (set ss (k * 128 + 125) t) i 0 ≡ getD ss i 0
+  beside i n = getD-set-other ss (k * 128 + 125) i t 0 n
+
+  pub beyond-marks : (j : ℕ) → marksOf (set ss (k * 128 + 125) t) j ≡ marksOf ss j
+  beyond-marks j =
+      ap (part (set ss (k * 128 + 125) t) (j * 128)) (beside 0 (λ z. omega arith))
+      ∙ part-same (width ss) (set ss (k * 128 + 125) t) ss (j * 128) (j * 128) (λ i h. beside (j * 128 + i) (λ z. omega (arith, g .few)))
+
+  pub beyond-count : count (set ss (k * 128 + 125) t) ≡ count ss
+  beyond-count = beside 1 (λ z. omega arith)
+
+  pub beyond-width : width (set ss (k * 128 + 125) t) ≡ width ss
+  beyond-width = beside 0 (λ z. omega arith)
+
+  other-same : (j : ℕ) → j ≡ k → otherOf (set ss (k * 128 + 125) t) j ≡ t
+  other-same j e =
+      ap (otherOf (set ss (k * 128 + 125) t)) e ∙ getD-set-same ss (k * 128 + 125) t 0 (omega (arith, g .sets))
+
+  other-apart : (j : ℕ) → (j ≡ k → ⊥) → otherOf (set ss (k * 128 + 125) t) j ≡ otherOf ss j
+  other-apart j n = beside (j * 128 + 125) (λ z. n (omega arith))
+
+  other-among : t < count ss → (j : ℕ) → 1 ≤ j → j < count ss → (b : Bool) → eqb j k ≡ b → otherOf (set ss (k * 128 + 125) t) j < count ss
+  other-among r j p q true e = rw (other-same j (eqb-true j k e)) r
+  other-among r j p q false e = rw (other-apart j (eqb-false j k e)) (g .among j p q)
+
+  other-leads :
+      (x : Regexp) → s ≡ flat x [] → ((c : ℕ) → 128 ≤ c → Leads x c k (marksOf ss k) t (marksOf ss t)) → (j c : ℕ) → 1 ≤ j → j < count ss
+      → 128 ≤ c → (otherOf (set ss (k * 128 + 125) t) j ≡ 0 → ⊥) → (b : Bool) → eqb j k ≡ b
+      → Leads x c j (marksOf ss j) (otherOf (set ss (k * 128 + 125) t) j) (marksOf ss (otherOf (set ss (k * 128 + 125) t) j))
+  other-leads x e l j c p q h n true z =
+      let u : j ≡ k = eqb-true j k z in
+      let w = other-same j u in
+      leads-at refl u w (ap (marksOf ss) u) (ap (marksOf ss) w) (l c h)
+  other-leads x e l j c p q h n false z =
+      let w = other-apart j (eqb-false j k z) in
+      leads-at refl refl w refl (ap (marksOf ss) w) (g .of x e .other j c p q h (λ y. n (w ∙ y)))
+
+  pub other-more :
+      t < count ss → ((x : Regexp) → s ≡ flat x [] → (c : ℕ) → 128 ≤ c → Leads x c k (marksOf ss k) t (marksOf ss t))
+      → Tables s es (set ss (k * 128 + 125) t)
+  other-more r f =
+      let n = beyond-count in
+      record {
+        words = g .words;
+        few = omega (arith, beyond-width, g .few);
+        some = omega (arith, g .some);
+        most = omega (arith, g .most);
+        edges = omega (arith, g .edges);
+        sets = omega (arith, g .sets, length-set ss (k * 128 + 125) t);
+        inside = λ j c p q h. let o = g .inside j c p (omega arith) h in omega arith;
+        among = λ j p q. let o = other-among r j p (omega arith) (eqb j k) refl in omega arith;
+        grows = λ h. g .grows (sym (beside 2 (λ z. omega arith)) ∙ h);
+        alike = λ h. g .alike (sym (beside 3 (λ z. omega arith)) ∙ h);
+        of =
+            λ x e.
+            record {
+              wide = beyond-width ∙ g .of x e .wide;
+              start = λ w h. g .of x e .start w (subst (λ l. Rest x 0 l w) (beyond-marks 1) h);
+              state =
+                  λ j p q. state-at (beyond-marks j) (flag-at (beside (j * 128 + 127) (λ z. omega arith)))
+                  (flag-at (beside (j * 128 + 126) (λ z. omega arith))) (g .of x e .state j p (omega arith));
+              edge =
+                  λ j c p q h m.
+                  leads-at refl refl refl (beyond-marks j) (beyond-marks (edgeOf es j c)) (g .of x e .edge j c p (omega arith) h m);
+              other =
+                  λ j c p q h m.
+                  leads-at refl refl refl (beyond-marks j) (beyond-marks (otherOf (set ss (k * 128 + 125) t) j))
+                  (other-leads x e (f x e) j c p (omega arith) h m (eqb j k) refl);
             };
       }
 
@@ -252,6 +360,13 @@ note-fits {s} {ss} {ms} {es'} {ss'} {r} k p q g = (omega (arith, g .old k p q .0
     go true e = omega (arith, eqb-true r 0 e)
     go false e = omega (arith, g .is (eqb-false r 0 e) .0, g .tables .most)
 
+pub other-fits :
+    {s ss ms es' ss' : List ℕ} {r : ℕ} (k : ℕ) → 1 ≤ k → k < count ss → Grown s ss ms es' ss' r
+    → (k * 128 + 128 ≤ length ss') × (4 ≤ length ss') × (r ≤ 255)
+other-fits k p q g =
+    let o = g .old k p q .0 in
+    (omega (arith, g .tables .sets), omega (arith, g .tables .sets, g .tables .some), note-fits k p q g .1)
+
 -- the marks of state k, moved on
 module _ {s es ss ms : List ℕ} {k n : ℕ} (g : Tables s es ss) (low : 1 ≤ k) (high : k < count ss) (l : ms ≡ part ss (k * 128) n) (e : n ≡ width ss) where
   loaded-marks : ms ≡ marksOf ss k
@@ -276,26 +391,81 @@ module _ {s es ss ms : List ℕ} {k n : ℕ} (g : Tables s es ss) (low : 1 ≤ k
         leads-at refl refl refl (sym loaded-marks) refl (leads-by k 2 (λ z. omega arith) o),
       )
 
-pub stepped :
-    {s es ss ms es' ss' es2 : List ℕ} {k c r : ℕ} {b : Bool} → 1 ≤ k → k < count ss → length ms ≡ width ss → Grown s ss ms es' ss' r
-    → Noted es' k c r es2
-    → ((x : Regexp) → s ≡ flat x [] → Good x 0 ms × Told (Rest x 0 ms []) b × Leads x c k (marksOf ss k) 2 ms)
-    → Stepped s es ss k c es2 ss' ms r b
-stepped {s} {es} {ss} {ms} {es'} {ss'} {es2} {k} {c} {r} {b} p q n g m f =
-    record {
-      tables = go m;
-      wide = g .wide;
-      long = n;
-      state = λ h. (omega (arith, h), g .is h .0, g .is h .1);
-      of = f;
-      start = g .apart;
-    }
+pub noted :
+    {s ss ms es' ss' es2 : List ℕ} {k c r : ℕ} → 1 ≤ k → k < count ss → Grown s ss ms es' ss' r → Noted es' k c r es2
+    → ((x : Regexp) → s ≡ flat x [] → Leads x c k (marksOf ss k) 2 ms) → Grown s ss ms es2 ss' r
+noted {s} {ss} {ms} {es'} {ss'} {es2} {k} {c} {r} p q g m f =
+    record { tables = go m; wide = g .wide; apart = g .apart; is = g .is; old = g .old }
   where
     go : Noted es' k c r es2 → Tables s es2 ss'
-    go (nothing e) = subst (λ l. Tables s l ss') (sym e) (g .tables)
+    go (unnoted e) = subst (λ l. Tables s l ss') (sym e) (g .tables)
     go (edge h z e) =
         let o = g .old k p q in
         let i = g .is h in
         subst (λ l. Tables s l ss') (sym e)
         (edge-more (g .tables) k c r p (o .0) z (i .0)
-        (λ x d. leads-at refl refl refl (o .1) (i .1) (leads-other r (g .apart) (f x d .2))))
+        (λ x d. leads-at refl refl refl (o .1) (i .1) (leads-other r (g .apart) (f x d))))
+
+-- where one character beyond ASCII leads, all do
+leads-alike :
+    {s : List ℕ} {x : Regexp} {c k t : ℕ} {ms ns : List ℕ} → Alike s → s ≡ flat x [] → 128 ≤ c → Leads x c k ms t ns → (d : ℕ) → 128 ≤ d
+    → Leads x d k ms t ns
+leads-alike {s} {x} {c} {k} {t} {ms} {ns} a e h l d i =
+    record {
+      forth = λ w y. l .forth w (a .of x e d c i h k ms w y);
+      back = λ w y. a .of x e c d h i k ms w (l .back w y);
+    }
+
+pub beyond :
+    {s ss ms es' ss' ss2 : List ℕ} {k c r : ℕ} → 1 ≤ k → k < count ss → Grown s ss ms es' ss' r → Beyond ss' k c r ss2
+    → ((x : Regexp) → s ≡ flat x [] → Leads x c k (marksOf ss k) 2 ms) → Grown s ss ms es' ss2 r
+beyond {s} {ss} {ms} {es'} {ss'} {ss2} {k} {c} {r} p q g m f = go m
+  where
+    go : Beyond ss' k c r ss2 → Grown s ss ms es' ss2 r
+    go (nothing e) = subst (λ l. Grown s ss ms es' l r) (sym e) g
+    go (other h z a e) =
+        let o = g .old k p q in
+        let i = g .is h in
+        subst (λ l. Grown s ss ms es' l r) (sym e)
+        (record {
+          tables =
+              other-more (g .tables) k r p (o .0) (i .0)
+              (λ x d. leads-alike (g .tables .alike a) d z (leads-at refl refl refl (o .1) (i .1) (leads-other r (g .apart) (f x d))));
+          wide = beyond-width (g .tables) k r p (o .0) ∙ g .wide;
+          apart = g .apart;
+          is = λ y. (omega (arith, i .0, beyond-count (g .tables) k r p (o .0)), beyond-marks (g .tables) k r p (o .0) r ∙ i .1);
+          old =
+              λ j u v.
+              let w = g .old j u v in
+              (omega (arith, w .0, beyond-count (g .tables) k r p (o .0)), beyond-marks (g .tables) k r p (o .0) j ∙ w .1);
+        })
+
+pub stepped :
+    {s es ss ms es' ss' : List ℕ} {k c r : ℕ} {b : Bool} → length ms ≡ width ss → Grown s ss ms es' ss' r
+    → ((x : Regexp) → s ≡ flat x [] → Good x 0 ms × Told (Rest x 0 ms []) b × Leads x c k (marksOf ss k) 2 ms)
+    → Stepped s es ss k c es' ss' ms r b
+stepped {s} {es} {ss} {ms} {es'} {ss'} {k} {c} {r} n g f =
+    record {
+      tables = g .tables;
+      wide = g .wide;
+      long = n;
+      state = λ h. (omega (arith, h), g .is h .0);
+      leads = λ h x e. leads-at refl refl refl refl (g .is h .1) (leads-other r (g .apart) (f x e .2));
+      alone = λ h. f;
+    }
+
+-- what is known of the characters beyond ASCII
+pub stepped-beyond :
+    {s es ss ms : List ℕ} {k c t : ℕ} {b : Bool} → Tables s es ss → 1 ≤ k → k < count ss → length ms ≡ width ss → 128 ≤ c → t ≡ otherOf ss k
+    → 0 < t → Stepped s es ss k c es ss ms t b
+stepped-beyond {s} {es} {ss} {ms} {k} {c} {t} g p q n h e z =
+    record {
+      tables = g;
+      wide = refl;
+      long = n;
+      state = λ y. (omega arith, let o = g .among k p q in omega arith);
+      leads =
+          λ y x d.
+          leads-at refl refl e refl (ap (marksOf ss) e) (g .of x d .other k c p q h (λ u. omega arith));
+      alone = λ y. absurd (omega arith);
+    }

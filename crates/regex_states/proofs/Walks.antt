@@ -11,11 +11,9 @@ use Rattle.regex_code.specs.Flat.{flat}
 use Rattle.regex_chars.specs.Chars.{Stands}
 use Rattle.regex_marks.specs.Moves.{Fits}
 use Rattle.regex_marks.specs.Runs.{Read, Ran}
-use Rattle.regex_states.specs.States.{Leads}
-use Rattle.regex_states.specs.Ready.{width, count, marksOf, Tables}
+use Rattle.regex_states.specs.Ready.{width, count, Tables}
 use Rattle.regex_states.specs.Texts.{Reached, Inside, Followed, Stepped, Walking}
 use Rattle.regex_states.proofs.Steps.{
-  leads-other,
   along-start,
   along-step,
   along-end,
@@ -100,8 +98,7 @@ module _ {s t ss0 es ss ms : List ℕ} {i k : ℕ} (w : Walking s t ss0 es ss ms
                 record {
                   of =
                       λ x cs e u.
-                      along-step (w .reached .of x cs e u) h st
-                      (subst (λ l. Leads x c k (marksOf ss k) r l) (sym (q .2)) (leads-other r (p .start) (p .of x e .2)));
+                      along-step (w .reached .of x cs e u) h st (p .leads n x e);
                 };
           }
 
@@ -114,12 +111,12 @@ module _ {s t ss0 es ss ms : List ℕ} {i k : ℕ} (w : Walking s t ss0 es ss ms
             few = omega (arith, p .long, w .tables .few);
           }
 
-      pub walk-read : Read s t next ms' b
-      walk-read =
+      pub walk-read : r ≡ 0 → Read s t next ms' b
+      walk-read n =
           record {
             of =
                 λ x cs e u y.
-                let f = p .of x e in
+                let f = p .alone n x e in
                 along-read (along-step (w .reached .of x cs e u) h st (f .2)) (λ z. omega arith) (omega (arith, st .after)) (f .0) (f .1);
           }
 

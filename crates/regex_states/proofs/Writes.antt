@@ -19,9 +19,10 @@ use Rattle.regex_marks.specs.Moves.{Shifted}
 use Rattle.regex_marks.specs.Runs.{Grows, Weighs}
 use Rattle.regex_marks.proofs.Frames.{rest-none, good-none}
 use Rattle.regex_states.specs.States.{After, State}
-use Rattle.regex_states.specs.Ready.{width, count, marksOf, edgeOf, Known, Tables, Ready}
-use Rattle.regex_states.specs.Rooms.{Put, Blank, Settling, Room, Added, Suits, Weighed, Empties, Sealed, Headed}
+use Rattle.regex_states.specs.Ready.{width, count, marksOf, edgeOf, otherOf, Known, Tables, Ready}
+use Rattle.regex_states.specs.Rooms.{Put, Blank, Settling, Room, Added, Suits, Weighed, Empties, Sealed, Headed, AllLow}
 use Rattle.regex_states.proofs.Parts.{part-zero}
+use Rattle.regex_states.proofs.Alike.{alike}
 
 -- the flag of a byte that is another's
 flag-at : {n m : ℕ} → n ≡ m → eqb n 1 ≡ eqb m 1
@@ -30,39 +31,53 @@ flag-at e = ap (λ i. eqb i 1) e
 -- what a state tells
 pub sealed :
     (ss : List ℕ) (k p q : ℕ) {b end : Bool} → k * 128 + 128 ≤ length ss → eqb p 1 ≡ end → eqb q 1 ≡ b
-    → Sealed ss k b end (set (set ss (k * 128 + 126) p) (k * 128 + 127) q)
+    → Sealed ss k b end (set (set (set ss (k * 128 + 125) 0) (k * 128 + 126) p) (k * 128 + 127) q)
 sealed ss k p q h u v =
-    let s1 = set ss (k * 128 + 126) p in
-    let l = length-set ss (k * 128 + 126) p in
+    let s0 = set ss (k * 128 + 125) 0 in
+    let s1 = set s0 (k * 128 + 126) p in
+    let j = length-set ss (k * 128 + 125) 0 in
+    let l = length-set s0 (k * 128 + 126) p in
     record {
-      long = length-set s1 (k * 128 + 127) q ∙ l;
+      long = length-set s1 (k * 128 + 127) q ∙ l ∙ j;
       told = flag-at (getD-set-same s1 (k * 128 + 127) q 0 (omega arith)) ∙ v;
       settled =
           flag-at
           (getD-set-other s1 (k * 128 + 127) (k * 128 + 126) q 0 (λ z. omega arith)
-          ∙ getD-set-same ss (k * 128 + 126) p 0 (omega arith))
+          ∙ getD-set-same s0 (k * 128 + 126) p 0 (omega arith))
           ∙ u;
-      same = λ i n m. getD-set-other s1 (k * 128 + 127) i q 0 n ∙ getD-set-other ss (k * 128 + 126) i p 0 m;
+      other =
+          getD-set-other s1 (k * 128 + 127) (k * 128 + 125) q 0 (λ z. omega arith)
+          ∙ getD-set-other s0 (k * 128 + 126) (k * 128 + 125) p 0 (λ z. omega arith) ∙ getD-set-same ss (k * 128 + 125) 0 0 (omega arith);
+      same =
+          λ i n m o.
+          getD-set-other s1 (k * 128 + 127) i q 0 n ∙ getD-set-other s0 (k * 128 + 126) i p 0 m
+          ∙ getD-set-other ss (k * 128 + 125) i 0 0 o;
     }
 
 pub headed :
-    (ss : List ℕ) (n p : ℕ) {b : Bool} → 3 ≤ length ss → eqb p 1 ≡ b → Headed ss n b (set (set (set ss 0 n) 1 2) 2 p)
-headed ss n p h u =
+    (ss : List ℕ) (n p q : ℕ) {a b : Bool} → 4 ≤ length ss → eqb p 1 ≡ a → eqb q 1 ≡ b
+    → Headed ss n a b (set (set (set (set ss 0 n) 1 2) 2 p) 3 q)
+headed ss n p q h u v =
     let s1 = set ss 0 n in
     let s2 = set s1 1 2 in
+    let s3 = set s2 2 p in
     let l = length-set ss 0 n in
     let m = length-set s1 1 2 in
+    let k = length-set s2 2 p in
     record {
-      long = length-set s2 2 p ∙ m ∙ l;
+      long = length-set s3 3 q ∙ k ∙ m ∙ l;
       wide =
-          getD-set-other s2 2 0 p 0 (λ z. omega arith) ∙ getD-set-other s1 1 0 2 0 (λ z. omega arith)
-          ∙ getD-set-same ss 0 n 0 (omega arith);
-      rows = getD-set-other s2 2 1 p 0 (λ z. omega arith) ∙ getD-set-same s1 1 2 0 (omega arith);
-      open-ended = flag-at (getD-set-same s2 2 p 0 (omega arith)) ∙ u;
+          getD-set-other s3 3 0 q 0 (λ z. omega arith) ∙ getD-set-other s2 2 0 p 0 (λ z. omega arith)
+          ∙ getD-set-other s1 1 0 2 0 (λ z. omega arith) ∙ getD-set-same ss 0 n 0 (omega arith);
+      rows =
+          getD-set-other s3 3 1 q 0 (λ z. omega arith) ∙ getD-set-other s2 2 1 p 0 (λ z. omega arith)
+          ∙ getD-set-same s1 1 2 0 (omega arith);
+      open-ended = flag-at (getD-set-other s3 3 2 q 0 (λ z. omega arith) ∙ getD-set-same s2 2 p 0 (omega arith)) ∙ u;
+      all-alike = flag-at (getD-set-same s3 3 q 0 (omega arith)) ∙ v;
       same =
           λ i g.
-          getD-set-other s2 2 i p 0 (λ z. omega arith) ∙ getD-set-other s1 1 i 2 0 (λ z. omega arith)
-          ∙ getD-set-other ss 0 i n 0 (λ z. omega arith);
+          getD-set-other s3 3 i q 0 (λ z. omega arith) ∙ getD-set-other s2 2 i p 0 (λ z. omega arith)
+          ∙ getD-set-other s1 1 i 2 0 (λ z. omega arith) ∙ getD-set-other ss 0 i n 0 (λ z. omega arith);
     }
 
 -- a state more
@@ -76,9 +91,10 @@ added {es} {ss} {ms} {ss1} {ss2} {es1} {b} {end} k e two few r st pu se bl =
       room = r;
       counted = getD-set-same ss2 1 (k + 1) 0 (omega (arith, r .sets, se .long, pu .long));
       long = (bl .long, length-set ss2 1 (k + 1) ∙ se .long ∙ pu .long);
-      marks = λ i h. beside (k * 128 + i) (λ z. omega arith) ∙ se .same (k * 128 + i) (λ z. omega arith) (λ z. omega arith) ∙ pu .marks i h;
-      low = λ i h n. beside i n ∙ se .same i (λ z. omega arith) (λ z. omega arith) ∙ pu .low i h;
+      marks = λ i h. beside (k * 128 + i) (λ z. omega arith) ∙ se .same (k * 128 + i) (λ z. omega arith) (λ z. omega arith) (λ z. omega arith) ∙ pu .marks i h;
+      low = λ i h n. beside i n ∙ se .same i (λ z. omega arith) (λ z. omega arith) (λ z. omega arith) ∙ pu .low i h;
       told = flag-at (beside (k * 128 + 127) (λ z. omega arith)) ∙ se .told;
+      other = beside (k * 128 + 125) (λ z. omega arith) ∙ se .other;
       settled =
           subst (λ v. Settling ms b (eqb (getD ss 2 0) 1) v)
           (sym (flag-at (beside (k * 128 + 126) (λ z. omega arith)) ∙ se .settled)) st;
@@ -133,22 +149,23 @@ weighed w h = record { of = λ x e. w .of x [] e .1 h }
 module _
     {s es ss es1 ss1 ss2 ss3 : List ℕ}
     {n : ℕ}
-    {b opens end : Bool}
+    {b opens same end : Bool}
     (le : 256 ≤ length es)
     (ls : 256 ≤ length ss)
     (su : Suits s n)
     (we : Weighed s n)
     (em : Empties s n b)
     (op : opens ≡ true → Open s)
+    (al : same ≡ true → AllLow s)
     (be : Blank es 1 es1)
     (bs : Blank ss 1 ss1)
     (is : end ≡ (b && opens))
     (se : Sealed ss1 1 b end ss2)
-    (he : Headed ss2 n opens ss3)
+    (he : Headed ss2 n opens same ss3)
   where
     start-byte : (i : ℕ) → i < 120 → getD ss3 (1 * 128 + i) 0 ≡ 0
     start-byte i h =
-        he .same (1 * 128 + i) (omega arith) ∙ se .same (1 * 128 + i) (λ z. omega arith) (λ z. omega arith)
+        he .same (1 * 128 + i) (omega arith) ∙ se .same (1 * 128 + i) (λ z. omega arith) (λ z. omega arith) (λ z. omega arith)
         ∙ bs .none i (omega arith)
 
     start-none : (i : ℕ) → getD (marksOf ss3 1) i 0 ≡ 0
@@ -181,6 +198,9 @@ module _
     no-edge : (k c : ℕ) → 1 ≤ k → k < count ss3 → c < 128 → edgeOf es1 k c ≡ 0
     no-edge k c p q h = ap (λ i. edgeOf es1 i c) (only-start k p q) ∙ be .none c h
 
+    no-other : (k : ℕ) → 1 ≤ k → k < count ss3 → otherOf ss3 k ≡ 0
+    no-other k p q = ap (otherOf ss3) (only-start k p q) ∙ he .same (1 * 128 + 125) (omega arith) ∙ se .other
+
     pub begun : Tables s es1 ss3
     begun =
         record {
@@ -191,6 +211,8 @@ module _
           edges = omega (arith, he .rows, be .long);
           sets = omega (arith, he .rows, he .long, se .long, bs .long);
           inside = λ k c p q h. let z = no-edge k c p q h in omega (arith, he .rows);
+          among = λ k p q. let z = no-other k p q in omega (arith, he .rows);
+          alike = λ h. alike (al (sym (he .all-alike) ∙ ap (λ i. eqb i 1) h));
           grows = λ h. record { of = op (sym (he .open-ended) ∙ ap (λ i. eqb i 1) h) .of };
           of =
               λ x e.
@@ -199,6 +221,7 @@ module _
                 start = λ w r. rest-none (marksOf ss3 1) start-none x 0 w r;
                 state = λ k p q. let z = only-start k p q in rw z (rw (told-byte, end-byte) (start-state x e));
                 edge = λ k c p q h m. absurd (m (no-edge k c p q h));
+                other = λ k c p q h m. absurd (m (no-other k p q));
               };
         }
 

@@ -9,7 +9,7 @@ use Rattle.regex_definition.specs.Regexp.{Regexp}
 use Rattle.regex_code.specs.Flat.{flat}
 use Rattle.regex_marks.specs.Marks.{size, Rest}
 use Rattle.regex_marks.specs.Runs.{Grows}
-use Rattle.regex_states.specs.States.{State, Leads}
+use Rattle.regex_states.specs.States.{After, State, Leads}
 
 -- n bytes from a place on
 abbrev pub part : List ℕ → ℕ → ℕ → List ℕ
@@ -31,6 +31,16 @@ marksOf ss k = part ss (k * 128) (width ss)
 abbrev pub edgeOf : List ℕ → ℕ → ℕ → ℕ
 edgeOf es k c = getD es (k * 128 + c) 0
 
+-- where the characters beyond ASCII lead from state k, if they are alike; 0 is not known
+abbrev pub otherOf : List ℕ → ℕ → ℕ
+otherOf ss k = getD ss (k * 128 + 125) 0
+
+-- no state tells two characters beyond ASCII apart
+pub record Alike (s : List ℕ) : Type 0 where
+  pub of :
+      (x : Regexp) → s ≡ flat x [] → (c d : ℕ) → 128 ≤ c → 128 ≤ d → (k : ℕ) (ms w : List ℕ) → After x k ms (c ∷ w)
+      → After x k ms (d ∷ w)
+
 -- the states and edges of one expression
 pub record Known (x : Regexp) (es ss : List ℕ) : Type 0 where
   pub wide : width ss ≡ size x
@@ -41,6 +51,9 @@ pub record Known (x : Regexp) (es ss : List ℕ) : Type 0 where
   pub edge :
       (k c : ℕ) → 1 ≤ k → k < count ss → c < 128 → (edgeOf es k c ≡ 0 → ⊥)
       → Leads x c k (marksOf ss k) (edgeOf es k c) (marksOf ss (edgeOf es k c))
+  pub other :
+      (k c : ℕ) → 1 ≤ k → k < count ss → 128 ≤ c → (otherOf ss k ≡ 0 → ⊥)
+      → Leads x c k (marksOf ss k) (otherOf ss k) (marksOf ss (otherOf ss k))
 
 -- the rows in use are inside the rooms, and right for every expression that the code is of
 pub record Tables (s es ss : List ℕ) : Type 0 where
@@ -51,7 +64,9 @@ pub record Tables (s es ss : List ℕ) : Type 0 where
   pub edges : count ss * 128 ≤ length es
   pub sets : count ss * 128 ≤ length ss
   pub inside : (k c : ℕ) → 1 ≤ k → k < count ss → c < 128 → edgeOf es k c < count ss
+  pub among : (k : ℕ) → 1 ≤ k → k < count ss → otherOf ss k < count ss
   pub grows : getD ss 2 0 ≡ 1 → Grows s
+  pub alike : getD ss 3 0 ≡ 1 → Alike s
   pub of : (x : Regexp) → s ≡ flat x [] → Known x es ss
 
 -- the rooms are ready for the code; with no marks in the head the expression has no states

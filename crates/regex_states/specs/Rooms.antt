@@ -11,7 +11,7 @@ use Rattle.regex_definition.specs.Regexp.{Regexp, Describes}
 use Rattle.regex_code.specs.Flat.{flat}
 use Rattle.regex_marks.specs.Marks.{size}
 use Rattle.regex_marks.specs.Runs.{Clear, Ran}
-use Rattle.regex_states.specs.Ready.{part, width, count, edgeOf, Tables}
+use Rattle.regex_states.specs.Ready.{part, width, count, otherOf, Tables}
 
 -- r is a state with these marks, not the start, if it is not 0
 pub record Found (ss ms : List ℕ) (n r : ℕ) : Type 0 where
@@ -49,6 +49,7 @@ pub record Added (es ss ms : List ℕ) (b : Bool) (es' ss' : List ℕ) (r : ℕ)
   pub marks : (i : ℕ) → i < length ms → getD ss' (r * 128 + i) 0 ≡ getD ms i 0
   pub low : (i : ℕ) → i < r * 128 → (i ≡ 1 → ⊥) → getD ss' i 0 ≡ getD ss i 0
   pub told : eqb (getD ss' (r * 128 + 127) 0) 1 ≡ b
+  pub other : otherOf ss' r ≡ 0
   pub settled : Settling ms b (eqb (getD ss 2 0) 1) (eqb (getD ss' (r * 128 + 126) 0) 1)
   pub none : (i : ℕ) → i < 128 → getD es' (r * 128 + i) 0 ≡ 0
   pub edges : (i : ℕ) → i < r * 128 → getD es' i 0 ≡ getD es i 0
@@ -61,7 +62,7 @@ pub data Placed (es ss ms : List ℕ) (b : Bool) (es' ss' : List ℕ) (r : ℕ) 
 
 -- the edge from k over c to t is written, or nothing
 pub data Noted (es : List ℕ) (k c t : ℕ) (es' : List ℕ) : Type 0 where
-  nothing : es' ≡ es → Noted es k c t es'
+  unnoted : es' ≡ es → Noted es k c t es'
   edge : (t ≡ 0 → ⊥) → c < 128 → es' ≡ set es (k * 128 + c) t → Noted es k c t es'
 
 -- the answer of a walk, and what it keeps
@@ -87,12 +88,23 @@ pub record Sealed (ss : List ℕ) (k : ℕ) (b end : Bool) (ss' : List ℕ) : Ty
   pub long : length ss' ≡ length ss
   pub told : eqb (getD ss' (k * 128 + 127) 0) 1 ≡ b
   pub settled : eqb (getD ss' (k * 128 + 126) 0) 1 ≡ end
-  pub same : (i : ℕ) → (i ≡ k * 128 + 127 → ⊥) → (i ≡ k * 128 + 126 → ⊥) → getD ss' i 0 ≡ getD ss i 0
+  pub other : otherOf ss' k ≡ 0
+  pub same : (i : ℕ) → (i ≡ k * 128 + 127 → ⊥) → (i ≡ k * 128 + 126 → ⊥) → (i ≡ k * 128 + 125 → ⊥) → getD ss' i 0 ≡ getD ss i 0
 
 -- the head is written
-pub record Headed (ss : List ℕ) (n : ℕ) (opens : Bool) (ss' : List ℕ) : Type 0 where
+pub record Headed (ss : List ℕ) (n : ℕ) (opens alike : Bool) (ss' : List ℕ) : Type 0 where
   pub long : length ss' ≡ length ss
   pub wide : width ss' ≡ n
   pub rows : count ss' ≡ 2
   pub open-ended : eqb (getD ss' 2 0) 1 ≡ opens
-  pub same : (i : ℕ) → 3 ≤ i → getD ss' i 0 ≡ getD ss i 0
+  pub all-alike : eqb (getD ss' 3 0) 1 ≡ alike
+  pub same : (i : ℕ) → 4 ≤ i → getD ss' i 0 ≡ getD ss i 0
+
+-- the state behind characters beyond ASCII is written, or nothing
+pub data Beyond (ss : List ℕ) (k c t : ℕ) (ss' : List ℕ) : Type 0 where
+  nothing : ss' ≡ ss → Beyond ss k c t ss'
+  other : (t ≡ 0 → ⊥) → 128 ≤ c → getD ss 3 0 ≡ 1 → ss' ≡ set ss (k * 128 + 125) t → Beyond ss k c t ss'
+
+-- every word is below 128
+pub record AllLow (s : List ℕ) : Type 0 where
+  pub at : (i : ℕ) → i < length s → getD s i 0 < 128

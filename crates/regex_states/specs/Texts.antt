@@ -45,14 +45,14 @@ pub record Followed (es t : List ℕ) (i k j m : ℕ) : Type 0 where
   pub to : j ≤ length t
   pub trail : Trail es t i k j m
 
--- a step by the marks: from state k over c to the marks ms, and to state r, if it is not 0
+-- a step from state k over c: to state r, or if that is 0 to the marks ms
 pub record Stepped (s es ss : List ℕ) (k c : ℕ) (es' ss' ms : List ℕ) (r : ℕ) (b : Bool) : Type 0 where
   pub tables : Tables s es' ss'
   pub wide : width ss' ≡ width ss
   pub long : length ms ≡ width ss
-  pub state : (r ≡ 0 → ⊥) → (1 ≤ r) × (r < count ss') × (marksOf ss' r ≡ ms)
-  pub of : (x : Regexp) → s ≡ flat x [] → Good x 0 ms × Told (Rest x 0 ms []) b × Leads x c k (marksOf ss k) 2 ms
-  pub start : r ≡ 1 → ⊥
+  pub state : (r ≡ 0 → ⊥) → (1 ≤ r) × (r < count ss')
+  pub leads : (r ≡ 0 → ⊥) → (x : Regexp) → s ≡ flat x [] → Leads x c k (marksOf ss k) r (marksOf ss' r)
+  pub alone : r ≡ 0 → (x : Regexp) → s ≡ flat x [] → Good x 0 ms × Told (Rest x 0 ms []) b × Leads x c k (marksOf ss k) 2 ms
 
 -- a walk at the place i, in state k
 pub record Walking (s t ss0 es ss ms : List ℕ) (i k : ℕ) : Type 0 where

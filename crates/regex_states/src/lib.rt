@@ -4,7 +4,8 @@
 //
 // Row k of `sets` has 128 bytes: the marks of state k, at 126 whether its answer is settled, and at 127 whether a text may end there. Row k of
 // `edges` has for each ASCII character the number of the state that it leads to, or 0 where that is not known. State 1 is the start. Row 0 of
-// `sets` has the number of marks, 0 for an expression that has no states, the number of rows in use, and whether the expression is open-ended.
+// `sets` has the number of marks, 0 for an expression that has no states, the number of rows in use, whether the expression is open-ended, and
+// whether it has no character beyond ASCII; then all of those lead to one state, whose number stands at 125, or 0 where it is not known.
 use regex::test;
 use regex_chars::char_at;
 use regex_marks::read;
@@ -21,10 +22,12 @@ ghost use Rattle.regex.specs.Tested.{Tested};
 ghost use Rattle.regex_marks.specs.Runs.{Clear, Grows, Ran, Weighs};
 ghost use Rattle.regex_states.specs.Ready.{part, width, count, Tables, Ready};
 ghost use Rattle.regex_states.specs.Texts.{Inside, Followed, Stepped};
-ghost use Rattle.regex_states.specs.Rooms.{Found, Put, Blank, Settling, Room, Added, Placed, Noted, Walked, Suits, Weighed, Empties, Sealed, Headed};
+ghost use Rattle.regex_states.specs.Rooms.{Found, Put, Blank, Settling, Room, Added, Placed, Noted, Walked, Suits, Weighed, Empties, Sealed, Headed, Beyond, AllLow};
 
 // The bytes of a row, which are also the ASCII characters.
 const ROW: usize = 128;
+
+const OTHER: usize = 125;
 
 const SETTLED: usize = 126;
 
@@ -175,6 +178,7 @@ fn seal(sets: &mut [u8], k: usize, told: bool, end: bool)
     requires { ⌜ k * 128 + 128 ≤ length (now sets) ⌝ }
     ensures { λ _. ⌜ Sealed (now (sets .entry)) k told end (now (sets .exit)) ⌝ }
 {
+    sets[k * ROW + OTHER] = 0;
     sets[k * ROW + SETTLED] = bit(end);
     sets[k * ROW + TOLD] = bit(told);
 }
@@ -252,8 +256,31 @@ pub struct Next {
     pub told: bool,
 }
 
+// Notes that the characters beyond ASCII lead from state k to state t as c does, if c is one and all are alike.
+fn note_other(sets: &mut [u8], k: usize, c: u32, t: usize)
+    requires { ⌜ (k * 128 + 128 ≤ length (now sets)) × (4 ≤ length (now sets)) × (t ≤ 255) ⌝ }
+    ensures { λ _. ⌜ Beyond (now (sets .entry)) k c t (now (sets .exit)) ⌝ }
+{
+    if t == 0 {
+        return;
+    }
+    if c < 128 {
+        return;
+    }
+    if sets[3] == 1 {
+        sets[k * ROW + OTHER] = t as u8;
+    }
+}
+
 // Reads the character c in state k by the marks, and notes the state that it leads to; that is 0 where there is no room for it.
-fn step(code: &[u32], k: usize, c: u32, edges: &mut [u8], sets: &mut [u8], marks: &mut [u8]) -> Next
+fn learn(
+    code: &[u32],
+    k: usize,
+    c: u32,
+    edges: &mut [u8],
+    sets: &mut [u8],
+    marks: &mut [u8],
+) -> Next
     requires { ⌜ Tables (now code) (now edges) (now sets) ⌝ ∗ ⌜ (1 ≤ k) × (k < count (now sets)) × (length (now marks) ≡ width (now sets)) ⌝ }
     ensures { λ r. ⌜ Stepped (now (code .entry)) (now (edges .entry)) (now (sets .entry)) k c (now (edges .exit)) (now (sets .exit)) (now (marks .exit)) (r .state) (r .told) ⌝ }
 {
@@ -262,10 +289,28 @@ fn step(code: &[u32], k: usize, c: u32, edges: &mut [u8], sets: &mut [u8], marks
     let told = p % 2 == 1;
     let t = state_of(edges, sets, marks, told);
     note(edges, k, c, t);
+    note_other(sets, k, c, t);
     Next {
         state: t,
         told: told,
     }
+}
+
+// Reads the character c in state k: by what is known of the characters beyond ASCII, or by the marks.
+fn step(code: &[u32], k: usize, c: u32, edges: &mut [u8], sets: &mut [u8], marks: &mut [u8]) -> Next
+    requires { ⌜ Tables (now code) (now edges) (now sets) ⌝ ∗ ⌜ (1 ≤ k) × (k < count (now sets)) × (length (now marks) ≡ width (now sets)) ⌝ }
+    ensures { λ r. ⌜ Stepped (now (code .entry)) (now (edges .entry)) (now (sets .entry)) k c (now (edges .exit)) (now (sets .exit)) (now (marks .exit)) (r .state) (r .told) ⌝ }
+{
+    if 128 <= c {
+        let t = wide(sets[k * ROW + OTHER]);
+        if 0 < t {
+            return Next {
+                state: t,
+                told: false,
+            };
+        }
+    }
+    learn(code, k, c, edges, sets, marks)
 }
 
 // Whether the text is described, from state to state. The marks are as many as the expression has.
@@ -325,14 +370,29 @@ fn has_empty(code: &[u32], n: usize) -> bool
     p / 4 % 2 == 1
 }
 
-// Writes the head: so many marks, the start in use, and whether any end may follow what is described.
-fn head(sets: &mut [u8], n: usize, grows: bool)
-    requires { ⌜ (n ≤ 120) × (3 ≤ length (now sets)) ⌝ }
-    ensures { λ _. ⌜ Headed (now (sets .entry)) n grows (now (sets .exit)) ⌝ }
+// Writes the head: so many marks, the start in use, whether any end may follow what is described, and whether characters beyond ASCII are alike.
+fn head(sets: &mut [u8], n: usize, grows: bool, alike: bool)
+    requires { ⌜ (n ≤ 120) × (4 ≤ length (now sets)) ⌝ }
+    ensures { λ _. ⌜ Headed (now (sets .entry)) n grows alike (now (sets .exit)) ⌝ }
 {
     sets[0] = n as u8;
     sets[1] = 2;
     sets[2] = bit(grows);
+    sets[3] = bit(alike);
+}
+
+// Whether every word of the code is below 128: then no class tells two characters beyond ASCII apart.
+fn all_low(code: &[u32]) -> bool
+    ensures { λ r. ⌜ (r ≡ true → AllLow (now (code .entry))) ⌝ }
+{
+    let mut i = 0;
+    while i < code.len() {
+        if 128 <= code[i] {
+            return false;
+        }
+        i += 1;
+    }
+    true
 }
 
 // The start: nothing is read, and no edge is known.
@@ -345,7 +405,8 @@ fn begin(code: &[u32], edges: &mut [u8], sets: &mut [u8], n: usize)
     blank(edges, 1);
     blank(sets, 1);
     seal(sets, 1, told, both(told, grows));
-    head(sets, n, grows);
+    let alike = all_low(code);
+    head(sets, n, grows, alike);
 }
 
 // Makes the rooms ready for the code: nothing but the start is known.

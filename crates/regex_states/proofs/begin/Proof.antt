@@ -23,6 +23,9 @@ both-requires c κs = search needs
 seal-requires : tie.Need-seal-requires
 seal-requires c κs = search needs
 
+all-low-requires : tie.Need-all-low-requires
+all-low-requires c κs = search needs
+
 head-requires : tie.Need-head-requires
 head-requires c κs = search needs
 
@@ -33,7 +36,7 @@ same-length-2 : tie.Need-same-length-2
 same-length-2 c = search needs
 
 returns : tie.Need-returns
-returns c = begun (c .before .before .before .before .before .before .before .before .before .before .before .before .before .before .before .before .before .before .before .before .before .before .pre .0 .0) (c .before .before .before .before .before .before .before .before .before .before .before .before .before .before .before .before .before .before .before .before .before .before .pre .0 .1) (c .before .before .before .before .before .before .before .before .before .before .before .before .before .before .before .before .before .before .before .before .before .before .pre .1 .0) (c .before .before .before .before .before .before .before .before .before .before .before .before .before .before .before .before .before .before .before .before .before .before .pre .1 .1) (c .before .before .before .before .before .before .before .before .before .before .before .before .before .before .before .before .before .before .has-empty .ensures) (c .before .before .before .before .before .before .before .before .before .before .before .before .before .before .before .before .before .open-ended .ensures) (c .before .before .before .before .before .before .before .before .before .before .before .before .before .before .before .blank .ensures) (c .before .before .before .before .before .before .before .before .before .before .before .blank2 .ensures) (c .before .before .before .before .before .before .before .both .ensures) (c .before .before .before .before .before .before .seal .ensures) (c .before .before .head .ensures)
+returns c = begun (c .before .before .before .before .before .before .before .before .before .before .before .before .before .before .before .before .before .before .before .before .before .before .before .pre .0 .0) (c .before .before .before .before .before .before .before .before .before .before .before .before .before .before .before .before .before .before .before .before .before .before .before .pre .0 .1) (c .before .before .before .before .before .before .before .before .before .before .before .before .before .before .before .before .before .before .before .before .before .before .before .pre .1 .0) (c .before .before .before .before .before .before .before .before .before .before .before .before .before .before .before .before .before .before .before .before .before .before .before .pre .1 .1) (c .before .before .before .before .before .before .before .before .before .before .before .before .before .before .before .before .before .before .before .has-empty .ensures) (c .before .before .before .before .before .before .before .before .before .before .before .before .before .before .before .before .before .before .open-ended .ensures) (c .before .before .before .before .all-low .ensures) (c .before .before .before .before .before .before .before .before .before .before .before .before .before .before .before .before .blank .ensures) (c .before .before .before .before .before .before .before .before .before .before .before .before .blank2 .ensures) (c .before .before .before .before .before .before .before .before .both .ensures) (c .before .before .before .before .before .before .before .seal .ensures) (c .before .before .head .ensures)
 
 pub begin-spec : {M : Type 1} → statement M
 begin-spec =
@@ -45,6 +48,7 @@ begin-spec =
     blank-requires-2
     both-requires
     seal-requires
+    all-low-requires
     head-requires
     same-length
     same-length-2

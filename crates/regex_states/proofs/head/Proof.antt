@@ -13,19 +13,25 @@ slice-write-sets : tie.Need-slice-write-sets
 slice-write-sets c = search needs
 
 slice-write-sets-2 : tie.Need-slice-write-sets-2
-slice-write-sets-2 c = let a = c .before .args in omega (arith, length-set (a .sets .now) 0 (a .n), c .before .pre .1)
+slice-write-sets-2 c = simp length-set (omega (arith, c .before .pre .1))
 
 bit-requires : tie.Need-bit-requires
 bit-requires c κs = search needs
 
 slice-write-sets-3 : tie.Need-slice-write-sets-3
-slice-write-sets-3 c = search needs
+slice-write-sets-3 c = simp length-set (omega (arith, c .before .before .pre .1))
+
+bit-requires-2 : tie.Need-bit-requires-2
+bit-requires-2 c κs = search needs
+
+slice-write-sets-4 : tie.Need-slice-write-sets-4
+slice-write-sets-4 c = simp length-set (omega (arith, c .before .before .before .pre .1))
 
 same-length : tie.Need-same-length
 same-length c = search needs
 
 returns : tie.Need-returns
-returns c = headed _ _ _ (c .before .before .pre .1) (c .bit .ensures)
+returns c = headed _ _ _ _ (c .before .before .before .pre .1) (c .before .bit .ensures) (c .bit2 .ensures)
 
 pub head-spec : {M : Type 1} → statement M
 head-spec =
@@ -36,5 +42,7 @@ head-spec =
     slice-write-sets-2
     bit-requires
     slice-write-sets-3
+    bit-requires-2
+    slice-write-sets-4
     same-length
     returns)

@@ -1,13 +1,13 @@
 -- `regex_states::note` meets its contract. Assumes nothing.
 use mathlib.Core.Path.{_≡_, refl, ap, sym, _∙_}
 use native.Mathlib.Omega.{arith}
-use Rattle.regex_states.specs.Rooms.{nothing, edge}
+use Rattle.regex_states.specs.Rooms.{unnoted, edge}
 use borrow.Author.Needs.{needs}
 use Rattle.regex_states.proofs.note.Statement.{statement}
 use Rattle.regex_states.proofs.note.Tie as tie
 
 returns : tie.Need-returns
-returns c = nothing refl
+returns c = unnoted refl
 
 cast-edges : tie.Need-cast-edges
 cast-edges c = search needs
@@ -28,7 +28,7 @@ returns-2 : tie.Need-returns-2
 returns-2 c = edge (c .before .if1 .left) (c .if2 .taken) refl
 
 returns-3 : tie.Need-returns-3
-returns-3 c = nothing refl
+returns-3 c = unnoted refl
 
 pub note-spec : {M : Type 1} → statement M
 note-spec =

@@ -7,9 +7,6 @@ use borrow.Author.Needs.{needs}
 use Rattle.regex_states.proofs.seal.Statement.{statement}
 use Rattle.regex_states.proofs.seal.Tie as tie
 
-bit-requires : tie.Need-bit-requires
-bit-requires c κs = search needs
-
 mul-sets : tie.Need-mul-sets
 mul-sets c = search needs
 
@@ -19,8 +16,8 @@ add-sets c = search needs
 slice-write-sets : tie.Need-slice-write-sets
 slice-write-sets c = search needs
 
-bit-requires-2 : tie.Need-bit-requires-2
-bit-requires-2 c κs = search needs
+bit-requires : tie.Need-bit-requires
+bit-requires c κs = search needs
 
 mul-sets-2 : tie.Need-mul-sets-2
 mul-sets-2 c = search needs
@@ -29,7 +26,19 @@ add-sets-2 : tie.Need-add-sets-2
 add-sets-2 c = search needs
 
 slice-write-sets-2 : tie.Need-slice-write-sets-2
-slice-write-sets-2 c = let a = c .before .before .before .args in omega (arith, length-set (a .sets .now) (a .k * 128 + 126) (c .before .bit .result), c .before .before .before .pre)
+slice-write-sets-2 c = simp length-set (omega (arith, c .before .before .pre))
+
+bit-requires-2 : tie.Need-bit-requires-2
+bit-requires-2 c κs = search needs
+
+mul-sets-3 : tie.Need-mul-sets-3
+mul-sets-3 c = search needs
+
+add-sets-3 : tie.Need-add-sets-3
+add-sets-3 c = search needs
+
+slice-write-sets-3 : tie.Need-slice-write-sets-3
+slice-write-sets-3 c = simp length-set (omega (arith, c .before .before .before .pre))
 
 same-length : tie.Need-same-length
 same-length c = search needs
@@ -41,13 +50,16 @@ pub seal-spec : {M : Type 1} → statement M
 seal-spec =
     tie.close
     (tie.spec
-    bit-requires
     mul-sets
     add-sets
     slice-write-sets
-    bit-requires-2
+    bit-requires
     mul-sets-2
     add-sets-2
     slice-write-sets-2
+    bit-requires-2
+    mul-sets-3
+    add-sets-3
+    slice-write-sets-3
     same-length
     returns)

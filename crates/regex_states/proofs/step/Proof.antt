@@ -1,21 +1,27 @@
 -- `regex_states::step` meets its contract. Assumes nothing.
 use native.Mathlib.Omega.{arith}
-use Rattle.regex_states.proofs.Tables.{moved-on, moved-long, placed, note-fits, stepped}
+use Rattle.regex_states.proofs.Tables.{stepped-beyond}
 use borrow.Author.Needs.{needs}
 use Rattle.regex_states.proofs.step.Statement.{statement}
 use Rattle.regex_states.proofs.step.Tie as tie
 
-load-requires : tie.Need-load-requires
-load-requires c κs = search needs
+mul-wide : tie.Need-mul-wide
+mul-wide c = omega (arith, c .before .before .before .before .before .pre .0 .sets, c .before .before .before .before .before .pre .1 .1)
 
-shift-requires : tie.Need-shift-requires
-shift-requires c κs = search needs
+add-wide : tie.Need-add-wide
+add-wide c = omega (arith, c .before .before .before .before .before .pre .0 .sets, c .before .before .before .before .before .pre .1 .1)
 
-state-of-requires : tie.Need-state-of-requires
-state-of-requires c κs = search needs
+slice-read-wide : tie.Need-slice-read-wide
+slice-read-wide c = omega (arith, c .before .before .before .before .before .before .pre .0 .sets, c .before .before .before .before .before .before .pre .1 .1)
 
-note-requires : tie.Need-note-requires
-note-requires c κs = let t = c .before .before .before .before .before .before .before .before .before .before .before .before .before .before .before .before .before .before .before .before .before .before .pre in let f = moved-on (t .0) (t .1 .0) (t .1 .1) (c .before .before .before .before .before .before .before .before .before .before .before .before .before .before .before .load .ensures) (t .1 .2) (c .before .before .before .before .before .before .before .before .before .before .before .shift .ensures) in let n = moved-long (t .0) (t .1 .0) (t .1 .1) (c .before .before .before .before .before .before .before .before .before .before .before .before .before .before .before .load .ensures) (t .1 .2) (c .before .before .before .before .before .before .before .before .before .before .before .shift .ensures) in note-fits (c .before .before .before .before .before .before .before .before .before .before .before .before .before .before .before .before .before .before .before .before .before .before .args .k) (t .1 .0) (t .1 .1) (placed (t .0) n (λ x e. (f x e .0, f x e .1)) (c .before .before .before .before .before .state-of .ensures))
+wide-requires : tie.Need-wide-requires
+wide-requires c κs = search needs
+
+returns : tie.Need-returns
+returns c = let t = c .before .before .before .before .before .before .before .before .pre in stepped-beyond (t .0) (t .1 .0) (t .1 .1) (t .1 .2) (c .before .before .before .if1 .taken) (c .before .wide .ensures) (c .if2 .taken)
+
+learn-requires : tie.Need-learn-requires
+learn-requires c κs = c .before .before .before .before .before .before .before .before .pre
 
 same-length : tie.Need-same-length
 same-length c = search needs
@@ -26,18 +32,20 @@ same-length-2 c = search needs
 same-length-3 : tie.Need-same-length-3
 same-length-3 c = search needs
 
-returns : tie.Need-returns
-returns c = let t = c .before .before .before .before .before .before .before .before .before .before .before .before .before .before .before .before .before .before .before .before .before .before .before .before .before .pre in let f = moved-on (t .0) (t .1 .0) (t .1 .1) (c .before .before .before .before .before .before .before .before .before .before .before .before .before .before .before .before .before .before .load .ensures) (t .1 .2) (c .before .before .before .before .before .before .before .before .before .before .before .before .before .before .shift .ensures) in let n = moved-long (t .0) (t .1 .0) (t .1 .1) (c .before .before .before .before .before .before .before .before .before .before .before .before .before .before .before .before .before .before .load .ensures) (t .1 .2) (c .before .before .before .before .before .before .before .before .before .before .before .before .before .before .shift .ensures) in stepped (t .1 .0) (t .1 .1) n (placed (t .0) n (λ x e. (f x e .0, f x e .1)) (c .before .before .before .before .before .before .before .before .state-of .ensures)) (c .before .before .note .ensures) f
+returns-2 : tie.Need-returns-2
+returns-2 c = c .before .before .before .before .before .before .learn .ensures
 
 pub step-spec : {M : Type 1} → statement M
 step-spec =
     tie.close
     (tie.spec
-    load-requires
-    shift-requires
-    state-of-requires
-    note-requires
+    mul-wide
+    add-wide
+    slice-read-wide
+    wide-requires
+    returns
+    learn-requires
     same-length
     same-length-2
     same-length-3
-    returns)
+    returns-2)

@@ -62,7 +62,7 @@ slice-read-grows : tie.Need-slice-read-grows Inv-loop μ-loop
 slice-read-grows c = omega (arith, c .before .before .before .before .before .before .before .before .before .step .ensures .tables .some, c .before .before .before .before .before .before .before .before .before .step .ensures .tables .sets)
 
 read-requires : tie.Need-read-requires Inv-loop μ-loop
-read-requires c κs = let w = walk-follow (c .before .before .before .before .before .before .before .before .before .before .before .before .before .before .before .before .before .before .before .before .before .loop .inv .3) (c .before .before .before .before .before .before .before .before .before .before .before .before .before .before .before .before .before .before .follow .ensures) in (walk-fits w (c .before .before .before .before .before .before .before .before .before .before .before .before .before .before .before .before .before .if1 .taken) (c .before .before .before .before .before .before .before .before .before .before .before .before .before .before .char-at .ensures) (c .before .before .before .before .before .before .before .before .before .before .step .ensures), ((c .before .before .before .before .before .before .before .before .before .before .before .before .before .before .char-at .ensures .within, walk-read w (c .before .before .before .before .before .before .before .before .before .before .before .before .before .before .before .before .before .if1 .taken) (c .before .before .before .before .before .before .before .before .before .before .before .before .before .before .char-at .ensures) (c .before .before .before .before .before .before .before .before .before .before .step .ensures)), λ e. c .before .before .before .before .before .before .before .before .before .before .step .ensures .tables .grows (eqb-true _ _ e)))
+read-requires c κs = let w = walk-follow (c .before .before .before .before .before .before .before .before .before .before .before .before .before .before .before .before .before .before .before .before .before .loop .inv .3) (c .before .before .before .before .before .before .before .before .before .before .before .before .before .before .before .before .before .before .follow .ensures) in (walk-fits w (c .before .before .before .before .before .before .before .before .before .before .before .before .before .before .before .before .before .if1 .taken) (c .before .before .before .before .before .before .before .before .before .before .before .before .before .before .char-at .ensures) (c .before .before .before .before .before .before .before .before .before .before .step .ensures), ((c .before .before .before .before .before .before .before .before .before .before .before .before .before .before .char-at .ensures .within, walk-read w (c .before .before .before .before .before .before .before .before .before .before .before .before .before .before .before .before .before .if1 .taken) (c .before .before .before .before .before .before .before .before .before .before .before .before .before .before .char-at .ensures) (c .before .before .before .before .before .before .before .before .before .before .step .ensures) (c .before .before .if3 .taken)), λ e. c .before .before .before .before .before .before .before .before .before .before .step .ensures .tables .grows (eqb-true _ _ e)))
 
 same-length-4 : tie.Need-same-length-4 Inv-loop μ-loop
 same-length-4 c = c .before .before .before .before .before .before .before .before .before .before .before .before .before .step .kept .1 .1 .1 .0 ∙ c .before .before .before .before .before .before .before .before .before .before .before .before .before .before .before .before .before .before .before .before .before .before .before .before .loop .inv .0
