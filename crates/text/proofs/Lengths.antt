@@ -28,7 +28,7 @@ module _ (a b c x : ℕ) where
       let qt = q .top in
       let rt = r .top in
       let same : leb 0xC0 c ≡ isAsked a b c =
-          by-test (leb 0xC0 c) (λ t. t ∙ sym (asked-last a b c (leb-true 0xC0 c t))) (λ f. let k = leb-false 0xC0 c f in f ∙ sym (asked-none a b c (omega arith) (omega arith) (omega arith))) in
+      by-test (leb 0xC0 c) (λ t. t ∙ sym (asked-last a b c (leb-true 0xC0 c t))) (λ f. let k = leb-false 0xC0 c f in f ∙ sym (asked-none a b c (omega arith) (omega arith) (omega arith))) in
       record {
         agrees = e ∙ same;
         bounded = record { low3 = λ h. absurd (omega arith); high3 = λ h. absurd (omega arith); low4 = λ h. absurd (omega arith); high4 = λ h. absurd (omega arith); lead = r .lead; top = omega arith };
@@ -41,11 +41,11 @@ module _ (a b c x : ℕ) where
       let rl = r .lead in
       let rt = r .top in
       let same : (leb 0xE1 c || leb 0xE1 b) ≡ isAsked a b c =
-          by-test (leb 0xE1 c) (λ t. let k = leb-true 0xE1 c t in rw t (sym (asked-last a b c (omega arith)))) (λ f.
-          let k = leb-false 0xE1 c f in
-          by-test (leb 0xE1 b) (λ t. let m = leb-true 0xE1 b t in rw (f, t) (sym (asked-middle a b c (omega arith)))) (λ h.
-          let m = leb-false 0xE1 b h in
-          rw (f, h) (sym (asked-none a b c (omega arith) (let n = begins-none 0xE1 0xEF b q m in omega arith) (begins-none 0xE1 0xEF c r k))))) in
+      by-test (leb 0xE1 c) (λ t. let k = leb-true 0xE1 c t in rw t (sym (asked-last a b c (omega arith)))) (λ f.
+      let k = leb-false 0xE1 c f in
+      by-test (leb 0xE1 b) (λ t. let m = leb-true 0xE1 b t in rw (f, t) (sym (asked-middle a b c (omega arith)))) (λ h.
+      let m = leb-false 0xE1 b h in
+      rw (f, h) (sym (asked-none a b c (omega arith) (let n = begins-none 0xE1 0xEF b q m in omega arith) (begins-none 0xE1 0xEF c r k))))) in
       record {
         agrees = e ∙ same;
         bounded = record { low3 = λ h. let k = rl (omega arith) in absurd (omega arith); high3 = λ h. absurd (g h); low4 = λ h. absurd (omega arith); high4 = λ h. absurd (omega arith); lead = λ h. let k = rl h in omega arith; top = omega arith };
@@ -57,19 +57,18 @@ module _ (a b c x : ℕ) where
       let rl = r .lead in
       let rt = r .top in
       let same : ((leb 0xF0 c || leb 0xF0 b) || leb 0xF0 a) ≡ isAsked a b c =
-          by-test (leb 0xF0 c) (λ t. let k = leb-true 0xF0 c t in rw t (sym (asked-last a b c (omega arith)))) (λ f.
-          let k = leb-false 0xF0 c f in
-          by-test (leb 0xF0 b) (λ t. let m = leb-true 0xF0 b t in rw (f, t) (sym (asked-middle a b c (omega arith)))) (λ h.
-          let m = leb-false 0xF0 b h in
-          by-test (leb 0xF0 a) (λ t. rw (f, h) (t ∙ sym (asked-first a b c (leb-true 0xF0 a t)))) (λ i.
-          let n = begins-none 0xF0 0xF3 b q m in
-          rw (f, h) (i ∙ sym (asked-none a b c (leb-false 0xF0 a i) (omega arith) (begins-none 0xF0 0xF3 c r k)))))) in
+      by-test (leb 0xF0 c) (λ t. let k = leb-true 0xF0 c t in rw t (sym (asked-last a b c (omega arith)))) (λ f.
+      let k = leb-false 0xF0 c f in
+      by-test (leb 0xF0 b) (λ t. let m = leb-true 0xF0 b t in rw (f, t) (sym (asked-middle a b c (omega arith)))) (λ h.
+      let m = leb-false 0xF0 b h in
+      by-test (leb 0xF0 a) (λ t. rw (f, h) (t ∙ sym (asked-first a b c (leb-true 0xF0 a t)))) (λ i.
+      let n = begins-none 0xF0 0xF3 b q m in
+      rw (f, h) (i ∙ sym (asked-none a b c (leb-false 0xF0 a i) (omega arith) (begins-none 0xF0 0xF3 c r k)))))) in
       let tail : c ≡ 0xF0 → 0x80 ≤ x = λ h. inside-low 0x80 0xBF x (e ∙ rw (le-leb 0xF0 c (omega arith))) in
       record {
         agrees = e ∙ same;
         bounded = record { low3 = λ h. let k = rl (omega arith) in absurd (omega arith); high3 = λ h. let k = rl (omega arith) in absurd (omega arith); low4 = λ h. g h (tail h); high4 = λ h. absurd (omega arith); lead = λ h. let k = rl h in omega arith; top = omega arith };
       }
-
 
   -- what one of the bytes before asks for continues a character
   asked-low : isTail x ≡ isAsked a b c → 0xC0 ≤ c → 0x80 ≤ x
@@ -251,11 +250,10 @@ leb-left k p q h = by-test (leb k p) (λ t. rw t) (λ f. let l = leb-false k p f
 
 -- and it is no less than they
 pub greater-both : (r p q : ℕ) → ((k : ℕ) → leb k r ≡ (leb k p || leb k q)) → (p ≤ r) × (q ≤ r)
-greater-both r p q f =
-    (
-      leb-true p r (f p ∙ rw (le-leb p p (omega arith))),
-      leb-true q r (f q ∙ by-test (leb q p) (λ t. rw t) (λ e. rw (e, le-leb q q (omega arith)))),
-    )
+greater-both r p q f = (
+  leb-true p r (f p ∙ rw (le-leb p p (omega arith))),
+  leb-true q r (f q ∙ by-test (leb q p) (λ t. rw t) (λ e. rw (e, le-leb q q (omega arith)))),
+)
 
 -- a byte that continues a character, and one that does not
 pub agreed-tail : (x asked : ℕ) → isTail x ≡ true → 0x80 ≤ asked → isTail x ≡ leb 0x80 asked

@@ -45,7 +45,7 @@ greater-requires : tie.Need-greater-requires Inv-loop μ-loop
 greater-requires c κs = search needs
 
 loop-holds : tie.Need-loop-holds Inv-loop μ-loop
-loop-holds c = 
+loop-holds c =
     let a = c .before .before .before .before .before .before .before .before .before .args in
     let l = c .before .before .before .lesser .ensures in
     (omega arith, tested-first (a .kind) (a .s .now) (a .at) _ _ _ (l .0) (l .1) (c .before .before .before .before .before .before .apart-as .ensures) (c .before .before .before .before .apart-as2 .ensures) _ (c .greater .ensures))
@@ -99,13 +99,12 @@ loop-less : tie.Need-loop-less Inv-loop μ-loop
 loop-less c = omega arith
 
 loop-again : tie.Need-loop-again Inv-loop μ-loop
-loop-again c = 
+loop-again c =
     let a = c .before .before .before .before .before .before .before .before .before .before .before .before .before .before .before .before .before .before .before .before .before .args in
     let l = c .before .before .before .before .before .before .before .before .before .before .before .loop in
     let t = c .before .before .before .before .before .before .before .before .before .before .loop-test .taken in
     let even = c .before .before .before .before .lesser2 .ensures in
-    let low = c .before .before .lesser3 .ensures in
-    (
+    let low = c .before .before .lesser3 .ensures in (
       omega arith,
       tested-more (a .kind) (a .s .now) (a .at) (l .i) (l .inv .1) (even .0) (even .1) (c .before .before .before .before .before .agrees-as .ensures) (low .0) (low .1) (c .before .before .before .apart-as3 .ensures) (c .before .greater2 .ensures) (c .starts-as .ensures),
     )
@@ -117,7 +116,7 @@ most-byte-requires : tie.Need-most-byte-requires Inv-loop μ-loop
 most-byte-requires c κs = search needs
 
 returns : tie.Need-returns Inv-loop μ-loop
-returns c = 
+returns c =
     let a = c .before .before .before .before .before .before .before .before .before .before .before .before .before in
     let l = c .before .before .before .loop in
     let t = c .before .before .loop-test .left in
