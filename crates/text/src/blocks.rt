@@ -93,6 +93,7 @@ fn apart_as(kind: u8, c: u8) -> u8
     c ^ 0xC0
 }
 
+// The least number that a byte which occurs is turned into.
 fn least_of(kind: u8) -> u8
     ensures { λ r. ⌜ r ≡ leastOf kind ⌝ }
 {
