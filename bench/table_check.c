@@ -1,7 +1,8 @@
 // Nanoseconds per node of the table check, beside a bare pass that adds up the same bytes, those of the table and those of the text, in one run.
 // The bare pass is made twice and timed the second time, so that each is timed with the table in the caches.
 // Tables: many small maps; 63 maps of 1,024 members, with any keys, with keys of one bucket and with keys of one hash; one list of numbers; lists in lists,
-// 60 levels deep; one list of texts, of 20 bytes each and of 2,000, in ASCII and in characters of two to four bytes; small maps with keys beyond ASCII.
+// 60 levels deep; one list of texts, of 20 bytes each and of 2,000, in ASCII, in characters of two to four bytes, in Hangul, whose first bytes have bounds for the
+// next one, and in mixed lengths; small maps with keys beyond ASCII.
 // With -DBEFORE_W2 the tables are those of the library before W2: a record names no parent, and each byte behind the words of a key is hashed by itself.
 #include "../include/stewpebble.h"
 #include <stdio.h>
@@ -112,7 +113,7 @@ static void lists_in_lists(size_t width, size_t levels) {
 }
 
 // What texts are filled with; behind whole characters, ASCII letters.
-static const char *const fillings[] = {"a", "\xC3\xA9", "\xE6\xBC\xA2", "\xF0\x9F\x98\x80"};
+static const char *const fillings[] = {"a", "\xC3\xA9", "\xE6\xBC\xA2", "\xF0\x9F\x98\x80", "\xED\x95\x9C\xEA\xB8\x80 ", "a\xC3\xA9\xE6\xBC\xA2", "\xE6\xBC\xA2\xE5\xAD\x97\xF0\x9F\x98\x80"};
 
 // Parts of `length` bytes, end to end, each of which holds so many of these characters, and else ASCII letters.
 static void fill(size_t count, size_t length, const char *character, size_t times) {
@@ -197,22 +198,21 @@ int main(void) {
     measure("one list of numbers");
     lists_in_lists(1000, 60);
     measure("lists in lists, 60 levels");
-    list_of_texts(50000, 20, fillings[0], 0);
-    measure("texts of 20 bytes");
-    list_of_texts(50000, 20, fillings[1], 1);
-    measure("texts of 20 bytes, one accent each");
-    list_of_texts(50000, 20, fillings[1], 20);
-    measure("texts of 20 bytes, two a character");
-    list_of_texts(50000, 20, fillings[2], 20);
-    measure("texts of 20 bytes, three");
-    list_of_texts(50000, 20, fillings[3], 20);
-    measure("texts of 20 bytes, four");
-    list_of_texts(500, 2000, fillings[0], 0);
-    measure("texts of 2,000 bytes");
-    list_of_texts(500, 2000, fillings[1], 1);
-    measure("texts of 2,000 bytes, one accent");
-    list_of_texts(500, 2000, fillings[2], 2000);
-    measure("texts of 2,000 bytes, three");
+    for (size_t length = 20; length <= 2000; length *= 100) {
+        size_t count = 1000000 / length;
+        printf("texts of %zu bytes\n", length);
+        list_of_texts(count, length, fillings[0], 0);
+        measure("  ASCII");
+        list_of_texts(count, length, fillings[1], 1);
+        measure("  one accent each");
+        for (size_t k = 1; k < sizeof fillings / sizeof *fillings; k++) {
+            static const char *const names[] = {"", "two bytes", "three bytes", "four bytes", "Hangul", "one to three", "three and four"};
+            char name[40];
+            snprintf(name, sizeof name, "  %s", names[k]);
+            list_of_texts(count, length, fillings[k], length);
+            measure(name);
+        }
+    }
     keys_beyond_ascii(1024);
     list_of_maps(13106, 4);
     measure("maps of 4 members, keys of three");

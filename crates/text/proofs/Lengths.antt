@@ -11,7 +11,7 @@ use lib.Dec.{eqb, leb, ltb}
 use lib.ListN.{getD}
 use Rattle.utf8_laws.specs.Bytes.{by-test, inside-low}
 use Rattle.text.specs.Placed.{isTail, isAskedPlain, isAsked, Placed, PlacedIn}
-use Rattle.text.specs.Lengths.{Within, Fits, leastOf, Agrees, Start4, Bounds3, Bounds4, Starts}
+use Rattle.text.specs.Lengths.{Within, Fits, leastOf, topOf, Agrees, Start4, Bounds3, Bounds4, Starts}
 use Rattle.text.proofs.Along.{asked-last, asked-middle, asked-first, asked-none, asked-plain}
 
 -- ---- one byte is placed, by the kind of the text
@@ -28,7 +28,7 @@ module _ (a b c x : ℕ) where
       let qt = q .top in
       let rt = r .top in
       let same : leb 0xC0 c ≡ isAsked a b c =
-          by-test (leb 0xC0 c) (λ t. t ∙ sym (asked-last a b c (leb-true 0xC0 c t))) (λ f. let k = leb-false 0xC0 c f in f ∙ sym (asked-none a b c (omega arith) (omega arith) (omega arith))) in
+      by-test (leb 0xC0 c) (λ t. t ∙ sym (asked-last a b c (leb-true 0xC0 c t))) (λ f. let k = leb-false 0xC0 c f in f ∙ sym (asked-none a b c (omega arith) (omega arith) (omega arith))) in
       record {
         agrees = e ∙ same;
         bounded = record { low3 = λ h. absurd (omega arith); high3 = λ h. absurd (omega arith); low4 = λ h. absurd (omega arith); high4 = λ h. absurd (omega arith); lead = r .lead; top = omega arith };
@@ -41,11 +41,11 @@ module _ (a b c x : ℕ) where
       let rl = r .lead in
       let rt = r .top in
       let same : (leb 0xE1 c || leb 0xE1 b) ≡ isAsked a b c =
-          by-test (leb 0xE1 c) (λ t. let k = leb-true 0xE1 c t in rw t (sym (asked-last a b c (omega arith)))) (λ f.
-          let k = leb-false 0xE1 c f in
-          by-test (leb 0xE1 b) (λ t. let m = leb-true 0xE1 b t in rw (f, t) (sym (asked-middle a b c (omega arith)))) (λ h.
-          let m = leb-false 0xE1 b h in
-          rw (f, h) (sym (asked-none a b c (omega arith) (let n = begins-none 0xE1 0xEF b q m in omega arith) (begins-none 0xE1 0xEF c r k))))) in
+      by-test (leb 0xE1 c) (λ t. let k = leb-true 0xE1 c t in rw t (sym (asked-last a b c (omega arith)))) (λ f.
+      let k = leb-false 0xE1 c f in
+      by-test (leb 0xE1 b) (λ t. let m = leb-true 0xE1 b t in rw (f, t) (sym (asked-middle a b c (omega arith)))) (λ h.
+      let m = leb-false 0xE1 b h in
+      rw (f, h) (sym (asked-none a b c (omega arith) (let n = begins-none 0xE1 0xEF b q m in omega arith) (begins-none 0xE1 0xEF c r k))))) in
       record {
         agrees = e ∙ same;
         bounded = record { low3 = λ h. let k = rl (omega arith) in absurd (omega arith); high3 = λ h. absurd (g h); low4 = λ h. absurd (omega arith); high4 = λ h. absurd (omega arith); lead = λ h. let k = rl h in omega arith; top = omega arith };
@@ -57,53 +57,60 @@ module _ (a b c x : ℕ) where
       let rl = r .lead in
       let rt = r .top in
       let same : ((leb 0xF0 c || leb 0xF0 b) || leb 0xF0 a) ≡ isAsked a b c =
-          by-test (leb 0xF0 c) (λ t. let k = leb-true 0xF0 c t in rw t (sym (asked-last a b c (omega arith)))) (λ f.
-          let k = leb-false 0xF0 c f in
-          by-test (leb 0xF0 b) (λ t. let m = leb-true 0xF0 b t in rw (f, t) (sym (asked-middle a b c (omega arith)))) (λ h.
-          let m = leb-false 0xF0 b h in
-          by-test (leb 0xF0 a) (λ t. rw (f, h) (t ∙ sym (asked-first a b c (leb-true 0xF0 a t)))) (λ i.
-          let n = begins-none 0xF0 0xF3 b q m in
-          rw (f, h) (i ∙ sym (asked-none a b c (leb-false 0xF0 a i) (omega arith) (begins-none 0xF0 0xF3 c r k)))))) in
+      by-test (leb 0xF0 c) (λ t. let k = leb-true 0xF0 c t in rw t (sym (asked-last a b c (omega arith)))) (λ f.
+      let k = leb-false 0xF0 c f in
+      by-test (leb 0xF0 b) (λ t. let m = leb-true 0xF0 b t in rw (f, t) (sym (asked-middle a b c (omega arith)))) (λ h.
+      let m = leb-false 0xF0 b h in
+      by-test (leb 0xF0 a) (λ t. rw (f, h) (t ∙ sym (asked-first a b c (leb-true 0xF0 a t)))) (λ i.
+      let n = begins-none 0xF0 0xF3 b q m in
+      rw (f, h) (i ∙ sym (asked-none a b c (leb-false 0xF0 a i) (omega arith) (begins-none 0xF0 0xF3 c r k)))))) in
       let tail : c ≡ 0xF0 → 0x80 ≤ x = λ h. inside-low 0x80 0xBF x (e ∙ rw (le-leb 0xF0 c (omega arith))) in
       record {
         agrees = e ∙ same;
         bounded = record { low3 = λ h. let k = rl (omega arith) in absurd (omega arith); high3 = λ h. let k = rl (omega arith) in absurd (omega arith); low4 = λ h. g h (tail h); high4 = λ h. absurd (omega arith); lead = λ h. let k = rl h in omega arith; top = omega arith };
       }
 
-
   -- what one of the bytes before asks for continues a character
   asked-low : isTail x ≡ isAsked a b c → 0xC0 ≤ c → 0x80 ≤ x
   asked-low e l = inside-low 0x80 0xBF x (e ∙ asked-last a b c l)
 
   -- any lengths
-  any-placed : Within 0xC2 0xFF c → Bounds3 c x → Bounds4 c x → isTail x ≡ isAsked a b c → Placed a b c x
-  any-placed r g h e =
+  any-placed : (0xC0 ≤ c → 0xC2 ≤ c) → c ≤ 0xF4 → Bounds3 c x → Bounds4 c x → isTail x ≡ isAsked a b c → Placed a b c x
+  any-placed r u g h e =
       record {
         agrees = e;
-        bounded = record { low3 = λ i. g .low i (asked-low e (omega arith)); high3 = g .high; low4 = λ i. h .low i (asked-low e (omega arith)); high4 = h .high; lead = r .lead; top = h .top };
+        bounded = record { low3 = λ i. g .low i (asked-low e (omega arith)); high3 = g .high; low4 = λ i. h .low i (asked-low e (omega arith)); high4 = h .high; lead = r; top = u };
       }
 
   -- at most three bytes
-  wide-placed : Within 0xC2 0xEF a → Within 0xC2 0xEF c → Bounds3 c x → isTail x ≡ isAskedPlain b c → Placed a b c x
-  wide-placed p r g e =
-      let pt = p .top in
-      let rt = r .top in
-      let four : Bounds4 c x = record { low = λ i. absurd (omega arith); high = λ i. absurd (omega arith); top = omega arith } in
-      any-placed (record { lead = r .lead; top = omega arith }) g four (e ∙ sym (asked-plain a b c (omega arith)))
+  wide-placed : a ≤ 0xEF → (0xC0 ≤ c → 0xC2 ≤ c) → c ≤ 0xEF → Bounds3 c x → isTail x ≡ isAskedPlain b c → Placed a b c x
+  wide-placed o r u g e = any-placed r (omega arith) g (record { low = λ i. absurd (omega arith); high = λ i. absurd (omega arith) }) (e ∙ sym (asked-plain a b c (omega arith)))
+
+pub top-wide : (n : ℕ) → n ≡ 5 → topOf n ≡ 0xEF
+unfolding topOf
+top-wide n e = rw e
+
+pub top-any : (n : ℕ) → n ≡ 6 → topOf n ≡ 0xF4
+unfolding topOf
+top-any n e = rw e
+
+pub top-none : (n : ℕ) → (n ≡ 5 → ⊥) → (n ≡ 6 → ⊥) → topOf n ≡ 0xFF
+unfolding topOf
+top-none n x y = rw (ne-eqb n 5 x, ne-eqb n 6 y)
 
 -- one of the five
-placed-as : (n a b c x : ℕ) → 2 ≤ n → n ≤ 6 → Fits n a → Fits n b → Fits n c → Starts n c x → Agrees n a b c x → Placed a b c x
-placed-as n a b c x l h p q r g e =
+placed-as : (n a b c x : ℕ) → 2 ≤ n → n ≤ 6 → Fits n a → Fits n b → Fits n c → a ≤ topOf n → c ≤ topOf n → Starts n c x → Agrees n a b c x → Placed a b c x
+placed-as n a b c x l h p q r o u g e =
     by-test (eqb n 2) (λ t. let k = eqb-true n 2 t in two-placed a b c x (p .two k) (q .two k) (r .two k) (e .two k)) (λ f₂.
     let y₂ = eqb-false n 2 f₂ in
     by-test (eqb n 3) (λ t. let k = eqb-true n 3 t in three-placed a b c x (p .three k) (q .three k) (r .three k) (r .gap k) (e .three k)) (λ f₃.
     let y₃ = eqb-false n 3 f₃ in
     by-test (eqb n 4) (λ t. let k = eqb-true n 4 t in four-placed a b c x (p .four k) (q .four k) (r .four k) (g .four k) (e .four k)) (λ f₄.
     let y₄ = eqb-false n 4 f₄ in
-    by-test (eqb n 5) (λ t. let k = eqb-true n 5 t in wide-placed a b c x (p .wide k) (r .wide k) (g .wide (omega arith)) (e .wide k)) (λ f₅.
+    by-test (eqb n 5) (λ t. let k = eqb-true n 5 t in wide-placed a b c x (rw (top-wide n k) at o) (r .mixed (omega arith)) (rw (top-wide n k) at u) (g .wide (omega arith)) (e .wide k)) (λ f₅.
     let y₅ = eqb-false n 5 f₅ in
     let k : n ≡ 6 = omega arith in
-    any-placed a b c x (r .any k) (g .wide (omega arith)) (g .any k) (e .any k)))))
+    any-placed a b c x (r .mixed (omega arith)) (rw (top-any n k) at u) (g .wide (omega arith)) (g .any k) (e .any k)))))
 
 -- ---- a block
 
@@ -127,9 +134,12 @@ StartsAt n s j = Starts n (getD s (j + 2) 0) (getD s (j + 3) 0)
 abbrev pub FitsAt : ℕ → List ℕ → ℕ → Type 0
 FitsAt n s j = Fits n (getD s j 0)
 
+abbrev pub UnderAt : ℕ → List ℕ → ℕ → Type 0
+UnderAt n s j = getD s j 0 ≤ topOf n
+
 -- a block whose bytes pass these tests is placed
-pub block-placed : (n : ℕ) (s : List ℕ) (at m : ℕ) → 2 ≤ n → n ≤ 6 → Each (FitsAt n s) at (m + 2) → Each (StartsAt n s) at m → Each (AgreesAt n s) at m → PlacedIn s at (at + m)
-block-placed n s at m l h p g e j x y = placed-as n (getD s j 0) (getD s (j + 1) 0) (getD s (j + 2) 0) (getD s (j + 3) 0) l h (p j x (omega arith)) (p (j + 1) (omega arith) (omega arith)) (p (j + 2) (omega arith) (omega arith)) (g j x y) (e j x y)
+pub block-placed : (n : ℕ) (s : List ℕ) (at m : ℕ) → 2 ≤ n → n ≤ 6 → Each (FitsAt n s) at (m + 2) → Each (UnderAt n s) at (m + 2) → Each (StartsAt n s) at m → Each (AgreesAt n s) at m → PlacedIn s at (at + m)
+block-placed n s at m l h p u g e j x y = placed-as n (getD s j 0) (getD s (j + 1) 0) (getD s (j + 2) 0) (getD s (j + 3) 0) l h (p j x (omega arith)) (p (j + 1) (omega arith) (omega arith)) (p (j + 2) (omega arith) (omega arith)) (u j x (omega arith)) (u (j + 2) (omega arith) (omega arith)) (g j x y) (e j x y)
 
 -- ---- turned bytes
 
@@ -179,10 +189,6 @@ any-turned c h l = turned-within 0xC0 2 0xC2 0xFF c (all-below 256 (turned 0xC0 
 pub gap-turned : (c : ℕ) → 0x31 ≤ bitXor c 0xDD → c ≡ 0xED → ⊥
 gap-turned c l e = let k : 0x31 ≤ 0x30 = rw e at l in omega arith
 
-pub wide-turned : (c : ℕ) → c < 256 → 2 ≤ bitXor c 0xC0 → 0x10 ≤ bitXor c 0xF0 → Within 0xC2 0xEF c
-unfolding allBelow
-wide-turned c h l m = record { lead = any-turned c h l .lead; top = turned-within 0xF0 0x10 0 0xEF c (all-below 256 (turned 0xF0 0x10 0 0xEF) refl c h) m .top }
-
 -- ---- what a turned byte says, by the kind of the text
 
 module _ (n : ℕ) where
@@ -206,28 +212,22 @@ module _ (n : ℕ) where
     pub fits-two : n ≡ 2 → leastOf n ≤ bitXor c 0xE0 → Fits n c
     fits-two e z =
         let w = two-turned c h (rw (least-two e) at z) in
-        record { two = λ _. w; three = λ i. absurd (omega arith); gap = λ i k. absurd (omega arith); four = λ i. absurd (omega arith); wide = λ i. absurd (omega arith); any = λ i. absurd (omega arith) }
+        record { two = λ _. w; three = λ i. absurd (omega arith); gap = λ i k. absurd (omega arith); four = λ i. absurd (omega arith); mixed = λ i. absurd (omega arith) }
 
     pub fits-three : n ≡ 3 → (r : ℕ) → r ≤ bitXor c 0xD0 → r ≤ bitXor c 0xDD → leastOf n ≤ r → Fits n c
     fits-three e r x y z =
         let k : 0x31 ≤ r = rw (least-three e) at z in
-        record { two = λ i. absurd (omega arith); three = λ _. three-turned c h (le-trans k x); gap = λ _. gap-turned c (le-trans k y); four = λ i. absurd (omega arith); wide = λ i. absurd (omega arith); any = λ i. absurd (omega arith) }
+        record { two = λ i. absurd (omega arith); three = λ _. three-turned c h (le-trans k x); gap = λ _. gap-turned c (le-trans k y); four = λ i. absurd (omega arith); mixed = λ i. absurd (omega arith) }
 
     pub fits-four : n ≡ 4 → leastOf n ≤ bitXor c 0xCF → Fits n c
     fits-four e z =
         let w = four-turned c h (rw (least-four e) at z) in
-        record { two = λ i. absurd (omega arith); three = λ i. absurd (omega arith); gap = λ i k. absurd (omega arith); four = λ _. w; wide = λ i. absurd (omega arith); any = λ i. absurd (omega arith) }
+        record { two = λ i. absurd (omega arith); three = λ i. absurd (omega arith); gap = λ i k. absurd (omega arith); four = λ _. w; mixed = λ i. absurd (omega arith) }
 
-    pub fits-wide : n ≡ 5 → (r m : ℕ) → r ≤ bitXor c 0xC0 → r ≤ m → ((k : ℕ) → 1 ≤ k → leb k m ≡ leb (k + 0x0E) (bitXor c 0xF0)) → leastOf n ≤ r → Fits n c
-    fits-wide e r m x y f z =
-        let k : 2 ≤ r = rw (least-wide (λ i. omega arith) (λ i. omega arith) (λ i. omega arith)) at z in
-        let l = leb-true 0x10 (bitXor c 0xF0) (sym (f 2 (omega arith)) ∙ le-leb 2 m (le-trans k y)) in
-        record { two = λ i. absurd (omega arith); three = λ i. absurd (omega arith); gap = λ i k. absurd (omega arith); four = λ i. absurd (omega arith); wide = λ _. wide-turned c h (le-trans k x) l; any = λ i. absurd (omega arith) }
-
-    pub fits-any : (n ≡ 2 → ⊥) → (n ≡ 3 → ⊥) → (n ≡ 4 → ⊥) → (n ≡ 5 → ⊥) → leastOf n ≤ bitXor c 0xC0 → Fits n c
-    fits-any f₂ f₃ f₄ f₅ z =
+    pub fits-mixed : (n ≡ 2 → ⊥) → (n ≡ 3 → ⊥) → (n ≡ 4 → ⊥) → leastOf n ≤ bitXor c 0xC0 → Fits n c
+    fits-mixed f₂ f₃ f₄ z =
         let w = any-turned c h (rw (least-wide f₂ f₃ f₄) at z) in
-        record { two = λ i. absurd (f₂ i); three = λ i. absurd (f₃ i); gap = λ i. absurd (f₃ i); four = λ i. absurd (f₄ i); wide = λ i. absurd (f₅ i); any = λ _. w }
+        record { two = λ i. absurd (f₂ i); three = λ i. absurd (f₃ i); gap = λ i. absurd (f₃ i); four = λ i. absurd (f₄ i); mixed = λ _. w .lead }
 
 -- ---- what the code's numbers say
 
@@ -247,6 +247,13 @@ leb-right k p q h = by-test (leb k p) (λ t. let l = leb-true k p t in rw t (le-
 
 pub leb-left : (k p q : ℕ) → q ≤ p → leb k p ≡ (leb k p || leb k q)
 leb-left k p q h = by-test (leb k p) (λ t. rw t) (λ f. let l = leb-false k p f in rw f (sym (lt-leb k q (omega arith))))
+
+-- and it is no less than they
+pub greater-both : (r p q : ℕ) → ((k : ℕ) → leb k r ≡ (leb k p || leb k q)) → (p ≤ r) × (q ≤ r)
+greater-both r p q f = (
+  leb-true p r (f p ∙ rw (le-leb p p (omega arith))),
+  leb-true q r (f q ∙ by-test (leb q p) (λ t. rw t) (λ e. rw (e, le-leb q q (omega arith)))),
+)
 
 -- a byte that continues a character, and one that does not
 pub agreed-tail : (x asked : ℕ) → isTail x ≡ true → 0x80 ≤ asked → isTail x ≡ leb 0x80 asked
@@ -294,14 +301,12 @@ bounds3-by c x z =
       high = λ e. leb-true x 0x9F (and-eq-true-iff (leb 0x80 x) (leb x 0x9F) .0 (if-byte c 0xED _ (t .1) e) .1);
     }
 
-pub bounds4-by : (c x : ℕ) → (((not (eqb c 0xF0) || not (leb 0x80 x && leb x 0x8F)) && (not (eqb c 0xF4) || (leb 0x80 x && leb x 0x8F))) && leb c 0xF4) ≡ true → Bounds4 c x
+pub bounds4-by : (c x : ℕ) → ((not (eqb c 0xF0) || not (leb 0x80 x && leb x 0x8F)) && (not (eqb c 0xF4) || (leb 0x80 x && leb x 0x8F))) ≡ true → Bounds4 c x
 bounds4-by c x z =
-    let u = and-eq-true-iff _ (leb c 0xF4) .0 z in
-    let t = and-eq-true-iff (not (eqb c 0xF0) || not (leb 0x80 x && leb x 0x8F)) (not (eqb c 0xF4) || (leb 0x80 x && leb x 0x8F)) .0 (u .0) in
+    let t = and-eq-true-iff (not (eqb c 0xF0) || not (leb 0x80 x && leb x 0x8F)) (not (eqb c 0xF4) || (leb 0x80 x && leb x 0x8F)) .0 z in
     record {
       low = λ e l. let k = beyond 0x80 0x8F x (if-byte c 0xF0 _ (t .0) e) l in omega arith;
       high = λ e. leb-true x 0x8F (and-eq-true-iff (leb 0x80 x) (leb x 0x8F) .0 (if-byte c 0xF4 _ (t .1) e) .1);
-      top = leb-true c 0xF4 (u .1);
     }
 
 -- by the kind of the text
@@ -320,31 +325,44 @@ module _ {n c x : ℕ} where
 
 -- ---- along a block
 
--- what the least numbers and the answer say, after i bytes
-pub record Tested (n : ℕ) (s : List ℕ) (at even low : ℕ) (right : Bool) (i : ℕ) : Type 0 where
+-- what the least numbers, the greatest byte and the answer say, after i bytes
+pub record Tested (n : ℕ) (s : List ℕ) (at even low top : ℕ) (right : Bool) (i : ℕ) : Type 0 where
   pub agrees : 0x80 ≤ even → Each (AgreesAt n s) at i
   pub fits : leastOf n ≤ low → Each (FitsAt n s) at (i + 2)
+  pub under : top ≤ topOf n → Each (UnderAt n s) at (i + 2)
   pub starts : right ≡ true → Each (StartsAt n s) at i
 
+-- what holds of two bytes, and of the next one behind some
+each-two : (P : ℕ → Type 0) (at : ℕ) → P at → P (at + 1) → Each P at 2
+each-two P at f g j u v = by-test (eqb j at) (λ t. subst P (sym (eqb-true j at t)) f) (λ h. let k = eqb-false j at h in let m : at + 1 ≡ j = omega arith in subst P m g)
+
+each-next : (P : ℕ → Type 0) (at i : ℕ) → Each P at (i + 2) → P (at + i + 2) → Each P at (i + 1 + 2)
+each-next P at i p q j u v = by-test (ltb j (at + i + 2)) (λ t. let k = ltb-true j (at + i + 2) t in p j u (omega arith)) (λ f. let k = ltb-false j (at + i + 2) f in let m : at + i + 2 ≡ j = omega arith in subst P m q)
+
 module _ (n : ℕ) (s : List ℕ) (at : ℕ) where
-  pub tested-first : (p q l : ℕ) → l ≤ p → l ≤ q → (leastOf n ≤ p → FitsAt n s at) → (leastOf n ≤ q → FitsAt n s (at + 1)) → Tested n s at 0xFF l true 0
-  tested-first p q l x y f g =
+  pub tested-first : (p q l : ℕ) → l ≤ p → l ≤ q → (leastOf n ≤ p → FitsAt n s at) → (leastOf n ≤ q → FitsAt n s (at + 1)) → (top : ℕ) → ((k : ℕ) → leb k top ≡ (leb k (getD s at 0) || leb k (getD s (at + 1) 0))) → Tested n s at 0xFF l top true 0
+  tested-first p q l x y f g top t =
+      let o = greater-both top (getD s at 0) (getD s (at + 1) 0) t in
       record {
         agrees = λ z. each-none (AgreesAt n s) at;
-        fits = λ z j u v. by-test (eqb j at) (λ t. rw (eqb-true j at t) (f (le-trans z x))) (λ h. let k = eqb-false j at h in let m : at + 1 ≡ j = omega arith in subst (FitsAt n s) m (g (le-trans z y)));
+        fits = λ z. each-two (FitsAt n s) at (f (le-trans z x)) (g (le-trans z y));
+        under = λ z. each-two (UnderAt n s) at (le-trans (o .0) z) (le-trans (o .1) z);
         starts = λ z. each-none (StartsAt n s) at;
       }
 
-  pub tested-more : (i : ℕ) {even low : ℕ} {right : Bool} → Tested n s at even low right i → {even′ r : ℕ} → even′ ≤ even → even′ ≤ r → (0x80 ≤ r → AgreesAt n s (at + i)) → {low′ q : ℕ} → low′ ≤ low → low′ ≤ q → (leastOf n ≤ q → FitsAt n s (at + i + 2)) → {b : Bool} → (b ≡ true → StartsAt n s (at + i)) → Tested n s at even′ low′ (right && b) (i + 1)
-  tested-more i {even} {low} {right} p {even′} {r} e₁ e₂ ag {low′} {q} l₁ l₂ ft {b} st =
+  pub tested-more : (i : ℕ) {even low top : ℕ} {right : Bool} → Tested n s at even low top right i → {even′ r : ℕ} → even′ ≤ even → even′ ≤ r → (0x80 ≤ r → AgreesAt n s (at + i)) → {low′ q : ℕ} → low′ ≤ low → low′ ≤ q → (leastOf n ≤ q → FitsAt n s (at + i + 2)) → {top′ : ℕ} → ((k : ℕ) → leb k top′ ≡ (leb k top || leb k (getD s (at + i + 2) 0))) → {b : Bool} → (b ≡ true → StartsAt n s (at + i)) → Tested n s at even′ low′ top′ (right && b) (i + 1)
+  tested-more i {even} {low} {top} {right} p {even′} {r} e₁ e₂ ag {low′} {q} l₁ l₂ ft {top′} t {b} st =
+      let o = greater-both top′ top (getD s (at + i + 2) 0) t in
       record {
         agrees = λ z. each-more (AgreesAt n s) at i (p .agrees (le-trans z e₁)) (ag (le-trans z e₂));
-        fits = λ z j u v. by-test (ltb j (at + i + 2)) (λ t. let k = ltb-true j (at + i + 2) t in p .fits (le-trans z l₁) j u (omega arith)) (λ f. let k = ltb-false j (at + i + 2) f in let m : at + i + 2 ≡ j = omega arith in subst (FitsAt n s) m (ft (le-trans z l₂)));
+        fits = λ z. each-next (FitsAt n s) at i (p .fits (le-trans z l₁)) (ft (le-trans z l₂));
+        under = λ z. each-next (UnderAt n s) at i (p .under (le-trans (o .0) z)) (le-trans (o .1) z);
         starts = λ z. let t = and-eq-true-iff right b .0 z in each-more (StartsAt n s) at i (p .starts (t .0)) (st (t .1));
       }
 
-  pub tested-all : 2 ≤ n → n ≤ 6 → {even low k : ℕ} {right : Bool} → Tested n s at even low right 512 → k ≡ leastOf n → ((right && leb 0x80 even) && leb k low) ≡ true → PlacedIn s at (at + 512)
-  tested-all l h {even} {low} {k} {right} p e z =
-      let t = and-eq-true-iff (right && leb 0x80 even) (leb k low) .0 z in
+  pub tested-all : 2 ≤ n → n ≤ 6 → {even low top k m : ℕ} {right : Bool} → Tested n s at even low top right 512 → k ≡ leastOf n → m ≡ topOf n → (((right && leb 0x80 even) && leb k low) && leb top m) ≡ true → PlacedIn s at (at + 512)
+  tested-all l h {even} {low} {top} {k} {m} {right} p e f z =
+      let v = and-eq-true-iff ((right && leb 0x80 even) && leb k low) (leb top m) .0 z in
+      let t = and-eq-true-iff (right && leb 0x80 even) (leb k low) .0 (v .0) in
       let u = and-eq-true-iff right (leb 0x80 even) .0 (t .0) in
-      block-placed n s at 512 l h (p .fits (rw e at (leb-true k low (t .1)))) (p .starts (u .0)) (p .agrees (leb-true 0x80 even (u .1)))
+      block-placed n s at 512 l h (p .fits (rw e at (leb-true k low (t .1)))) (p .under (rw f at (leb-true top m (v .1)))) (p .starts (u .0)) (p .agrees (leb-true 0x80 even (u .1)))

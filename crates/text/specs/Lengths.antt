@@ -17,12 +17,15 @@ pub record Fits (n c : ℕ) : Type 0 where
   pub three : n ≡ 3 → Within 0xE1 0xEF c
   pub gap : n ≡ 3 → c ≡ 0xED → ⊥
   pub four : n ≡ 4 → Within 0xF0 0xF3 c
-  pub wide : n ≡ 5 → Within 0xC2 0xEF c
-  pub any : n ≡ 6 → Within 0xC2 0xFF c
+  pub mixed : 5 ≤ n → 0xC0 ≤ c → 0xC2 ≤ c
 
 -- the least number that a byte which fits is turned into
 unfoldable pub leastOf : ℕ → ℕ
 leastOf n = cond (eqb n 2) 0x22 (cond (eqb n 3) 0x31 (cond (eqb n 4) 0x3C 2))
+
+-- the greatest byte that occurs, where the kind is 5 or 6
+unfoldable pub topOf : ℕ → ℕ
+topOf n = cond (eqb n 5) 0xEF (cond (eqb n 6) 0xF4 0xFF)
 
 -- x continues a character if and only if one of the three bytes before begins a character that is not at its end
 pub record Agrees (n a b c x : ℕ) : Type 0 where
@@ -43,7 +46,6 @@ pub record Bounds3 (c x : ℕ) : Type 0 where
 pub record Bounds4 (c x : ℕ) : Type 0 where
   pub low : Start4 c x
   pub high : c ≡ 0xF4 → x ≤ 0x8F
-  pub top : c ≤ 0xF4
 
 pub record Starts (n c x : ℕ) : Type 0 where
   pub four : n ≡ 4 → Start4 c x

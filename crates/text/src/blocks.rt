@@ -9,7 +9,7 @@ ghost use Prim.Native.Nat.{ℕ, _+_, _≤_};
 ghost use lib.Dec.{leb};
 ghost use lib.ListN.{length};
 ghost use Rattle.text.specs.Placed.{isTail, PlacedIn};
-ghost use Rattle.text.specs.Lengths.{Fits, leastOf, Agrees, Start4, Bounds3, Bounds4, Starts};
+ghost use Rattle.text.specs.Lengths.{Fits, leastOf, topOf, Agrees, Start4, Bounds3, Bounds4, Starts};
 
 // So many bytes are tested at once.
 pub const MOST: usize = 512;
@@ -90,12 +90,10 @@ fn apart_as(kind: u8, c: u8) -> u8
     if kind == 4 {
         return c ^ 0xCF;
     }
-    if kind == 5 {
-        return lesser(c ^ 0xC0, above(c ^ 0xF0, 0x0E));
-    }
     c ^ 0xC0
 }
 
+// The least number that a byte which occurs is turned into.
 fn least_of(kind: u8) -> u8
     ensures { λ r. ⌜ r ≡ leastOf kind ⌝ }
 {
@@ -109,6 +107,19 @@ fn least_of(kind: u8) -> u8
         return 0x3C;
     }
     2
+}
+
+// The greatest byte in a text of the kind, where `apart_as` does not see to it.
+fn most_byte(kind: u8) -> u8
+    ensures { λ r. ⌜ r ≡ topOf kind ⌝ }
+{
+    if kind == 5 {
+        return 0xEF;
+    }
+    if kind == 6 {
+        return 0xF4;
+    }
+    0xFF
 }
 
 // Whether x keeps the bound that F0 has for the next byte.
@@ -126,12 +137,12 @@ fn bounds3(c: u8, x: u8) -> bool
     ((c != 0xE0) | !low) & ((c != 0xED) | low)
 }
 
-// Whether x keeps the bounds that F0 and F4 have, and c is not above F4.
+// Whether x keeps the bounds that F0 and F4 have.
 fn bounds4(c: u8, x: u8) -> bool
     ensures { λ r. ⌜ (r ≡ true → Bounds4 c x) ⌝ }
 {
     let low = (0x80 <= x) & (x <= 0x8F);
-    ((c != 0xF0) | !low) & ((c != 0xF4) | low) & (c <= 0xF4)
+    ((c != 0xF0) | !low) & ((c != 0xF4) | low)
 }
 
 // Whether x keeps the bounds that c has for the next byte, in a text of the kind.
@@ -158,6 +169,7 @@ pub fn most_of(s: &[u8], at: usize, kind: u8) -> bool
 {
     let mut even = 0xFF;
     let mut low = lesser(apart_as(kind, s[at]), apart_as(kind, s[at + 1]));
+    let mut top = greater(s[at], s[at + 1]);
     let mut right = true;
     let mut i = 0;
     while i < MOST {
@@ -166,10 +178,11 @@ pub fn most_of(s: &[u8], at: usize, kind: u8) -> bool
         let x = s[j + 3];
         even = lesser(even, agrees_as(kind, s[j], s[j + 1], c, x));
         low = lesser(low, apart_as(kind, c));
+        top = greater(top, c);
         right = right & starts_as(kind, c, x);
         i += 1;
     }
-    right & (0x80 <= even) & (least_of(kind) <= low)
+    right & (0x80 <= even) & (least_of(kind) <= low) & (top <= most_byte(kind))
 }
 
 // The kind that 256 bytes from `at` on look like, by the least and the greatest of the bytes that begin a character of more than one byte.

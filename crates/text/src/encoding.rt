@@ -186,22 +186,6 @@ fn ascii_words(s: &[u8]) -> bool
     ascii8(s, last)
 }
 
-// The same, by the length.
-fn all_ascii(s: &[u8]) -> bool
-    ensures { λ r. ⌜ (r ≡ true → every isAscii (now (s .entry)) ≡ true) ⌝ }
-{
-    if s.len() < 4 {
-        return ascii_few(s);
-    }
-    if 8 <= s.len() {
-        return ascii_words(s);
-    }
-    if !ascii4(s, 0) {
-        return false;
-    }
-    ascii4(s, s.len() - 4)
-}
-
 // Whether the 32 bytes of s from `at` on are ASCII.
 pub fn ascii32(s: &[u8], at: usize) -> bool
     requires { ⌜ at + 32 ≤ length (now s) ⌝ }
@@ -226,15 +210,31 @@ fn ascii_blocks(s: &[u8]) -> bool
     ascii32(s, last)
 }
 
+// The same, by the length.
+fn all_ascii(s: &[u8]) -> bool
+    ensures { λ r. ⌜ (r ≡ true → every isAscii (now (s .entry)) ≡ true) ⌝ }
+{
+    if 32 <= s.len() {
+        return ascii_blocks(s);
+    }
+    if 8 <= s.len() {
+        return ascii_words(s);
+    }
+    if s.len() < 4 {
+        return ascii_few(s);
+    }
+    if !ascii4(s, 0) {
+        return false;
+    }
+    ascii4(s, s.len() - 4)
+}
+
 // Whether s has at most n bytes and is ASCII throughout. A longer s is not looked at.
 pub fn short_ascii(s: &[u8], n: usize) -> bool
     ensures { λ r. ⌜ (r ≡ true → every isAscii (now (s .entry)) ≡ true) ⌝ }
 {
     if n < s.len() {
         return false;
-    }
-    if 32 <= s.len() {
-        return ascii_blocks(s);
     }
     all_ascii(s)
 }

@@ -153,6 +153,7 @@ fn ascii_most(s: &[u8], at: usize) -> bool
     ascii_256(s, at + 256)
 }
 
+// The same of 256 bytes.
 fn ascii_256(s: &[u8], at: usize) -> bool
     requires { ⌜ at + 259 ≤ length (now s) ⌝ }
     ensures { λ r. ⌜ (r ≡ true → PlacedIn (now (s .entry)) at (at + 256)) ⌝ }

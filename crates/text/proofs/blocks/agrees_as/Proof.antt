@@ -43,7 +43,7 @@ agreed-requires-3 : tie.Need-agreed-requires-3
 agreed-requires-3 c κs = search needs
 
 returns-3 : tie.Need-returns-3
-returns-3 c = 
+returns-3 c =
     λ z.
     let a = c .before .before .before .before .before .before .before .args .a in
     let both = c .before .before .greater3 .ensures 0xF0 ∙ ap (λ (y : Bool). y || leb 0xF0 a) (c .before .before .before .greater2 .ensures 0xF0) in
@@ -62,7 +62,7 @@ agreed-requires-4 : tie.Need-agreed-requires-4
 agreed-requires-4 c κs = search needs
 
 returns-4 : tie.Need-returns-4
-returns-4 c = 
+returns-4 c =
     λ z.
     let a = c .before .before .before .before .before .before .before .before .args in
     let two = c .before .before .before .greater4 .ensures 0xC0 ∙ ap (λ (y : Bool). leb 0xC0 (a .c) || y) (c .before .before .before .before .above4 .ensures 0xC0 (omega arith)) in
@@ -81,7 +81,7 @@ agreed-requires-5 : tie.Need-agreed-requires-5
 agreed-requires-5 c κs = search needs
 
 returns-5 : tie.Need-returns-5
-returns-5 c = 
+returns-5 c =
     λ z.
     let a = c .before .before .before .before .before .before .before .before .before .before .args in
     let two = c .before .before .before .before .before .greater4 .ensures 0xC0 ∙ ap (λ (y : Bool). leb 0xC0 (a .c) || y) (c .before .before .before .before .before .before .above4 .ensures 0xC0 (omega arith)) in

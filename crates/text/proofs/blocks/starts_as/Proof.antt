@@ -27,7 +27,7 @@ bounds4-requires : tie.Need-bounds4-requires
 bounds4-requires c κs = search needs
 
 returns-4 : tie.Need-returns-4
-returns-4 c = 
+returns-4 c =
     λ z.
     let t = and-eq-true-iff (c .before .bounds32 .result) (c .bounds4 .result) .0 z in
     starts-any (c .before .before .before .if2 .left) (c .before .bounds32 .ensures (t .0)) (c .bounds4 .ensures (t .1))

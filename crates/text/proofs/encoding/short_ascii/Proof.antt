@@ -7,17 +7,11 @@ use Rattle.text.proofs.encoding.short_ascii.Tie as tie
 returns : tie.Need-returns
 returns c = λ z. absurd (false≢true z)
 
-ascii-blocks-requires : tie.Need-ascii-blocks-requires
-ascii-blocks-requires c κs = search needs
+all-ascii-requires : tie.Need-all-ascii-requires
+all-ascii-requires c κs = search needs
 
 returns-2 : tie.Need-returns-2
 returns-2 c = search needs
 
-all-ascii-requires : tie.Need-all-ascii-requires
-all-ascii-requires c κs = search needs
-
-returns-3 : tie.Need-returns-3
-returns-3 c = search needs
-
 pub short-ascii-spec : {M : Type 1} → statement M
-short-ascii-spec = tie.close (tie.spec returns ascii-blocks-requires returns-2 all-ascii-requires returns-3)
+short-ascii-spec = tie.close (tie.spec returns all-ascii-requires returns-2)

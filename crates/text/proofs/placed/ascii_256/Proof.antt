@@ -32,7 +32,7 @@ ascii-many-requires-4 : tie.Need-ascii-many-requires-4
 ascii-many-requires-4 c κs = search needs
 
 returns-2 : tie.Need-returns-2
-returns-2 c = 
+returns-2 c =
     let a = c .before .before .before .before .before .before .args in
     λ z.
     let t = and-eq-true-iff _ (c .ascii-many4 .result) .0 z in

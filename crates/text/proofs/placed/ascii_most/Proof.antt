@@ -20,7 +20,7 @@ ascii-256-requires-2 : tie.Need-ascii-256-requires-2
 ascii-256-requires-2 c κs = search needs
 
 returns-2 : tie.Need-returns-2
-returns-2 c = 
+returns-2 c =
     let a = c .before .before .before .before .args in
     λ z. placed-join (a .s .now) (a .at) (a .at + 256) (a .at + 512) (c .before .before .ascii-256 .ensures (not-false _ (c .before .if1 .left))) (placed-behind (a .s .now) (a .at) 256 256 (c .ascii-2562 .ensures z))
 

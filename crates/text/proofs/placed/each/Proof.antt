@@ -40,7 +40,7 @@ loop-less : tie.Need-loop-less Inv-loop μ-loop
 loop-less c = omega (arith, c .before .before .before .before .before .before .pre .0)
 
 loop-again : tie.Need-loop-again Inv-loop μ-loop
-loop-again c = 
+loop-again c =
     let a = c .before .before .before .before .before .before in
     let l = c .before .before .before .loop in
     let t = c .before .before .loop-test .taken in
@@ -51,7 +51,7 @@ passes-requires-2 : tie.Need-passes-requires-2 Inv-loop μ-loop
 passes-requires-2 c κs = omega (arith, c .before .before .before .before .pre .1)
 
 returns-2 : tie.Need-returns-2 Inv-loop μ-loop
-returns-2 c = 
+returns-2 c =
     let a = c .before .before .before .before .before in
     let l = c .before .before .loop in
     λ z.
