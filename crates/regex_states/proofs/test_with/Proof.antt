@@ -1,0 +1,75 @@
+-- `regex_states::test_with` meets its contract. Assumes nothing.
+use mathlib.Core.Path.{_≡_, refl, ap, sym, _∙_}
+use Rattle.regex_states.proofs.Answers.{tested, ready, lent}
+use borrow.Author.Needs.{needs}
+use Rattle.regex_states.proofs.test_with.Statement.{statement}
+use Rattle.regex_states.proofs.test_with.Tie as tie
+
+slice-read-wide : tie.Need-slice-read-wide
+slice-read-wide c = search needs
+
+wide-requires : tie.Need-wide-requires
+wide-requires c κs = search needs
+
+test-requires : tie.Need-test-requires
+test-requires c κs = search needs
+
+same-length : tie.Need-same-length
+same-length c = search needs
+
+returns : tie.Need-returns
+returns c = search needs
+
+test-requires-2 : tie.Need-test-requires-2
+test-requires-2 c κs = search needs
+
+same-length-2 : tie.Need-same-length-2
+same-length-2 c = search needs
+
+returns-2 : tie.Need-returns-2
+returns-2 c = search needs
+
+sub-walk : tie.Need-sub-walk
+sub-walk c = search needs
+
+part-walk-start : tie.Need-part-walk-start
+part-walk-start c = search needs
+
+part-walk-end : tie.Need-part-walk-end
+part-walk-end c = search needs
+
+walk-requires : tie.Need-walk-requires
+walk-requires c κs = let g = c .before .before .before .before .before .before .before .before .before .before .before .before .pre .tables (λ z. c .before .before .before .before .if1 .left (c .before .before .before .before .before .wide .ensures ∙ z)) in (g, lent (c .before .before .before .before .before .before .before .before .before .before .before .before .args .marks .now) (c .before .before .before .before .before .wide .result) (c .before .before .before .if2 .left) (c .before .before .before .before .before .wide .ensures))
+
+same-length-3 : tie.Need-same-length-3
+same-length-3 c = search needs
+
+same-length-4 : tie.Need-same-length-4
+same-length-4 c = search needs
+
+same-length-5 : tie.Need-same-length-5
+same-length-5 c = search needs
+
+returns-3 : tie.Need-returns-3
+returns-3 c = let g = c .before .before .before .before .before .before .before .before .before .before .before .before .before .before .before .before .before .before .before .pre .tables (λ z. c .before .before .before .before .before .before .before .before .before .before .before .if1 .left (c .before .before .before .before .before .before .before .before .before .before .before .before .wide .ensures ∙ z)) in (tested g (c .before .before .before .before .before .before .walk .ensures .ran), ready (c .before .before .before .before .before .before .walk .ensures .tables))
+
+pub test-with-spec : {M : Type 1} → statement M
+test-with-spec =
+    tie.close
+    (tie.spec
+    slice-read-wide
+    wide-requires
+    test-requires
+    same-length
+    returns
+    test-requires-2
+    same-length-2
+    returns-2
+    sub-walk
+    part-walk-start
+    part-walk-end
+    walk-requires
+    same-length-3
+    same-length-4
+    same-length-5
+    returns-3)

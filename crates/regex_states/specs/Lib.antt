@@ -1,0 +1,4 @@
+pub mod States
+pub mod Ready
+pub mod Texts
+pub mod Rooms
