@@ -134,6 +134,9 @@ Held code edges sets known = known ≡ 3 → StatesReady code edges sets
 pub held-none : {code edges sets : List ℕ} (known : ℕ) → known ≤ 2 → Held code edges sets known
 held-none known h e = absurd (omega arith)
 
+pub rooms-enough : {p q : ℕ} → p ≡ 8192 → q ≡ 8192 → (256 ≤ p) × (256 ≤ q)
+rooms-enough a b = (omega arith, omega arith)
+
 pub ready-states : {c : Scope} {e code : List ℕ} → Ready c e code 2 → Ready c e code 3
 ready-states r = record { outside = λ i. absurd (omega arith); inside = λ i j. r .inside (λ u. absurd (omega arith)) (λ u. absurd (omega arith)) }
 
