@@ -29,6 +29,7 @@ use Rattle.eval_filters.specs.Queries.{Within, found-lost, found-one}
 use Rattle.eval_filters.specs.Kept.{Tested as TestedAt, AskTest, DoneTest, AskKept, InKept, kept-full, kept-end}
 use Rattle.eval_filters.specs.Keeps.{DoneRange, range-done}
 use Rattle.regex.specs.Tested.{Tested}
+use Rattle.regex_states.specs.Ready.{Ready as StatesReady}
 use Rattle.regex_reader.specs.declared.nested.Reading.the-variants as reading
 use Rattle.regex_rooms.specs.Rooms.{scopeFor, scope-for, Widened, IsWidened}
 use Rattle.regex_rooms.proofs.Laws.{code-is, holds-none, holds-some, holds-long}
@@ -122,10 +123,22 @@ outside-long c e h t = holds-long c t e h
 pub outside-read : (c : Scope) (e : List ℕ) {q : List ℕ} → Widened c e q reading.Outside → Outside c e
 outside-read c e w t = holds-none c t w
 
--- nothing, that it is outside the part, or its code
+-- nothing, that it is outside the part, or its code, for which the rooms may be ready
 pub record Ready (c : Scope) (e code : List ℕ) (known : ℕ) : Type 0 where
   pub outside : known ≡ 1 → Outside c e
   pub inside : (known ≡ 0 → ⊥) → (known ≡ 1 → ⊥) → (t : List ℕ) (b : Bits) → isUtf8 t ≡ true → Tested code t b → b ≡ regexTest c t e
+
+abbrev pub Held : List ℕ → List ℕ → List ℕ → ℕ → Type 0
+Held code edges sets known = known ≡ 3 → StatesReady code edges sets
+
+pub held-none : {code edges sets : List ℕ} (known : ℕ) → known ≤ 2 → Held code edges sets known
+held-none known h e = absurd (omega arith)
+
+pub rooms-enough : {p q : ℕ} → p ≡ 8192 → q ≡ 8192 → (256 ≤ p) × (256 ≤ q)
+rooms-enough a b = (omega arith, omega arith)
+
+pub ready-states : {c : Scope} {e code : List ℕ} → Ready c e code 2 → Ready c e code 3
+ready-states r = record { outside = λ i. absurd (omega arith); inside = λ i j. r .inside (λ u. absurd (omega arith)) (λ u. absurd (omega arith)) }
 
 pub ready-none : (c : Scope) (e code : List ℕ) → Ready c e code 0
 ready-none c e code = record { outside = λ i. absurd (omega arith); inside = λ i. absurd (i refl) }

@@ -15,8 +15,10 @@ use calls::Call;
 use regex_marks::weigh;
 use regex_reader::nested::Reading;
 use regex_rooms::reads;
+use regex_states::prepare;
 use rows::OUTSIDE;
 use rows::READ;
+use rows::STATES;
 use rows::UNREAD;
 ghost use mathlib.Core.Path.{_≡_};
 ghost use Prim.Native.Nat.{_+_, _*_, _≤_};
@@ -42,6 +44,15 @@ const SHORT_CODE: usize = 1039;
 const FEW: usize = 4096;
 
 const MOST: usize = 65535;
+
+// Rooms for 63 states of at most so many marks, and for the marks of one. For fewer nodes than so many the expression has no states: a room is cleared first.
+const STATE_ROOM: usize = 8192;
+
+const STATE_MOST: usize = 120;
+
+const STATE_MARKS: usize = 256;
+
+const ENOUGH: usize = 8;
 
 // A byte that is no kind of a plan's item.
 const NO_KIND: u8 = 255;
@@ -93,6 +104,8 @@ fn with_few(
             again - 1,
         );
     }
+    let mut edges = [0u8; 1];
+    let mut sets = [0u8; 1];
     let mut marks = [0u8; FEW];
     let v = rows::keep(
         plan,
@@ -109,6 +122,84 @@ fn with_few(
         rest,
         READ,
         code,
+        &mut edges,
+        &mut sets,
+        &mut marks,
+        list,
+        at,
+        cap,
+    );
+    v.at
+}
+
+// The same by the states of the expression, which are kept from node to node.
+fn with_states(
+    plan: &[u8],
+    pool: &[u8],
+    table: &[u8],
+    text: &[u8],
+    root: usize,
+    i: usize,
+    e: usize,
+    p: usize,
+    z: usize,
+    g: Call,
+    tail: usize,
+    rest: usize,
+    code: &[u32],
+    list: &mut [u32],
+    at: usize,
+    cap: usize,
+    again: u8,
+) -> usize
+    requires { ⌜ AskKept (now plan) (now pool) (now table) (now text) root i e rest (length (now list)) at cap ⌝ }
+    requires { ⌜ AskTest (now plan) (now pool) p z × CallAt (now plan) p z g ⌝ }
+    requires { ⌜ TailAt (now plan) rest tail × (tail ≤ 1) ⌝ }
+    requires { ⌜ Ready (scopeFor (g .kind)) (part (now pool) (g .start) (g .size)) (now code) 3 ⌝ }
+    ensures { λ r. ⌜ DoneRange (now (plan .entry)) (now (pool .entry)) (now (table .entry)) (now (text .entry)) root i e p z rest cap (now (list .entry)) at (now (list .exit)) r ⌝ }
+{
+    if 0 < again {
+        return with_states(
+            plan,
+            pool,
+            table,
+            text,
+            root,
+            i,
+            e,
+            p,
+            z,
+            g,
+            tail,
+            rest,
+            code,
+            list,
+            at,
+            cap,
+            again - 1,
+        );
+    }
+    let mut edges = [0u8; STATE_ROOM];
+    let mut sets = [0u8; STATE_ROOM];
+    let mut marks = [0u8; STATE_MARKS];
+    prepare(code, &mut edges, &mut sets);
+    let v = rows::keep(
+        plan,
+        pool,
+        table,
+        text,
+        root,
+        i,
+        e,
+        p,
+        z,
+        g,
+        tail,
+        rest,
+        STATES,
+        code,
+        &mut edges,
+        &mut sets,
         &mut marks,
         list,
         at,
@@ -164,6 +255,8 @@ fn with_most(
             again - 1,
         );
     }
+    let mut edges = [0u8; 1];
+    let mut sets = [0u8; 1];
     let mut marks = [0u8; MOST];
     let v = rows::keep(
         plan,
@@ -180,6 +273,8 @@ fn with_most(
         rest,
         READ,
         code,
+        &mut edges,
+        &mut sets,
         &mut marks,
         list,
         at,
@@ -188,7 +283,18 @@ fn with_most(
     v.at
 }
 
-// The same with as little room for marks as may be.
+// Whether an expression of n marks has states for the nodes from i up to e.
+fn has_states(n: usize, i: usize, e: usize) -> bool {
+    if STATE_MOST < n {
+        return false;
+    }
+    if e < ENOUGH {
+        return false;
+    }
+    i <= e - ENOUGH
+}
+
+// The same in rooms as small as they may be.
 fn by_code(
     plan: &[u8],
     pool: &[u8],
@@ -216,6 +322,27 @@ fn by_code(
     // 0 for both kinds; but LLVM cannot tell.
     let again = g.kind / NO_KIND;
     let w = weigh(code, 0, MOST);
+    if has_states(w.size, i, e) {
+        return with_states(
+            plan,
+            pool,
+            table,
+            text,
+            root,
+            i,
+            e,
+            p,
+            z,
+            g,
+            tail,
+            rest,
+            code,
+            list,
+            at,
+            cap,
+            again,
+        );
+    }
     if w.size <= FEW {
         return with_few(
             plan,
@@ -283,6 +410,8 @@ fn outside(
     ensures { λ r. ⌜ DoneRange (now (plan .entry)) (now (pool .entry)) (now (table .entry)) (now (text .entry)) root i e p z rest cap (now (list .entry)) at (now (list .exit)) r ⌝ }
 {
     let code = [0u32; 1];
+    let mut edges = [0u8; 1];
+    let mut sets = [0u8; 1];
     let mut marks = [0u8; 1];
     let v = rows::keep(
         plan,
@@ -299,6 +428,8 @@ fn outside(
         rest,
         OUTSIDE,
         &code,
+        &mut edges,
+        &mut sets,
         &mut marks,
         list,
         at,
@@ -619,6 +750,8 @@ pub fn keep_matched(
     ensures { λ r. ⌜ DoneRange (now (plan .entry)) (now (pool .entry)) (now (table .entry)) (now (text .entry)) root i e p z rest cap (now (list .entry)) at (now (list .exit)) r ⌝ }
 {
     let code = [0u32; 1];
+    let mut edges = [0u8; 1];
+    let mut sets = [0u8; 1];
     let mut marks = [0u8; 1];
     let v = rows::keep(
         plan,
@@ -635,6 +768,8 @@ pub fn keep_matched(
         rest,
         UNREAD,
         &code,
+        &mut edges,
+        &mut sets,
         &mut marks,
         list,
         at,

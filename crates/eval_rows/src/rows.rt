@@ -3,6 +3,7 @@ use crate::calls::Call;
 use crate::paths;
 use eval_filters::kept;
 use regex::test;
+use regex_states::test_with;
 use table::records;
 use table::records::KIND_TEXT;
 ghost use mathlib.Core.Path.{_≡_};
@@ -12,16 +13,19 @@ ghost use Rattle.definition.specs.Bytes.{part};
 ghost use Rattle.eval_filters.specs.Queries.{Within};
 ghost use Rattle.eval_filters.specs.Kept.{AskTest, AskKept};
 ghost use Rattle.eval_filters.specs.Keeps.{TailAt};
+ghost use Rattle.regex.specs.Tested.{Tested};
 ghost use Rattle.regex_rooms.specs.Rooms.{scopeFor};
 ghost use Rattle.eval_rows.specs.Calls.{CallAt, flip};
-ghost use Rattle.eval_rows.specs.Rows.{TextOf, Ready, DoneAnswer, DoneRows};
+ghost use Rattle.eval_rows.specs.Rows.{TextOf, Ready, Held, DoneAnswer, DoneRows};
 
-// What is known of the expression: nothing yet, that it is outside the part, or its code.
+// What is known of the expression: nothing yet, that it is outside the part, its code, or the code with rooms that are ready for its states.
 pub const UNREAD: u8 = 0;
 
 pub const OUTSIDE: u8 = 1;
 
 pub const READ: u8 = 2;
+
+pub const STATES: u8 = 3;
 
 // A text's place; `some` is false where there is none.
 pub struct Spot {
@@ -93,7 +97,26 @@ fn text_of(
     }
 }
 
-// What the filter says of a node, by what is known of its expression. The marks are room.
+// Whether a text has the expression that the code is of: by its states where the rooms are ready for them. The marks are room.
+fn tested(
+    known: u8,
+    code: &[u32],
+    text: &[u8],
+    edges: &mut [u8],
+    sets: &mut [u8],
+    marks: &mut [u8],
+) -> bool
+    requires { ⌜ Held (now code) (now edges) (now sets) known ⌝ }
+    ensures { λ r. ⌜ Tested (now (code .entry)) (now (text .entry)) r ⌝ }
+    ensures { λ r. ⌜ Held (now (code .entry)) (now (edges .exit)) (now (sets .exit)) known ⌝ }
+{
+    if known == STATES {
+        return test_with(code, text, edges, sets, marks);
+    }
+    test(code, text, marks)
+}
+
+// What the filter says of a node, by what is known of its expression. The other rooms are those of `tested`.
 fn asked(
     plan: &[u8],
     pool: &[u8],
@@ -106,12 +129,15 @@ fn asked(
     g: Call,
     known: u8,
     code: &[u32],
+    edges: &mut [u8],
+    sets: &mut [u8],
     marks: &mut [u8],
 ) -> Answer
     requires { ⌜ Within (now plan) (now pool) (now table) (now text) root node ⌝ }
     requires { ⌜ AskTest (now plan) (now pool) p z × CallAt (now plan) p z g ⌝ }
-    requires { ⌜ Ready (scopeFor (g .kind)) (part (now pool) (g .start) (g .size)) (now code) known ⌝ }
+    requires { ⌜ Ready (scopeFor (g .kind)) (part (now pool) (g .start) (g .size)) (now code) known × Held (now code) (now edges) (now sets) known ⌝ }
     ensures { λ r. ⌜ DoneAnswer (now (plan .entry)) (now (pool .entry)) (now (table .entry)) (now (text .entry)) root node p z known r ⌝ }
+    ensures { λ r. ⌜ Held (now (code .entry)) (now (edges .exit)) (now (sets .exit)) known ⌝ }
 {
     let s = text_of(plan, pool, table, text, root, node, p, z, g);
     let negated = g.negated;
@@ -135,7 +161,7 @@ fn asked(
     }
     let a = s.start;
     let n = s.size;
-    let b = test(code, &text[a..a + n], marks);
+    let b = tested(known, code, &text[a..a + n], edges, sets, marks);
     Answer {
         acc: flipped(negated, b),
         some: true,
@@ -158,6 +184,8 @@ pub fn keep(
     rest: usize,
     known: u8,
     code: &[u32],
+    edges: &mut [u8],
+    sets: &mut [u8],
     marks: &mut [u8],
     list: &mut [u32],
     at: usize,
@@ -166,7 +194,7 @@ pub fn keep(
     requires { ⌜ AskKept (now plan) (now pool) (now table) (now text) root i e rest (length (now list)) at cap ⌝ }
     requires { ⌜ AskTest (now plan) (now pool) p z × CallAt (now plan) p z g ⌝ }
     requires { ⌜ TailAt (now plan) rest tail × (tail ≤ 1) ⌝ }
-    requires { ⌜ Ready (scopeFor (g .kind)) (part (now pool) (g .start) (g .size)) (now code) known ⌝ }
+    requires { ⌜ Ready (scopeFor (g .kind)) (part (now pool) (g .start) (g .size)) (now code) known × Held (now code) (now edges) (now sets) known ⌝ }
     ensures { λ r. ⌜ DoneRows (now (plan .entry)) (now (pool .entry)) (now (table .entry)) (now (text .entry)) root i e p z rest cap (now (list .entry)) at (now (list .exit)) known r ⌝ }
 {
     let mut a = at;
@@ -188,6 +216,8 @@ pub fn keep(
             g,
             known,
             code,
+            edges,
+            sets,
             marks,
         );
         if !b.some {

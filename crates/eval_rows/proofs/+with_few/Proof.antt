@@ -12,4 +12,5 @@ pub +with-few-spec : {M : Type 1} → statement M
     close μ-with-few
     (λ t. with-few-lts.spec (WithFew.calls t) (with-few-at t) with-few.Post (WithFew.sub-with-few t)
     (WithFew.with-few-requires t) (WithFew.same-length t) (WithFew.returns t) (WithFew.slice-aggregate-keep t)
-    (WithFew.keep-requires t) (WithFew.same-length-2 t) (WithFew.returns-2 t))
+    (WithFew.slice-aggregate-keep-2 t) (WithFew.slice-aggregate-keep-3 t) (WithFew.keep-requires t)
+    (WithFew.same-length-2 t) (WithFew.returns-2 t))

@@ -12,5 +12,5 @@ pub +with-most-spec : {M : Type 1} → statement M
     close μ-with-most
     (λ t. with-most-lts.spec (WithMost.calls t) (with-most-at t) with-most.Post (WithMost.sub-with-most t)
     (WithMost.with-most-requires t) (WithMost.same-length t) (WithMost.returns t)
-    (WithMost.slice-aggregate-keep t) (WithMost.keep-requires t) (WithMost.same-length-2 t)
-    (WithMost.returns-2 t))
+    (WithMost.slice-aggregate-keep t) (WithMost.slice-aggregate-keep-2 t) (WithMost.slice-aggregate-keep-3 t)
+    (WithMost.keep-requires t) (WithMost.same-length-2 t) (WithMost.returns-2 t))

@@ -2,7 +2,7 @@
 use native.Mathlib.Omega.{arith}
 use Rattle.definition.specs.Bytes.{part}
 use Rattle.regex_rooms.specs.Rooms.{scopeFor}
-use Rattle.eval_rows.specs.Rows.{ready-outside}
+use Rattle.eval_rows.specs.Rows.{ready-outside, held-none}
 use borrow.Author.Needs.{needs}
 use Rattle.eval_rows.proofs.outside.Statement.{statement}
 use Rattle.eval_rows.proofs.outside.Tie as tie
@@ -16,16 +16,29 @@ slice-aggregate-keep c = search needs
 slice-aggregate-keep-2 : tie.Need-slice-aggregate-keep-2
 slice-aggregate-keep-2 c = search needs
 
+slice-aggregate-keep-3 : tie.Need-slice-aggregate-keep-3
+slice-aggregate-keep-3 c = search needs
+
+slice-aggregate-keep-4 : tie.Need-slice-aggregate-keep-4
+slice-aggregate-keep-4 c = search needs
+
 keep-requires : tie.Need-keep-requires
-keep-requires c κs = let q = c .before .before .before .before .before .before .before .before in let s = q .pre in let g = q .args .g in (s .0, (s .1 .0, (s .1 .1 .0, ready-outside (scopeFor (g .kind)) (part (q .args .pool .now) (g .start) (g .size)) _ (s .1 .1 .1))))
+keep-requires c κs = let q = c .before .before .before .before .before .before .before .before .before .before in let s = q .pre in let g = q .args .g in (s .0, (s .1 .0, (s .1 .1 .0, (ready-outside (scopeFor (g .kind)) (part (q .args .pool .now) (g .start) (g .size)) _ (s .1 .1 .1), held-none 1 (omega arith)))))
 
 same-length : tie.Need-same-length
 same-length c = search needs
 
 returns : tie.Need-returns
-returns c = c .before .before .before .keep .ensures .whole (λ e. absurd (omega arith))
+returns c = c .before .before .before .before .before .keep .ensures .whole (λ e. absurd (omega arith))
 
 pub outside-spec : {M : Type 1} → statement M
 outside-spec =
     tie.close
-    (tie.spec slice-aggregate-keep slice-aggregate-keep-2 keep-requires same-length returns)
+    (tie.spec
+    slice-aggregate-keep
+    slice-aggregate-keep-2
+    slice-aggregate-keep-3
+    slice-aggregate-keep-4
+    keep-requires
+    same-length
+    returns)
