@@ -33,8 +33,7 @@ module _ (P : List ℕ → Type 0) where
   flatten a (suc k) w j =
       let t = j .is-fore in
       let i = flatten a k (j .back) (j .is-back) in
-      let e = mul-suc a k in
-      (
+      let e = mul-suc a k in (
         t .count + i .0,
         omega (arith, i .1, t .most),
         row-add P (t .count) (i .0) w (record { fore = j .fore; back = j .back; eq = j .eq; is-fore = t .row; is-back = i .2 }),

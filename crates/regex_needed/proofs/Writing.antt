@@ -288,8 +288,7 @@ module _ {s : List ℕ} {at lo hi n : ℕ} {q : List ℕ} {to : ℕ} where
               λ x r c.
               let i = h .of x r c in
               let o = p .of x r c in
-              let y = o .1 .expr in
-              (
+              let y = o .1 .expr in (
                 o .0,
                 record {
                   expr = i .wrap y;
@@ -326,8 +325,7 @@ module _ {s : List ℕ} {at lo hi n : ℕ} {q : List ℕ} {to : ℕ} where
             0 (c .rest) refl
             (λ r f u.
             let w = word-of s next 0 r u in
-            let k : to' ≡ next + 1 = omega (arith, w .0) in
-            (
+            let k : to' ≡ next + 1 = omega (arith, w .0) in (
               rw k (w .2),
               record {
                 expr = o .1 .expr;
@@ -354,8 +352,7 @@ module _ {s : List ℕ} {at n : ℕ} {q q1 q2 : List ℕ} {to e f next : ℕ} wh
             let y : at + 2 ≡ at + 1 + 1 = omega arith in
             let g : k ≡ i = z ∙ a .1 in
             let u : drop (at + 2) s ≡ flat x r = rw y (a .2) in
-            let o = p .of x r u in
-            (
+            let o = p .of x r u in (
               o .0,
               record {
                 expr = times l any (o .1 .expr);
@@ -387,8 +384,7 @@ module _ {s : List ℕ} {at n : ℕ} {q q1 q2 : List ℕ} {to e f next : ℕ} wh
               λ x r c. of-then (λ x r. (drop next2 s ≡ r) × Instead n (Describes x) q to q3 g) _ _ (d .is ∙ z)
               (λ x y r c.
               let i = a .of x (flat y r) c in
-              let j = b .of y r (i .0) in
-              (
+              let j = b .of y r (i .0) in (
                 j .0,
                 record {
                   expr = then (i .1 .expr) (j .1 .expr);
@@ -410,8 +406,7 @@ module _ {s : List ℕ} {at n : ℕ} {q q1 q2 : List ℕ} {to e f next : ℕ} wh
               λ x r c. of-or (λ x r. (drop next2 s ≡ r) × Instead n (Describes x) q to q3 g) _ _ (d .is ∙ z)
               (λ x y r c.
               let i = a .of x (flat y r) c in
-              let j = b .of y r (i .0) in
-              (
+              let j = b .of y r (i .0) in (
                 j .0,
                 record {
                   expr = or (i .1 .expr) (j .1 .expr);

@@ -219,7 +219,15 @@ fn behind(code: &[u32], p: Part) -> Part
 }
 
 // Writes an expression for lo to hi times what stands at `at`.
-pub fn lessen(code: &[u32], at: usize, lo: u32, hi: u32, text: &[u8], out: &mut [u32], to: usize) -> Part
+pub fn lessen(
+    code: &[u32],
+    at: usize,
+    lo: u32,
+    hi: u32,
+    text: &[u8],
+    out: &mut [u32],
+    to: usize,
+) -> Part
     requires { ⌜ Asks (now text) (now out) to ⌝ }
     ensures { λ r. ⌜ Lessened (now (code .entry)) at (repeated lo hi) (length (now (text .entry))) (now (out .entry)) to (now (out .exit)) (r .next) (r .end) ⌝ }
 {

@@ -4,7 +4,6 @@ use native.Mathlib.Omega.{arith}
 use Rattle.regex.proofs.Laws.{by-plain, by-length, by-marks, taken, grows, fits}
 use Rattle.regex.proofs.test.Statement.{statement}
 use Rattle.regex.proofs.test.Tie as tie
-use Rattle.regex.proofs.test.Reads as reads
 
 ask-requires : tie.Need-ask-requires
 ask-requires c κs = search needs

@@ -1,66 +1,49 @@
+-- `regex::test_less` meets its contract. Assumes nothing.
 use borrow.Author.Needs.{needs}
 use native.Mathlib.Omega.{arith}
 use Rattle.regex.proofs.Laws.{by-less, taken-long}
 use Rattle.regex.proofs.test_less.Statement.{statement}
 use Rattle.regex.proofs.test_less.Tie as tie
-use Rattle.regex.proofs.test_less.Reads as reads
-use Rattle.regex.proofs.test_less.Lts as lts
-use Rattle.regex.proofs.test.Reads as test-reads
-use Rattle.regex_needed.proofs.lessen.Reads as lessen-reads
 
--- src/lib.rt:84:9
 test-requires : tie.Need-test-requires
 test-requires c κs = search needs
 
--- src/lib.rt:84:9
 same-length : tie.Need-same-length
 same-length c = search needs
 
--- src/lib.rt:84:9
 returns : tie.Need-returns
 returns c = search needs
 
--- src/lib.rt:86:9
 lessen-requires : tie.Need-lessen-requires
 lessen-requires c κs = search needs
 
--- src/lib.rt:89:9
 test-requires-2 : tie.Need-test-requires-2
 test-requires-2 c κs = search needs
 
--- src/lib.rt:89:9
 same-length-2 : tie.Need-same-length-2
 same-length-2 c = search needs
 
--- src/lib.rt:89:9
 same-length-3 : tie.Need-same-length-3
 same-length-3 c = search needs
 
--- src/lib.rt:89:9
 returns-2 : tie.Need-returns-2
 returns-2 c = search needs
 
--- src/lib.rt:91:10
 slice-reshare-prefix-test : tie.Need-slice-reshare-prefix-test
 slice-reshare-prefix-test c = search needs
 
--- src/lib.rt:91:10
 slice-aggregate-test : tie.Need-slice-aggregate-test
 slice-aggregate-test c = taken-long _ _ (c .before .if2 .left)
 
--- src/lib.rt:91:5
 test-requires-3 : tie.Need-test-requires-3
 test-requires-3 c κs = search needs
 
--- src/lib.rt:80:1
 same-length-4 : tie.Need-same-length-4
 same-length-4 c = search needs
 
--- src/lib.rt:80:1
 same-length-5 : tie.Need-same-length-5
 same-length-5 c = search needs
 
--- src/lib.rt:80:1
 returns-3 : tie.Need-returns-3
 returns-3 c = by-less _ _ (c .before .before .before .before .before .before .before .before .lessen .ensures) (omega (arith, c .before .before .before .before .before .if2 .left, c .before .before .before .before .before .before .before .before .lessen .ensures .goes .long)) (c .before .before .test3 .ensures)
 

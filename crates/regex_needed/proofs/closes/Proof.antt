@@ -1,30 +1,23 @@
+-- `regex_needed::closes` meets its contract. Assumes nothing.
 use borrow.Author.Needs.{needs}
 use borrow.Author.Tests.{eqb-true}
 use mathlib.Core.Bool.{false≢true}
 use Rattle.regex_needed.proofs.Writing.{closed}
 use Rattle.regex_needed.proofs.closes.Statement.{statement}
 use Rattle.regex_needed.proofs.closes.Tie as tie
-use Rattle.regex_needed.proofs.closes.Reads as reads
-use Rattle.regex_needed.proofs.closes.Lts as lts
-use Rattle.regex_code.proofs.skip.Reads as skip-reads
 
--- src/lib.rt:92:9
 skip-requires : tie.Need-skip-requires
 skip-requires c κs = search needs
 
--- src/lib.rt:94:9
 returns : tie.Need-returns
 returns c = λ e. absurd (false≢true e)
 
--- src/lib.rt:96:5
 mul-result : tie.Need-mul-result
 mul-result c = search needs
 
--- src/lib.rt:96:5
 shared-slice-read-result : tie.Need-shared-slice-read-result
 shared-slice-read-result c = search needs
 
--- src/lib.rt:89:1
 returns-2 : tie.Need-returns-2
 returns-2 c = λ e. closed (c .before .before .skip .ensures) (c .before .if1 .left) (eqb-true _ _ e)
 

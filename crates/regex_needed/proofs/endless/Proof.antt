@@ -1,30 +1,23 @@
+-- `regex_needed::endless` meets its contract. Assumes nothing.
 use borrow.Author.Needs.{needs}
 use borrow.Author.Tests.{leb-true}
 use mathlib.Core.Bool.{false≢true}
 use Rattle.regex_needed.proofs.Writing.{lengths-product, few-enough, long-enough}
 use Rattle.regex_needed.proofs.endless.Statement.{statement}
 use Rattle.regex_needed.proofs.endless.Tie as tie
-use Rattle.regex_needed.proofs.endless.Reads as reads
-use Rattle.regex_needed.proofs.endless.Lts as lts
-use Rattle.regex_code.proofs.small.Reads as small-reads
 
--- src/lib.rt:181:9
 small-requires : tie.Need-small-requires
 small-requires c κs = search needs
 
--- src/lib.rt:184:13
 returns : tie.Need-returns
 returns c = λ e. few-enough (c .before .if1 .taken) (c .before .before .small .ensures .0) (c .if2 .taken)
 
--- src/lib.rt:188:9
 returns-2 : tie.Need-returns-2
 returns-2 c = λ e. absurd (false≢true e)
 
--- src/lib.rt:190:10
 mul-result : tie.Need-mul-result
 mul-result c = record { fits = lengths-product _ _ (c .before .before .before .pre) (c .before .before .small .ensures .1) }
 
--- src/lib.rt:177:1
 returns-3 : tie.Need-returns-3
 returns-3 c = λ e. long-enough (c .if3 .left) (c .before .before .small .ensures .0) (leb-true _ _ e)
 

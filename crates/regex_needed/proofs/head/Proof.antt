@@ -1,63 +1,45 @@
+-- `regex_needed::head` meets its contract. Assumes nothing.
 use borrow.Author.Needs.{needs}
 use Rattle.regex_needed.proofs.Writing.{head-once, head-endless, head-counted, written-on}
 use Rattle.regex_needed.proofs.head.Statement.{statement}
 use Rattle.regex_needed.proofs.head.Tie as tie
-use Rattle.regex_needed.proofs.head.Reads as reads
-use Rattle.regex_needed.proofs.head.Lts as lts
-use Rattle.regex_needed.proofs.endless.Reads as endless-reads
-use Rattle.regex_needed.proofs.put.Reads as put-reads
-use Rattle.regex_needed.proofs.single.Reads as single-reads
-use Rattle.regex_total.proofs.measure.Reads as measure-reads
 
--- src/lib.rt:198:8
 single-requires : tie.Need-single-requires
 single-requires c κs = search needs
 
--- src/lib.rt:199:9
 returns : tie.Need-returns
 returns c = head-once (c .before .single .ensures (c .if1 .taken) .0) (c .before .single .ensures (c .if1 .taken) .1) (c .before .before .before .before .before .pre .place)
 
--- src/lib.rt:201:9
 measure-requires : tie.Need-measure-requires
 measure-requires c κs = search needs
 
--- src/lib.rt:202:8
 endless-requires : tie.Need-endless-requires
 endless-requires c κs = search needs
 
--- src/lib.rt:203:13
 put-requires : tie.Need-put-requires
 put-requires c κs = search needs
 
--- src/lib.rt:204:9
 put-requires-2 : tie.Need-put-requires-2
 put-requires-2 c κs = search needs
 
--- src/lib.rt:204:9
 same-length : tie.Need-same-length
 same-length c = search needs
 
--- src/lib.rt:204:9
 returns-2 : tie.Need-returns-2
 returns-2 c = head-endless (c .before .before .before .before .before .before .before .before .before .before .measure .ensures) (c .before .before .before .before .before .before .before .before .before .endless .ensures (c .before .before .before .before .before .before .before .before .if2 .taken)) (written-on (c .before .before .before .before .before .before .put .ensures) (c .before .before .put2 .ensures))
 
--- src/lib.rt:206:9
 put-requires-3 : tie.Need-put-requires-3
 put-requires-3 c κs = search needs
 
--- src/lib.rt:207:9
 put-requires-4 : tie.Need-put-requires-4
 put-requires-4 c κs = search needs
 
--- src/lib.rt:208:5
 put-requires-5 : tie.Need-put-requires-5
 put-requires-5 c κs = search needs
 
--- src/lib.rt:194:1
 same-length-2 : tie.Need-same-length-2
 same-length-2 c = search needs
 
--- src/lib.rt:194:1
 returns-3 : tie.Need-returns-3
 returns-3 c = head-counted (written-on (written-on (c .before .before .before .before .before .before .before .before .before .before .put3 .ensures) (c .before .before .before .before .before .before .put4 .ensures)) (c .before .before .put5 .ensures))
 

@@ -1,85 +1,62 @@
+-- `regex_needed::joins` meets its contract. Assumes nothing.
 use borrow.Author.Needs.{needs}
 use mathlib.Core.Path.{refl}
 use mathlib.Core.Bool.{false≢true}
 use Rattle.regex_needed.proofs.Writing.{joins-once, joins-more}
 use Rattle.regex_needed.proofs.joins.Statement.{statement}
 use Rattle.regex_needed.proofs.joins.Tie as tie
-use Rattle.regex_needed.proofs.joins.Reads as reads
-use Rattle.regex_needed.proofs.joins.Lts as lts
-use Rattle.regex_needed.proofs.misses.Reads as misses-reads
-use Rattle.regex_needed.proofs.needed.Reads as needed-reads
-use Rattle.regex_needed.proofs.product.Reads as product-reads
-use Rattle.regex_needed.proofs.single.Reads as single-reads
 
--- src/lib.rt:141:8
 sub-if1 : tie.Need-sub-if1
 sub-if1 c = search needs
 
--- src/lib.rt:142:9
 returns : tie.Need-returns
 returns c = λ e. absurd (false≢true e)
 
--- src/lib.rt:144:8
 misses-requires : tie.Need-misses-requires
 misses-requires c κs = search needs
 
--- src/lib.rt:145:9
 returns-2 : tie.Need-returns-2
 returns-2 c = λ e. absurd (false≢true e)
 
--- src/lib.rt:147:18
 add-h : tie.Need-add-h
 add-h c = search needs
 
--- src/lib.rt:147:13
 mul-h : tie.Need-mul-h
 mul-h c = search needs
 
--- src/lib.rt:147:13
 shared-slice-read-h : tie.Need-shared-slice-read-h
 shared-slice-read-h c = search needs
 
--- src/lib.rt:148:26
 add-needed : tie.Need-add-needed
 add-needed c = search needs
 
--- src/lib.rt:148:39
 add-needed-2 : tie.Need-add-needed-2
 add-needed-2 c = search needs
 
--- src/lib.rt:148:34
 mul-needed : tie.Need-mul-needed
 mul-needed c = search needs
 
--- src/lib.rt:148:34
 shared-slice-read-needed : tie.Need-shared-slice-read-needed
 shared-slice-read-needed c = search needs
 
--- src/lib.rt:148:9
 needed-requires : tie.Need-needed-requires
 needed-requires c κs = search needs
 
--- src/lib.rt:149:8
 single-requires : tie.Need-single-requires
 single-requires c κs = search needs
 
--- src/lib.rt:150:9
 returns-3 : tie.Need-returns-3
 returns-3 c = λ e. joins-once (c .before .before .before .before .before .before .before .before .before .before .pre .0) refl refl (c .before .single .ensures (c .if3 .taken) .0) (c .before .single .ensures (c .if3 .taken) .1) (c .before .before .needed .ensures)
 
--- src/lib.rt:157:9
 returns-4 : tie.Need-returns-4
 returns-4 c = λ e. absurd (false≢true e)
 
--- src/lib.rt:160:9
 returns-5 : tie.Need-returns-5
 returns-5 c = λ e. absurd (false≢true e)
 
--- src/lib.rt:165:13
 product-requires : tie.Need-product-requires
 product-requires c κs = search needs
 
--- src/lib.rt:132:1
 returns-6 : tie.Need-returns-6
 returns-6 c = λ e. joins-more (c .before .before .before .before .before .before .before .before .before .before .before .before .before .pre .0) refl refl (c .before .before .if4 .left) (c .before .before .before .before .before .needed .ensures) (c .before .if5 .left) (c .product .ensures)
 

@@ -1,33 +1,24 @@
+-- `regex_needed::nothing` meets its contract. Assumes nothing.
 use borrow.Author.Needs.{needs}
 use Rattle.regex_needed.proofs.Writing.{no-text, written-on}
 use Rattle.regex_needed.proofs.nothing.Statement.{statement}
 use Rattle.regex_needed.proofs.nothing.Tie as tie
-use Rattle.regex_needed.proofs.nothing.Reads as reads
-use Rattle.regex_needed.proofs.nothing.Lts as lts
-use Rattle.regex_code.proofs.skip.Reads as skip-reads
-use Rattle.regex_needed.proofs.put.Reads as put-reads
 
--- src/lib.rt:81:9
 skip-requires : tie.Need-skip-requires
 skip-requires c κs = search needs
 
--- src/lib.rt:82:9
 put-requires : tie.Need-put-requires
 put-requires c κs = search needs
 
--- src/lib.rt:83:9
 put-requires-2 : tie.Need-put-requires-2
 put-requires-2 c κs = search needs
 
--- src/lib.rt:84:9
 put-requires-3 : tie.Need-put-requires-3
 put-requires-3 c κs = search needs
 
--- src/lib.rt:77:1
 same-length : tie.Need-same-length
 same-length c = search needs
 
--- src/lib.rt:77:1
 returns : tie.Need-returns
 returns c = no-text (c .before .before .before .before .before .before .before .before .before .before .before .before .before .before .before .before .pre .0) (c .before .before .before .before .before .before .before .before .before .before .before .before .skip .ensures) (written-on (written-on (c .before .before .before .before .before .before .before .before .before .before .put .ensures) (c .before .before .before .before .before .before .put2 .ensures)) (c .before .before .put3 .ensures))
 

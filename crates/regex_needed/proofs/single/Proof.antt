@@ -1,15 +1,12 @@
+-- `regex_needed::single` meets its contract. Assumes nothing.
 use Rattle.regex_needed.proofs.single.Statement.{statement}
 use borrow.Author.Tests.{eqb-true}
 use mathlib.Core.Bool.{false≢true}
 use Rattle.regex_needed.proofs.single.Tie as tie
-use Rattle.regex_needed.proofs.single.Reads as reads
-use Rattle.regex_needed.proofs.single.Lts as lts
 
--- src/lib.rt:170:1
 returns : tie.Need-returns
 returns c = λ e. (c .if1 .taken, eqb-true _ _ e)
 
--- src/lib.rt:170:1
 returns-2 : tie.Need-returns-2
 returns-2 c = λ e. absurd (false≢true e)
 

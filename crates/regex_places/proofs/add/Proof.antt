@@ -1,32 +1,25 @@
+-- `regex_places::add` meets its contract. Assumes nothing.
 use borrow.Author.Needs.{needs}
 use native.Mathlib.Omega.{arith}
 use Rattle.regex_places.specs.Places.Adds.{was, new}
 use Rattle.regex_places.proofs.add.Statement.{statement}
 use Rattle.regex_places.proofs.add.Tie as tie
-use Rattle.regex_places.proofs.add.Reads as reads
-use Rattle.regex_places.proofs.add.Lts as lts
 
--- src/lib.rt:57:9
 returns : tie.Need-returns
 returns c = was (λ e. absurd (c .if1 .taken e))
 
--- src/lib.rt:59:8
 slice-read-if2 : tie.Need-slice-read-if2
 slice-read-if2 c = search needs
 
--- src/lib.rt:60:9
 returns-2 : tie.Need-returns-2
 returns-2 c = was (λ e. c .if2 .taken)
 
--- src/lib.rt:62:5
 slice-write-set : tie.Need-slice-write-set
 slice-write-set c = search needs
 
--- src/lib.rt:52:1
 same-length : tie.Need-same-length
 same-length c = search needs
 
--- src/lib.rt:52:1
 returns-3 : tie.Need-returns-3
 returns-3 c = new (c .before .before .if1 .left)
 

@@ -17,78 +17,59 @@ abbrev pub calls : ℕ → lts.Claims
 calls t = (closes-reads.Asked, closes-reads.Learnt, lessen-below t, lessen.Post, behind-reads.Asked, behind-reads.Learnt, joins-reads.Asked, joins-reads.Learnt, head-reads.Asked, head-reads.Learnt, plain-below t, plain.Post)
 
 module _ (t : ℕ) where
-  -- src/lib.rt:227:9
   pub returns : lts.Need-returns (calls t) (lessen-at t) lessen.Post
   returns c = less-nowhere (c .if1 .taken) (c .before .before .before .before .pre .1 .place)
 
-  -- src/lib.rt:229:13
   pub mul-k : lts.Need-mul-k (calls t) (lessen-at t) lessen.Post
   mul-k c = omega (arith, c .if1 .left, c .before .before .before .before .good .0)
 
-  -- src/lib.rt:229:13
   pub shared-slice-read-k : lts.Need-shared-slice-read-k (calls t) (lessen-at t) lessen.Post
   shared-slice-read-k c = c .before .if1 .left
 
-  -- src/lib.rt:231:25
   pub add-closes : lts.Need-add-closes (calls t) (lessen-at t) lessen.Post
   add-closes c = omega (arith, c .before .before .if1 .left, c .before .before .before .before .before .before .good .0)
 
-  -- src/lib.rt:231:12
   pub closes-requires : lts.Need-closes-requires (calls t) (lessen-at t) lessen.Post
   closes-requires c κs = search needs
 
-  -- src/lib.rt:232:34
   pub add-lessen : lts.Need-add-lessen (calls t) (lessen-at t) lessen.Post
   add-lessen c = omega (arith, c .before .before .before .before .if1 .left, c .before .before .before .before .before .before .before .before .good .0)
 
-  -- src/lib.rt:232:17
   pub lessen-requires : lts.Need-lessen-requires (calls t) (lessen-at t) lessen.Post
   lessen-requires c κs = (omega (arith, c .before .before .before .before .before .before .before .before .before .pre .0, c .before .before .before .before .before .if1 .left), c .before .before .before .before .before .before .before .before .before .pre .1)
 
-  -- src/lib.rt:233:13
   pub behind-requires : lts.Need-behind-requires (calls t) (lessen-at t) lessen.Post
   behind-requires c κs = search needs
 
-  -- src/lib.rt:233:13
   pub same-length : lts.Need-same-length (calls t) (lessen-at t) lessen.Post
   same-length c = c .before .before .before .lessen .ensures .goes .long
 
-  -- src/lib.rt:233:13
   pub returns-2 : lts.Need-returns-2 (calls t) (lessen-at t) lessen.Post
   returns-2 c = less-ended (c .behind .ensures .1) (less-closed (record { here = c .before .before .before .before .before .before .before .before .before .if1 .left; is = c .before .before .before .before .before .before .before .if2 .taken }) (c .before .before .before .before .before .before .closes .ensures (c .before .before .before .before .before .if3 .taken)) (c .before .before .before .lessen .ensures) (c .behind .ensures .0))
 
-  -- src/lib.rt:237:13
   pub joins-requires : lts.Need-joins-requires (calls t) (lessen-at t) lessen.Post
   joins-requires c κs = (record { here = c .before .before .before .if1 .left; is = c .if4 .taken }, c .before .before .before .before .before .before .before .pre .1 .short)
 
-  -- src/lib.rt:239:33
   pub add-lessen-2 : lts.Need-add-lessen-2 (calls t) (lessen-at t) lessen.Post
   add-lessen-2 c = omega (arith, c .before .before .before .before .before .if1 .left, c .before .before .before .before .before .before .before .before .before .good .0)
 
-  -- src/lib.rt:239:13
   pub lessen-requires-2 : lts.Need-lessen-requires-2 (calls t) (lessen-at t) lessen.Post
   lessen-requires-2 c κs = (omega (arith, c .before .before .before .before .before .before .before .before .before .before .pre .0, c .before .before .before .before .before .before .if1 .left), c .before .before .before .before .before .before .before .before .before .before .pre .1)
 
-  -- src/lib.rt:239:13
   pub same-length-2 : lts.Need-same-length-2 (calls t) (lessen-at t) lessen.Post
   same-length-2 c = c .before .before .lessen2 .ensures .goes .long
 
-  -- src/lib.rt:239:13
   pub returns-3 : lts.Need-returns-3 (calls t) (lessen-at t) lessen.Post
   returns-3 c = less-joined (c .before .before .before .before .before .joins .ensures (c .before .before .before .before .if5 .taken)) (c .before .before .lessen2 .ensures)
 
-  -- src/lib.rt:242:9
   pub head-requires : lts.Need-head-requires (calls t) (lessen-at t) lessen.Post
   head-requires c κs = c .before .before .before .before .before .before .before .before .pre .1
 
-  -- src/lib.rt:243:5
   pub plain-requires : lts.Need-plain-requires (calls t) (lessen-at t) lessen.Post
   plain-requires c κs = (omega (arith, c .before .before .before .before .before .before .before .before .before .before .before .before .pre .0), (record { here = c .before .before .before .before .before .before .before .before .if1 .left; is = refl }, asks-on (c .before .before .before .before .before .before .before .before .before .before .before .before .pre .1) (c .before .before .before .head .ensures .goes)))
 
-  -- src/lib.rt:222:1
   pub same-length-3 : lts.Need-same-length-3 (calls t) (lessen-at t) lessen.Post
   same-length-3 c = c .before .before .plain .ensures .goes .long ∙ c .before .before .before .before .before .before .head .ensures .goes .long
 
-  -- src/lib.rt:222:1
   pub returns-4 : lts.Need-returns-4 (calls t) (lessen-at t) lessen.Post
   returns-4 c = less-head (c .before .before .before .before .before .before .head .ensures) (c .before .before .plain .ensures)

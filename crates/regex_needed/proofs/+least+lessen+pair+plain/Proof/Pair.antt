@@ -13,26 +13,20 @@ abbrev pub calls : ℕ → lts.Claims
 calls t = (put-reads.Asked, put-reads.Learnt, lessen-below t, lessen.Post)
 
 module _ (t : ℕ) where
-  -- src/lib.rt:277:9
   pub put-requires : lts.Need-put-requires (calls t) (pair-at t) pair.Post
   put-requires c κs = c .before .before .before .before .pre .1 .1 .0 .place
 
-  -- src/lib.rt:278:26
   pub add-lessen : lts.Need-add-lessen (calls t) (pair-at t) pair.Post
   add-lessen c = omega (arith, c .before .before .before .before .before .before .before .pre .1 .0 .here, c .before .before .before .before .before .before .before .good .0)
 
-  -- src/lib.rt:278:9
   pub lessen-requires : lts.Need-lessen-requires (calls t) (pair-at t) pair.Post
   lessen-requires c κs = (omega (arith, c .before .before .before .before .before .before .before .before .pre .0, c .before .before .before .before .before .before .before .before .pre .1 .0 .here), asks-on (c .before .before .before .before .before .before .before .before .pre .1 .1 .0) (c .before .before .before .put .ensures .goes))
 
-  -- src/lib.rt:281:5
   pub lessen-requires-2 : lts.Need-lessen-requires-2 (calls t) (pair-at t) pair.Post
   lessen-requires-2 c κs = (omega (arith, c .before .before .before .before .before .before .before .before .before .before .before .before .pre .0, c .before .before .before .before .before .before .before .before .before .before .before .before .pre .1 .0 .here, c .before .before .before .lessen .ensures .from), asks-on (c .before .before .before .before .before .before .before .before .before .before .before .before .pre .1 .1 .0) (goes-on (c .before .before .before .before .before .before .before .put .ensures .goes) (c .before .before .before .lessen .ensures .goes)))
 
-  -- src/lib.rt:273:1
   pub same-length : lts.Need-same-length (calls t) (pair-at t) pair.Post
   same-length c = c .before .before .lessen2 .ensures .goes .long ∙ c .before .before .before .before .before .before .lessen .ensures .goes .long ∙ c .before .before .before .before .before .before .before .before .before .before .put .ensures .goes .long
 
-  -- src/lib.rt:273:1
   pub returns : lts.Need-returns (calls t) (pair-at t) pair.Post
   returns c = plain-pair (c .before .before .before .before .before .before .before .before .before .before .before .before .before .before .before .pre .1 .0) (c .before .before .before .before .before .before .before .before .before .before .put .ensures) (c .before .before .before .before .before .before .lessen .ensures) (c .before .before .lessen2 .ensures) (c .before .before .before .before .before .before .before .before .before .before .before .before .before .before .before .pre .1 .1 .1)

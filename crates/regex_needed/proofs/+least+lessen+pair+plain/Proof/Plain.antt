@@ -18,122 +18,92 @@ abbrev pub calls : ℕ → lts.Claims
 calls t = (same-reads.Asked, same-reads.Learnt, pair-below t, pair.Post, misses-reads.Asked, misses-reads.Learnt, nothing-reads.Asked, nothing-reads.Learnt, lessen-below t, lessen.Post, least-below t, least.Post)
 
 module _ (t : ℕ) where
-  -- src/lib.rt:252:9
   pub same-requires : lts.Need-same-requires (calls t) (plain-at t) plain.Post
   same-requires c κs = (c .before .before .before .before .before .pre .1 .0 .here, c .before .before .before .before .before .pre .1 .1)
 
-  -- src/lib.rt:252:9
   pub same-length : lts.Need-same-length (calls t) (plain-at t) plain.Post
   same-length c = c .before .before .same .ensures .goes .long
 
-  -- src/lib.rt:252:9
   pub returns : lts.Need-returns (calls t) (plain-at t) plain.Post
   returns c = c .before .before .same .ensures
 
-  -- src/lib.rt:255:9
   pub pair-requires : lts.Need-pair-requires (calls t) (plain-at t) plain.Post
   pair-requires c κs = (omega (arith, c .before .before .before .before .before .before .pre .0), (c .before .before .before .before .before .before .pre .1 .0, (c .before .before .before .before .before .before .pre .1 .1, (c .before .before .if1 .left, c .before .if2 .taken))))
 
-  -- src/lib.rt:255:9
   pub same-length-2 : lts.Need-same-length-2 (calls t) (plain-at t) plain.Post
   same-length-2 c = c .before .before .pair .ensures .goes .long
 
-  -- src/lib.rt:255:9
   pub returns-2 : lts.Need-returns-2 (calls t) (plain-at t) plain.Post
   returns-2 c = c .before .before .pair .ensures
 
-  -- src/lib.rt:257:8
   pub sub-if3 : lts.Need-sub-if3 (calls t) (plain-at t) plain.Post
   sub-if3 c = omega (arith, c .before .before .before .before .before .pre .1 .0 .here)
 
-  -- src/lib.rt:258:9
   pub same-requires-2 : lts.Need-same-requires-2 (calls t) (plain-at t) plain.Post
   same-requires-2 c κs = (c .before .before .before .before .before .before .before .pre .1 .0 .here, c .before .before .before .before .before .before .before .pre .1 .1)
 
-  -- src/lib.rt:258:9
   pub same-length-3 : lts.Need-same-length-3 (calls t) (plain-at t) plain.Post
   same-length-3 c = c .before .before .same2 .ensures .goes .long
 
-  -- src/lib.rt:258:9
   pub returns-3 : lts.Need-returns-3 (calls t) (plain-at t) plain.Post
   returns-3 c = c .before .before .same2 .ensures
 
-  -- src/lib.rt:260:8
   pub misses-requires : lts.Need-misses-requires (calls t) (plain-at t) plain.Post
   misses-requires c κs = search needs
 
-  -- src/lib.rt:261:9
   pub nothing-requires : lts.Need-nothing-requires (calls t) (plain-at t) plain.Post
   nothing-requires c κs = (c .before .before .misses .ensures (c .before .if4 .taken), c .before .before .before .before .before .before .before .before .before .pre .1 .1)
 
-  -- src/lib.rt:261:9
   pub same-length-4 : lts.Need-same-length-4 (calls t) (plain-at t) plain.Post
   same-length-4 c = c .before .before .nothing .ensures .goes .long
 
-  -- src/lib.rt:261:9
   pub returns-4 : lts.Need-returns-4 (calls t) (plain-at t) plain.Post
   returns-4 c = c .before .before .nothing .ensures
 
-  -- src/lib.rt:264:29
   pub add-lessen : lts.Need-add-lessen (calls t) (plain-at t) plain.Post
   add-lessen c = omega (arith, c .before .before .before .before .before .before .before .before .before .pre .1 .0 .here, c .before .before .before .before .before .before .before .before .before .good .0)
 
-  -- src/lib.rt:264:42
   pub add-lessen-2 : lts.Need-add-lessen-2 (calls t) (plain-at t) plain.Post
   add-lessen-2 c = omega (arith, c .before .before .before .before .before .before .before .before .before .pre .1 .0 .here, c .before .before .before .before .before .before .before .before .before .good .0)
 
-  -- src/lib.rt:264:37
   pub mul-lessen : lts.Need-mul-lessen (calls t) (plain-at t) plain.Post
   mul-lessen c = omega (arith, c .before .before .before .before .before .before .before .before .before .pre .1 .0 .here, c .before .before .before .if3 .left, c .before .before .before .before .before .before .before .before .before .good .0)
 
-  -- src/lib.rt:264:37
   pub shared-slice-read-lessen : lts.Need-shared-slice-read-lessen (calls t) (plain-at t) plain.Post
   shared-slice-read-lessen c = omega (arith, c .before .before .before .before .before .before .before .before .before .before .pre .1 .0 .here, c .before .before .before .before .if3 .left)
 
-  -- src/lib.rt:264:56
   pub add-lessen-3 : lts.Need-add-lessen-3 (calls t) (plain-at t) plain.Post
   add-lessen-3 c = omega (arith, c .before .before .before .before .before .before .before .before .before .before .pre .1 .0 .here, c .before .before .before .before .before .before .before .before .before .before .good .0)
 
-  -- src/lib.rt:264:51
   pub mul-lessen-2 : lts.Need-mul-lessen-2 (calls t) (plain-at t) plain.Post
   mul-lessen-2 c = omega (arith, c .before .before .before .before .before .before .before .before .before .before .pre .1 .0 .here, c .before .before .before .before .if3 .left, c .before .before .before .before .before .before .before .before .before .before .good .0)
 
-  -- src/lib.rt:264:51
   pub shared-slice-read-lessen-2 : lts.Need-shared-slice-read-lessen-2 (calls t) (plain-at t) plain.Post
   shared-slice-read-lessen-2 c = omega (arith, c .before .before .before .before .before .before .before .before .before .before .before .pre .1 .0 .here, c .before .before .before .before .before .if3 .left)
 
-  -- src/lib.rt:264:9
   pub lessen-requires : lts.Need-lessen-requires (calls t) (plain-at t) plain.Post
   lessen-requires c κs = (omega (arith, c .before .before .before .before .before .before .before .before .before .before .before .before .pre .0, c .before .before .before .before .before .before .before .before .before .before .before .before .pre .1 .0 .here), c .before .before .before .before .before .before .before .before .before .before .before .before .pre .1 .1)
 
-  -- src/lib.rt:264:9
   pub same-length-5 : lts.Need-same-length-5 (calls t) (plain-at t) plain.Post
   same-length-5 c = c .before .before .lessen .ensures .goes .long
 
-  -- src/lib.rt:264:9
   pub returns-5 : lts.Need-returns-5 (calls t) (plain-at t) plain.Post
   returns-5 c = plain-counted (record { here = c .before .before .before .before .before .before .before .before .before .before .before .before .before .before .before .pre .1 .0 .here; is = c .before .before .before .before .before .before .before .before .before .before .before .before .before .before .before .pre .1 .0 .is ∙ c .before .before .before .before .before .before .if5 .taken }) refl refl (c .before .before .lessen .ensures)
 
-  -- src/lib.rt:267:9
   pub least-requires : lts.Need-least-requires (calls t) (plain-at t) plain.Post
   least-requires c κs = (omega (arith, c .before .before .before .before .before .before .before .before .before .before .before .pre .0), (record { here = c .before .before .before .before .before .before .before .before .before .before .before .pre .1 .0 .here; is = c .before .before .before .before .before .before .before .before .before .before .before .pre .1 .0 .is ∙ c .before .if6 .taken }, (omega (arith, c .before .before .before .before .before .before .before .before .before .before .before .pre .1 .0 .here, c .before .before .before .before .before .if3 .left), c .before .before .before .before .before .before .before .before .before .before .before .pre .1 .1)))
 
-  -- src/lib.rt:267:9
   pub same-length-6 : lts.Need-same-length-6 (calls t) (plain-at t) plain.Post
   same-length-6 c = c .before .before .least .ensures .goes .long
 
-  -- src/lib.rt:267:9
   pub returns-6 : lts.Need-returns-6 (calls t) (plain-at t) plain.Post
   returns-6 c = c .before .before .least .ensures
 
-  -- src/lib.rt:269:5
   pub same-requires-3 : lts.Need-same-requires-3 (calls t) (plain-at t) plain.Post
   same-requires-3 c κs = (c .before .before .before .before .before .before .before .before .before .before .before .pre .1 .0 .here, c .before .before .before .before .before .before .before .before .before .before .before .pre .1 .1)
 
-  -- src/lib.rt:247:1
   pub same-length-7 : lts.Need-same-length-7 (calls t) (plain-at t) plain.Post
   same-length-7 c = c .before .before .same3 .ensures .goes .long
 
-  -- src/lib.rt:247:1
   pub returns-7 : lts.Need-returns-7 (calls t) (plain-at t) plain.Post
   returns-7 c = c .before .before .same3 .ensures

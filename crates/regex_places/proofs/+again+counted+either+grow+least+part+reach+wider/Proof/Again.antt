@@ -2,7 +2,6 @@
 use Rattle.regex_places.proofs.Walks.{rows-start, rows-on, rows-none, rows-end, fits-on}
 use Rattle.regex_places.specs.Places.{Left, rows}
 use mathlib.Core.Path.{_∙_}
-use borrow.Author.Needs.{needs}
 use native.Mathlib.Omega.{arith}
 use Rattle.regex_places.proofs.+again+counted+either+grow+least+part+reach+wider.Lts-again as lts
 use Prim.Native.Nat.{ℕ}
@@ -21,46 +20,35 @@ abbrev pub μ-loop : lts.MeasureT-loop
 μ-loop code at n text set₀ left₀ set left = left
 
 module _ (t : ℕ) where
-  -- src/lib.rt:209:5
   pub loop-holds : lts.Need-loop-holds (calls t) (again-at t) again.Post Inv-loop μ-loop
   loop-holds c = rows-start (c .before .before .before .args .n)
 
-  -- src/lib.rt:210:27
   pub add-none : lts.Need-add-none (calls t) (again-at t) again.Post Inv-loop μ-loop
   add-none c = omega (arith, c .before .before .before .before .before .before .pre .1 .short)
 
-  -- src/lib.rt:210:12
   pub none-requires : lts.Need-none-requires (calls t) (again-at t) again.Post Inv-loop μ-loop
   none-requires c κs = omega (arith, c .before .before .before .before .before .before .pre .1 .room, c .before .before .loop .inv .long)
 
-  -- src/lib.rt:211:13
   pub same-length : lts.Need-same-length (calls t) (again-at t) again.Post Inv-loop μ-loop
   same-length c = c .before .before .before .before .loop .inv .long
 
-  -- src/lib.rt:211:13
   pub returns : lts.Need-returns (calls t) (again-at t) again.Post Inv-loop μ-loop
   returns c = rows-none (c .before .before .before .before .before .before .before .before .args .n) (c .before .before .before .before .loop .left) (c .before .before .before .before .loop .inv) (c .before .none .ensures (c .if1 .taken))
 
-  -- src/lib.rt:213:9
   pub reach-requires : lts.Need-reach-requires (calls t) (again-at t) again.Post Inv-loop μ-loop
   reach-requires c κs = (omega (arith, c .before .before .before .before .before .before .before .before .before .pre .0), fits-on (c .before .before .before .before .before .before .before .before .before .pre .1) (c .before .before .before .before .before .loop .inv .long))
 
-  -- src/lib.rt:214:9
   pub sub-left : lts.Need-sub-left (calls t) (again-at t) again.Post Inv-loop μ-loop
   sub-left c = omega (arith, c .before .before .before .before .before .before .before .loop-test .taken)
 
-  -- src/lib.rt:209:5
   pub loop-less : lts.Need-loop-less (calls t) (again-at t) again.Post Inv-loop μ-loop
   loop-less c = omega (arith, c .before .before .before .before .before .before .before .loop-test .taken)
 
-  -- src/lib.rt:209:5
   pub loop-again : lts.Need-loop-again (calls t) (again-at t) again.Post Inv-loop μ-loop
   loop-again c = rows-on (c .before .before .before .before .before .before .before .before .before .before .before .before .args .n) (c .before .before .before .before .before .before .before .before .loop .left) (c .before .before .before .before .before .before .before .loop-test .taken) (c .before .before .before .before .before .before .before .before .loop .inv) (c .before .before .reach .ensures)
 
-  -- src/lib.rt:204:1
   pub same-length-2 : lts.Need-same-length-2 (calls t) (again-at t) again.Post Inv-loop μ-loop
   same-length-2 c = c .before .loop .inv .long
 
-  -- src/lib.rt:204:1
   pub returns-2 : lts.Need-returns-2 (calls t) (again-at t) again.Post Inv-loop μ-loop
   returns-2 c = rows-end (c .before .before .before .before .before .args .n) (c .before .loop .left) (c .loop-test .left) (c .before .loop .inv)

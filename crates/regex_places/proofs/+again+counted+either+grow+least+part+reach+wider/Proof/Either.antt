@@ -16,54 +16,41 @@ abbrev pub calls : ℕ → lts.Claims
 calls t = (copy-reads.Asked, copy-reads.Learnt, reach-below t, reach.Post, skip-reads.Asked, skip-reads.Learnt, join-reads.Asked, join-reads.Learnt)
 
 module _ (t : ℕ) where
-  -- src/lib.rt:169:13
   pub add-n : lts.Need-add-n (calls t) (either-at t) either.Post
   add-n c = omega (arith, c .before .before .before .pre .1 .1 .short)
 
-  -- src/lib.rt:171:23
   pub slice-aggregate-copy : lts.Need-slice-aggregate-copy (calls t) (either-at t) either.Post
   slice-aggregate-copy c = search needs
 
-  -- src/lib.rt:171:5
   pub copy-requires : lts.Need-copy-requires (calls t) (either-at t) either.Post
   copy-requires c κs = (omega (arith, c .before .before .before .before .before .pre .1 .1 .room), omega (arith, c .before .before .before .before .before .pre .1 .1 .short))
 
-  -- src/lib.rt:172:17
   pub add-reach : lts.Need-add-reach (calls t) (either-at t) either.Post
   add-reach c = omega (arith, c .before .before .before .before .before .before .before .pre .1 .0 .here, c .before .before .before .before .before .before .before .good .0)
 
-  -- src/lib.rt:172:5
   pub reach-requires : lts.Need-reach-requires (calls t) (either-at t) either.Post
   reach-requires c κs = (omega (arith, c .before .before .before .before .before .before .before .before .pre .0, c .before .before .before .before .before .before .before .before .pre .1 .0 .here), c .before .before .before .before .before .before .before .before .pre .1 .1)
 
-  -- src/lib.rt:173:24
   pub add-skip : lts.Need-add-skip (calls t) (either-at t) either.Post
   add-skip c = omega (arith, c .before .before .before .before .before .before .before .before .before .before .before .pre .1 .0 .here, c .before .before .before .before .before .before .before .before .before .before .before .good .0)
 
-  -- src/lib.rt:173:9
   pub skip-requires : lts.Need-skip-requires (calls t) (either-at t) either.Post
   skip-requires c κs = search needs
 
-  -- src/lib.rt:174:26
   pub slice-aggregate-reach : lts.Need-slice-aggregate-reach (calls t) (either-at t) either.Post
   slice-aggregate-reach c = sym (c .before .before .before .before .before .before .before .copy .ensures .long)
 
-  -- src/lib.rt:174:5
   pub reach-requires-2 : lts.Need-reach-requires-2 (calls t) (either-at t) either.Post
   reach-requires-2 c κs = (omega (arith, c .before .before .before .before .before .before .before .before .before .before .before .before .before .pre .0, c .before .before .before .before .before .before .before .before .before .before .before .before .before .pre .1 .0 .here, c .before .skip .ensures .from), fits-all (c .before .before .before .before .before .before .before .before .before .before .before .before .before .pre .1 .1) (c .before .before .before .before .before .before .before .copy .ensures .long))
 
-  -- src/lib.rt:175:15
   pub slice-aggregate-join : lts.Need-slice-aggregate-join (calls t) (either-at t) either.Post
   slice-aggregate-join c = sym (c .before .before .before .reach2 .ensures .long ∙ c .before .before .before .before .before .before .before .before .before .before .before .copy .ensures .long)
 
-  -- src/lib.rt:175:5
   pub join-requires : lts.Need-join-requires (calls t) (either-at t) either.Post
   join-requires c κs = (omega (arith, c .before .before .before .before .before .before .before .before .before .before .before .before .before .before .before .before .before .pre .1 .1 .room, c .before .before .before .before .before .before .before .before .reach .ensures .long), omega (arith, c .before .before .before .before .before .before .before .before .before .before .before .before .before .before .before .before .before .pre .1 .1 .short, c .before .before .before .reach2 .ensures .long, c .before .before .before .before .before .before .before .before .before .before .before .copy .ensures .long))
 
-  -- src/lib.rt:165:1
   pub same-length : lts.Need-same-length (calls t) (either-at t) either.Post
   same-length c = c .before .before .join .ensures .long ∙ c .before .before .before .before .before .before .before .before .before .before .before .reach .ensures .long
 
-  -- src/lib.rt:165:1
   pub returns : lts.Need-returns (calls t) (either-at t) either.Post
   returns c = by-either (c .before .before .before .before .before .before .before .before .before .before .before .before .before .before .before .before .before .before .before .before .pre .1 .0) refl (c .before .before .before .before .before .before .before .before .before .before .before .before .before .before .copy .ensures) (c .before .before .before .before .before .before .before .before .before .before .before .reach .ensures) (c .before .before .before .before .before .before .before .before .skip .ensures) (c .before .before .before .before .before .before .reach2 .ensures) (c .before .before .join .ensures)

@@ -2,7 +2,6 @@
 use Rattle.regex_places.proofs.Walks.{most-start, most-on, most-still, most-end, fits-on, not-so}
 use Rattle.regex_places.specs.Places.{Left, most}
 use mathlib.Core.Path.{_∙_}
-use borrow.Author.Needs.{needs}
 use native.Mathlib.Omega.{arith}
 use Rattle.regex_places.proofs.+again+counted+either+grow+least+part+reach+wider.Lts-grow as lts
 use Prim.Native.Nat.{ℕ}
@@ -20,38 +19,29 @@ abbrev pub μ-loop : lts.MeasureT-loop
 μ-loop code at n text set₀ left₀ set left = left
 
 module _ (t : ℕ) where
-  -- src/lib.rt:224:5
   pub loop-holds : lts.Need-loop-holds (calls t) (grow-at t) grow.Post Inv-loop μ-loop
   loop-holds c = most-start (c .before .before .before .args .n)
 
-  -- src/lib.rt:225:13
   pub wider-requires : lts.Need-wider-requires (calls t) (grow-at t) grow.Post Inv-loop μ-loop
   wider-requires c κs = (omega (arith, c .before .before .before .before .before .before .pre .0), fits-on (c .before .before .before .before .before .before .pre .1) (c .before .before .loop .inv .long))
 
-  -- src/lib.rt:226:13
   pub same-length : lts.Need-same-length (calls t) (grow-at t) grow.Post Inv-loop μ-loop
   same-length c = c .before .before .before .wider .ensures .long ∙ c .before .before .before .before .before .before .loop .inv .long
 
-  -- src/lib.rt:226:13
   pub returns : lts.Need-returns (calls t) (grow-at t) grow.Post Inv-loop μ-loop
   returns c = most-still (c .before .before .before .before .before .before .before .before .before .before .args .n) (c .before .before .before .before .before .before .loop .inv) (c .before .before .before .wider .ensures) (not-so _ (c .if1 .taken))
 
-  -- src/lib.rt:228:9
   pub sub-left : lts.Need-sub-left (calls t) (grow-at t) grow.Post Inv-loop μ-loop
   sub-left c = omega (arith, c .before .before .before .before .before .loop-test .taken)
 
-  -- src/lib.rt:224:5
   pub loop-less : lts.Need-loop-less (calls t) (grow-at t) grow.Post Inv-loop μ-loop
   loop-less c = omega (arith, c .before .before .before .before .before .loop-test .taken)
 
-  -- src/lib.rt:224:5
   pub loop-again : lts.Need-loop-again (calls t) (grow-at t) grow.Post Inv-loop μ-loop
   loop-again c = most-on (c .before .before .before .before .before .before .before .before .before .before .args .n) (c .before .before .before .before .before .loop-test .taken) (c .before .before .before .before .before .before .loop .inv) (c .before .before .before .wider .ensures)
 
-  -- src/lib.rt:219:1
   pub same-length-2 : lts.Need-same-length-2 (calls t) (grow-at t) grow.Post Inv-loop μ-loop
   same-length-2 c = c .before .loop .inv .long
 
-  -- src/lib.rt:219:1
   pub returns-2 : lts.Need-returns-2 (calls t) (grow-at t) grow.Post Inv-loop μ-loop
   returns-2 c = most-end (c .before .before .before .before .before .args .n) (c .loop-test .left) (c .before .loop .inv)

@@ -15,42 +15,32 @@ abbrev pub calls : ℕ → lts.Claims
 calls t = (wide-reads.Asked, wide-reads.Learnt, again-below t, again.Post, grow-below t, grow.Post)
 
 module _ (t : ℕ) where
-  -- src/lib.rt:198:24
   pub add-wide : lts.Need-add-wide (calls t) (least-at t) least.Post
   add-wide c = omega (arith, c .before .before .before .pre .1 .1 .0, c .before .before .before .good .0)
 
-  -- src/lib.rt:198:19
   pub mul-wide : lts.Need-mul-wide (calls t) (least-at t) least.Post
   mul-wide c = omega (arith, c .before .before .before .pre .1 .1 .0, c .before .before .before .good .0)
 
-  -- src/lib.rt:198:19
   pub shared-slice-read-wide : lts.Need-shared-slice-read-wide (calls t) (least-at t) least.Post
   shared-slice-read-wide c = omega (arith, c .before .before .before .before .pre .1 .1 .0)
 
-  -- src/lib.rt:198:9
   pub wide-requires : lts.Need-wide-requires (calls t) (least-at t) least.Post
   wide-requires c κs = search needs
 
-  -- src/lib.rt:199:17
   pub add-again : lts.Need-add-again (calls t) (least-at t) least.Post
   add-again c = omega (arith, c .before .before .before .before .before .pre .1 .1 .0, c .before .before .before .before .before .good .0)
 
-  -- src/lib.rt:199:5
   pub again-requires : lts.Need-again-requires (calls t) (least-at t) least.Post
   again-requires c κs = (omega (arith, c .before .before .before .before .before .before .pre .0, c .before .before .before .before .before .before .pre .1 .1 .0), c .before .before .before .before .before .before .pre .1 .1 .1)
 
-  -- src/lib.rt:200:16
   pub add-grow : lts.Need-add-grow (calls t) (least-at t) least.Post
   add-grow c = omega (arith, c .before .before .before .before .before .before .before .before .before .pre .1 .1 .0, c .before .before .before .before .before .before .before .before .before .good .0)
 
-  -- src/lib.rt:200:5
   pub grow-requires : lts.Need-grow-requires (calls t) (least-at t) least.Post
   grow-requires c κs = (omega (arith, c .before .before .before .before .before .before .before .before .before .before .pre .0, c .before .before .before .before .before .before .before .before .before .before .pre .1 .1 .0), fits-on (c .before .before .before .before .before .before .before .before .before .before .pre .1 .1 .1) (c .before .before .before .again .ensures .long))
 
-  -- src/lib.rt:194:1
   pub same-length : lts.Need-same-length (calls t) (least-at t) least.Post
   same-length c = c .before .before .grow .ensures .long ∙ c .before .before .before .before .before .before .again .ensures .long
 
-  -- src/lib.rt:194:1
   pub returns : lts.Need-returns (calls t) (least-at t) least.Post
   returns c = by-least (c .before .before .before .before .before .before .before .before .before .before .before .before .before .pre .1 .0) (c .before .before .before .before .before .before .before .before .wide .ensures) refl (c .before .before .before .before .before .before .again .ensures) (c .before .before .grow .ensures)

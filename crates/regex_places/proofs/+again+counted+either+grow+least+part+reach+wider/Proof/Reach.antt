@@ -24,50 +24,38 @@ abbrev pub μ-loop : lts.MeasureT-loop
 μ-loop code at text set₀ p₀ row₀ set p row = length code - p
 
 module _ (t : ℕ) where
-  -- src/lib.rt:123:9
   pub is-row-requires : lts.Need-is-row-requires (calls t) (reach-at t) reach.Post Inv-loop μ-loop
   is-row-requires c κs = search needs
 
-  -- src/lib.rt:124:5
   pub loop-holds : lts.Need-loop-holds (calls t) (reach-at t) reach.Post Inv-loop μ-loop
   loop-holds c = (row-start, c .is-row .ensures)
 
-  -- src/lib.rt:125:21
   pub add-reach : lts.Need-add-reach (calls t) (reach-at t) reach.Post Inv-loop μ-loop
   add-reach c = omega (arith, c .before .loop .inv .1 .yes (c .loop-test .taken) .here, c .before .before .before .before .before .before .good .0)
 
-  -- src/lib.rt:125:9
   pub reach-requires : lts.Need-reach-requires (calls t) (reach-at t) reach.Post Inv-loop μ-loop
   reach-requires c κs = (omega (arith, c .before .before .before .before .before .before .before .pre .0, c .before .before .loop .inv .0 .from, c .before .before .loop .inv .1 .yes (c .before .loop-test .taken) .here), fits-on (c .before .before .before .before .before .before .before .pre .1) (c .before .before .loop .inv .0 .long))
 
-  -- src/lib.rt:126:24
   pub add-skip : lts.Need-add-skip (calls t) (reach-at t) reach.Post Inv-loop μ-loop
   add-skip c = omega (arith, c .before .before .before .before .before .loop .inv .1 .yes (c .before .before .before .before .loop-test .taken) .here, c .before .before .before .before .before .before .before .before .before .before .good .0)
 
-  -- src/lib.rt:126:9
   pub skip-requires : lts.Need-skip-requires (calls t) (reach-at t) reach.Post Inv-loop μ-loop
   skip-requires c κs = search needs
 
-  -- src/lib.rt:127:9
   pub is-row-requires-2 : lts.Need-is-row-requires-2 (calls t) (reach-at t) reach.Post Inv-loop μ-loop
   is-row-requires-2 c κs = search needs
 
-  -- src/lib.rt:124:5
   pub loop-less : lts.Need-loop-less (calls t) (reach-at t) reach.Post Inv-loop μ-loop
   loop-less c = omega (arith, c .before .skip .ensures .from, c .before .before .before .before .before .before .before .loop .inv .1 .yes (c .before .before .before .before .before .before .loop-test .taken) .here)
 
-  -- src/lib.rt:124:5
   pub loop-again : lts.Need-loop-again (calls t) (reach-at t) reach.Post Inv-loop μ-loop
   loop-again c = (row-on (c .before .before .before .before .before .before .before .loop .inv .0) (c .before .before .before .before .before .before .before .loop .inv .1 .yes (c .before .before .before .before .before .before .loop-test .taken)) (c .before .before .before .before .reach .ensures) (c .before .skip .ensures), c .is-row2 .ensures)
 
-  -- src/lib.rt:129:5
   pub part-requires : lts.Need-part-requires (calls t) (reach-at t) reach.Post Inv-loop μ-loop
   part-requires c κs = (omega (arith, c .before .before .before .before .before .before .before .pre .0, c .before .before .loop .inv .0 .from), (row-off (c .before .before .loop .inv .1) (c .before .loop-test .left), fits-on (c .before .before .before .before .before .before .before .pre .1) (c .before .before .loop .inv .0 .long)))
 
-  -- src/lib.rt:118:1
   pub same-length : lts.Need-same-length (calls t) (reach-at t) reach.Post Inv-loop μ-loop
   same-length c = c .before .before .part .ensures .long ∙ c .before .before .before .before .before .loop .inv .0 .long
 
-  -- src/lib.rt:118:1
   pub returns : lts.Need-returns (calls t) (reach-at t) reach.Post Inv-loop μ-loop
   returns c = row-end (c .before .before .before .before .before .loop .inv .0) (c .before .before .part .ensures)

@@ -15,38 +15,29 @@ abbrev pub calls : ℕ → lts.Claims
 calls t = (copy-reads.Asked, copy-reads.Learnt, reach-below t, reach.Post, join-reads.Asked, join-reads.Learnt)
 
 module _ (t : ℕ) where
-  -- src/lib.rt:237:13
   pub add-n : lts.Need-add-n (calls t) (wider-at t) wider.Post
   add-n c = omega (arith, c .before .before .before .pre .1 .short)
 
-  -- src/lib.rt:239:23
   pub slice-aggregate-copy : lts.Need-slice-aggregate-copy (calls t) (wider-at t) wider.Post
   slice-aggregate-copy c = search needs
 
-  -- src/lib.rt:239:5
   pub copy-requires : lts.Need-copy-requires (calls t) (wider-at t) wider.Post
   copy-requires c κs = (omega (arith, c .before .before .before .before .before .pre .1 .room), omega (arith, c .before .before .before .before .before .pre .1 .short))
 
-  -- src/lib.rt:240:27
   pub slice-aggregate-reach : lts.Need-slice-aggregate-reach (calls t) (wider-at t) wider.Post
   slice-aggregate-reach c = sym (c .before .before .copy .ensures .long)
 
-  -- src/lib.rt:240:5
   pub reach-requires : lts.Need-reach-requires (calls t) (wider-at t) wider.Post
   reach-requires c κs = (omega (arith, c .before .before .before .before .before .before .before .before .pre .0), fits-all (c .before .before .before .before .before .before .before .before .pre .1) (c .before .before .copy .ensures .long))
 
-  -- src/lib.rt:241:15
   pub slice-aggregate-join : lts.Need-slice-aggregate-join (calls t) (wider-at t) wider.Post
   slice-aggregate-join c = sym (c .before .before .before .reach .ensures .long ∙ c .before .before .before .before .before .before .copy .ensures .long)
 
-  -- src/lib.rt:241:5
   pub join-requires : lts.Need-join-requires (calls t) (wider-at t) wider.Post
   join-requires c κs = (omega (arith, c .before .before .before .before .before .before .before .before .before .before .before .before .pre .1 .room), omega (arith, c .before .before .before .before .before .before .before .before .before .before .before .before .pre .1 .short, c .before .before .before .reach .ensures .long, c .before .before .before .before .before .before .copy .ensures .long))
 
-  -- src/lib.rt:233:1
   pub same-length : lts.Need-same-length (calls t) (wider-at t) wider.Post
   same-length c = c .before .before .join .ensures .long
 
-  -- src/lib.rt:233:1
   pub returns : lts.Need-returns (calls t) (wider-at t) wider.Post
   returns c = by-wider refl (c .before .before .before .before .before .before .before .before .before .copy .ensures) (c .before .before .before .before .before .before .reach .ensures) (c .before .before .join .ensures)

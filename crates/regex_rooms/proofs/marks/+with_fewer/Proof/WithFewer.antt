@@ -10,7 +10,6 @@ abbrev pub calls : ℕ → lts.Claims
 calls t = (with-fewer-below t, with-fewer.Post, test-less-reads.Asked, test-less-reads.Learnt)
 
 module _ (t : ℕ) where
-
   pub sub-with-fewer : lts.Need-sub-with-fewer (calls t) (with-fewer-at t) with-fewer.Post
   sub-with-fewer c = search needs
 

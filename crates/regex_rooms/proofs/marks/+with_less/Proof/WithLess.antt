@@ -10,7 +10,6 @@ abbrev pub calls : ℕ → lts.Claims
 calls t = (with-less-below t, with-less.Post, test-less-reads.Asked, test-less-reads.Learnt)
 
 module _ (t : ℕ) where
-
   pub sub-with-less : lts.Need-sub-with-less (calls t) (with-less-at t) with-less.Post
   sub-with-less c = search needs
 
