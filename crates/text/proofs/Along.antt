@@ -205,10 +205,6 @@ placed-utf8 s h e p = along-utf8 (length s) s (omega arith) 0 0 0 (omega arith) 
 pub placed-join : (s : List ℕ) (a b c : ℕ) → PlacedIn s a b → PlacedIn s b c → PlacedIn s a c
 placed-join s a b c p q j l h = by-test (ltb j b) (λ t. p j l (ltb-true j b t)) (λ f. q j (ltb-false j b f) h)
 
--- and of places that overlap
-pub placed-overlap : (s : List ℕ) (a b c d : ℕ) → b ≤ c → PlacedIn s a c → PlacedIn s b d → PlacedIn s a d
-placed-overlap s a b c d o p q j l h = by-test (ltb j c) (λ t. p j l (ltb-true j c t)) (λ f. let m = ltb-false j c f in q j (omega arith) h)
-
 -- the places behind some others
 pub placed-behind : (s : List ℕ) (at n m : ℕ) → PlacedIn s (at + n) (at + n + m) → PlacedIn s (at + n) (at + (n + m))
 placed-behind s at n m p j l h = p j l (omega arith)

@@ -4,7 +4,7 @@
 //   parts      equality, order and copies of parts of texts
 //   encoding   whether bytes are UTF-8, and how many scalar values a text has
 //   placed     whether a long text is UTF-8, many bytes at once
-//   blocks     the same for long texts whose characters beyond ASCII have one length
+//   blocks     the tests of long texts, by the lengths of their characters beyond ASCII
 //   brackets   the bracket count of a query
 mod blocks;
 pub mod brackets;
