@@ -1,12 +1,12 @@
 // Compile: from any bytes to a plan and a pool, or the right refusal.
 // The plan and the pool are written in rooms of this crate's own; only what is known to be right, and to fit, is copied into the lent rooms.
-pub mod refusals;
+pub mod numbers;
 pub mod rooms;
 
 ghost use mathlib.Core.Path.{_≡_};
 ghost use Rattle.definition.specs.Outcomes.{CompileOutcome, Compiles};
 ghost use Rattle.compile.specs.Steps.{outcome};
-use refusals::refusal_of;
+use numbers::refusal_of;
 use rooms::BRIEF;
 use rooms::NO_BYTE;
 use rooms::SHORT;

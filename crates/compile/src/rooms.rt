@@ -1,7 +1,7 @@
 // A query read in a room of its own, and its plan and pool copied where they are wanted.
 use crate::Compiled;
 use crate::Refusal;
-use crate::refusals::refusal_of;
+use crate::numbers::refusal_of;
 use parser::query as parse_query;
 use parser_items::BEYOND;
 use parser_items::State;

@@ -1,6 +1,6 @@
 // The numbers that document 01 gives each answer. Fields that a refusal's row does not name are 0.
 use compile::Compiled;
-use compile::refusals::number_of;
+use compile::numbers::number_of;
 use run::Ran;
 use select::Selection;
 use table::TableChecked;

@@ -8,7 +8,7 @@ ghost use Rattle.compile.specs.Steps.{Rooms};
 ghost use Rattle.compile_unique.specs.Readings.{OneSelect};
 ghost use Rattle.select.specs.Selections.{selected};
 use compile::Refusal;
-use compile::refusals::refusal_of;
+use compile::numbers::refusal_of;
 use compile::rooms::BRIEF;
 use compile::rooms::BRIEF_PLAN_ROOM;
 use compile::rooms::BRIEF_POOL_ROOM;

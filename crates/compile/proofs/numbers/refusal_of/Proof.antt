@@ -1,11 +1,11 @@
--- `compile::refusals::refusal_of` meets its contract: what is none of 1 to 6 is 8.
+-- `compile::numbers::refusal_of` meets its contract: what is none of 1 to 6 is 8.
 use mathlib.Core.Path.{_≡_}
 use mathlib.Core.Logic.{_≢_}
 use Prim.Native.Nat.{ℕ, _≤_, _<_}
 use native.Mathlib.Omega.{arith}
 use borrow.Author.Needs.{needs}
-use Rattle.compile.proofs.refusals.refusal_of.Statement.{statement}
-use Rattle.compile.proofs.refusals.refusal_of.Tie as tie
+use Rattle.compile.proofs.numbers.refusal_of.Statement.{statement}
+use Rattle.compile.proofs.numbers.refusal_of.Tie as tie
 
 some : {n : ℕ} → 0 < n → n ≢ 1 → n ≢ 2 → n ≢ 3 → 4 ≤ n
 some a h k l = omega arith
