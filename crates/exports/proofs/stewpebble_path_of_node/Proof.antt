@@ -1,7 +1,6 @@
 -- The exported path of a node hands out what `path_of_node` answers. Assumes nothing.
 use mathlib.Core.Path.{_∙_}
 use borrow.Author.Needs.{needs}
-
 use Rattle.exports.proofs.stewpebble_path_of_node.Statement.{statement}
 use Rattle.exports.proofs.stewpebble_path_of_node.Tie as tie
 
