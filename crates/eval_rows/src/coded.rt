@@ -19,7 +19,7 @@ ghost use Rattle.eval_rows.specs.Rows.{Ready, Outside};
 // Rooms for marks, as in `regex_rooms`.
 const FEW: usize = 4096;
 
-const MOST: usize = 65535;
+const NONE: usize = 0;
 
 // Rooms for 63 states of at most so many marks, and for the marks of one. For fewer nodes than so many the expression has no states: a room is cleared first.
 const STATE_ROOM: usize = 8192;
@@ -184,7 +184,7 @@ fn with_states(
     v.at
 }
 
-// The same with more room for marks.
+// The same where the code has more marks than are kept for all texts: each text is tested in rooms of its own.
 fn with_most(
     plan: &[u8],
     pool: &[u8],
@@ -233,7 +233,7 @@ fn with_most(
     }
     let mut edges = [0u8; 1];
     let mut sets = [0u8; 1];
-    let mut marks = [0u8; MOST];
+    let mut marks = [0u8; NONE];
     let v = rows::keep(
         plan,
         pool,
@@ -297,7 +297,7 @@ pub fn by_code(
 {
     // 0 for both kinds; but LLVM cannot tell.
     let again = g.kind / NO_KIND;
-    let w = weigh(code, 0, MOST);
+    let w = weigh(code, 0, FEW);
     if has_states(w.size, i, e) {
         return with_states(
             plan,
