@@ -7,28 +7,22 @@
 //   paths   names and indices that lead to the end of a query
 //   calls   such a filter in the plan
 //   rows    one node with it, and all of them in turn
+//   coded   all of them where the expression is known
 pub mod calls;
+pub mod coded;
 pub mod paths;
 pub mod rows;
 
 use calls::Call;
-use regex_marks::weigh;
 use regex_reader::nested::Reading;
 use regex_rooms::reads;
-use regex_states::prepare;
-use rows::OUTSIDE;
-use rows::READ;
-use rows::STATES;
 use rows::UNREAD;
 ghost use mathlib.Core.Path.{_≡_};
 ghost use Prim.Native.Nat.{_+_, _*_, _≤_};
 ghost use lib.ListN.{length};
-ghost use Rattle.definition.specs.Bytes.{part};
 ghost use Rattle.eval_filters.specs.Kept.{AskTest, AskKept};
 ghost use Rattle.eval_filters.specs.Keeps.{TailAt, DoneRange};
-ghost use Rattle.regex_rooms.specs.Rooms.{scopeFor};
 ghost use Rattle.eval_rows.specs.Calls.{CallAt};
-ghost use Rattle.eval_rows.specs.Rows.{Ready, Outside};
 
 // An expression of the part has at most so many bytes.
 const LONG: usize = 1024;
@@ -40,405 +34,10 @@ const LONG_CODE: usize = 8207;
 
 const SHORT_CODE: usize = 1039;
 
-// Rooms for marks, as in `regex_rooms`.
-const FEW: usize = 4096;
-
-const MOST: usize = 65535;
-
-// Rooms for 63 states of at most so many marks, and for the marks of one. For fewer nodes than so many the expression has no states: a room is cleared first.
-const STATE_ROOM: usize = 8192;
-
-const STATE_MOST: usize = 120;
-
-const STATE_MARKS: usize = 256;
-
-const ENOUGH: usize = 8;
-
 // A byte that is no kind of a plan's item.
 const NO_KIND: u8 = 255;
 
-// The nodes from i up to e that the filter keeps, with what follows, by the code of its expression.
-fn with_few(
-    plan: &[u8],
-    pool: &[u8],
-    table: &[u8],
-    text: &[u8],
-    root: usize,
-    i: usize,
-    e: usize,
-    p: usize,
-    z: usize,
-    g: Call,
-    tail: usize,
-    rest: usize,
-    code: &[u32],
-    list: &mut [u32],
-    at: usize,
-    cap: usize,
-    again: u8,
-) -> usize
-    requires { ⌜ AskKept (now plan) (now pool) (now table) (now text) root i e rest (length (now list)) at cap ⌝ }
-    requires { ⌜ AskTest (now plan) (now pool) p z × CallAt (now plan) p z g ⌝ }
-    requires { ⌜ TailAt (now plan) rest tail × (tail ≤ 1) ⌝ }
-    requires { ⌜ Ready (scopeFor (g .kind)) (part (now pool) (g .start) (g .size)) (now code) 2 ⌝ }
-    ensures { λ r. ⌜ DoneRange (now (plan .entry)) (now (pool .entry)) (now (table .entry)) (now (text .entry)) root i e p z rest cap (now (list .entry)) at (now (list .exit)) r ⌝ }
-{
-    if 0 < again {
-        return with_few(
-            plan,
-            pool,
-            table,
-            text,
-            root,
-            i,
-            e,
-            p,
-            z,
-            g,
-            tail,
-            rest,
-            code,
-            list,
-            at,
-            cap,
-            again - 1,
-        );
-    }
-    let mut edges = [0u8; 1];
-    let mut sets = [0u8; 1];
-    let mut marks = [0u8; FEW];
-    let v = rows::keep(
-        plan,
-        pool,
-        table,
-        text,
-        root,
-        i,
-        e,
-        p,
-        z,
-        g,
-        tail,
-        rest,
-        READ,
-        code,
-        &mut edges,
-        &mut sets,
-        &mut marks,
-        list,
-        at,
-        cap,
-    );
-    v.at
-}
-
-// The same by the states of the expression, which are kept from node to node.
-fn with_states(
-    plan: &[u8],
-    pool: &[u8],
-    table: &[u8],
-    text: &[u8],
-    root: usize,
-    i: usize,
-    e: usize,
-    p: usize,
-    z: usize,
-    g: Call,
-    tail: usize,
-    rest: usize,
-    code: &[u32],
-    list: &mut [u32],
-    at: usize,
-    cap: usize,
-    again: u8,
-) -> usize
-    requires { ⌜ AskKept (now plan) (now pool) (now table) (now text) root i e rest (length (now list)) at cap ⌝ }
-    requires { ⌜ AskTest (now plan) (now pool) p z × CallAt (now plan) p z g ⌝ }
-    requires { ⌜ TailAt (now plan) rest tail × (tail ≤ 1) ⌝ }
-    requires { ⌜ Ready (scopeFor (g .kind)) (part (now pool) (g .start) (g .size)) (now code) 3 ⌝ }
-    ensures { λ r. ⌜ DoneRange (now (plan .entry)) (now (pool .entry)) (now (table .entry)) (now (text .entry)) root i e p z rest cap (now (list .entry)) at (now (list .exit)) r ⌝ }
-{
-    if 0 < again {
-        return with_states(
-            plan,
-            pool,
-            table,
-            text,
-            root,
-            i,
-            e,
-            p,
-            z,
-            g,
-            tail,
-            rest,
-            code,
-            list,
-            at,
-            cap,
-            again - 1,
-        );
-    }
-    let mut edges = [0u8; STATE_ROOM];
-    let mut sets = [0u8; STATE_ROOM];
-    let mut marks = [0u8; STATE_MARKS];
-    prepare(code, &mut edges, &mut sets);
-    let v = rows::keep(
-        plan,
-        pool,
-        table,
-        text,
-        root,
-        i,
-        e,
-        p,
-        z,
-        g,
-        tail,
-        rest,
-        STATES,
-        code,
-        &mut edges,
-        &mut sets,
-        &mut marks,
-        list,
-        at,
-        cap,
-    );
-    v.at
-}
-
-// The same with more room for marks.
-fn with_most(
-    plan: &[u8],
-    pool: &[u8],
-    table: &[u8],
-    text: &[u8],
-    root: usize,
-    i: usize,
-    e: usize,
-    p: usize,
-    z: usize,
-    g: Call,
-    tail: usize,
-    rest: usize,
-    code: &[u32],
-    list: &mut [u32],
-    at: usize,
-    cap: usize,
-    again: u8,
-) -> usize
-    requires { ⌜ AskKept (now plan) (now pool) (now table) (now text) root i e rest (length (now list)) at cap ⌝ }
-    requires { ⌜ AskTest (now plan) (now pool) p z × CallAt (now plan) p z g ⌝ }
-    requires { ⌜ TailAt (now plan) rest tail × (tail ≤ 1) ⌝ }
-    requires { ⌜ Ready (scopeFor (g .kind)) (part (now pool) (g .start) (g .size)) (now code) 2 ⌝ }
-    ensures { λ r. ⌜ DoneRange (now (plan .entry)) (now (pool .entry)) (now (table .entry)) (now (text .entry)) root i e p z rest cap (now (list .entry)) at (now (list .exit)) r ⌝ }
-{
-    if 0 < again {
-        return with_most(
-            plan,
-            pool,
-            table,
-            text,
-            root,
-            i,
-            e,
-            p,
-            z,
-            g,
-            tail,
-            rest,
-            code,
-            list,
-            at,
-            cap,
-            again - 1,
-        );
-    }
-    let mut edges = [0u8; 1];
-    let mut sets = [0u8; 1];
-    let mut marks = [0u8; MOST];
-    let v = rows::keep(
-        plan,
-        pool,
-        table,
-        text,
-        root,
-        i,
-        e,
-        p,
-        z,
-        g,
-        tail,
-        rest,
-        READ,
-        code,
-        &mut edges,
-        &mut sets,
-        &mut marks,
-        list,
-        at,
-        cap,
-    );
-    v.at
-}
-
-// Whether an expression of n marks has states for the nodes from i up to e.
-fn has_states(n: usize, i: usize, e: usize) -> bool {
-    if STATE_MOST < n {
-        return false;
-    }
-    if e < ENOUGH {
-        return false;
-    }
-    i <= e - ENOUGH
-}
-
-// The same in rooms as small as they may be.
-fn by_code(
-    plan: &[u8],
-    pool: &[u8],
-    table: &[u8],
-    text: &[u8],
-    root: usize,
-    i: usize,
-    e: usize,
-    p: usize,
-    z: usize,
-    g: Call,
-    tail: usize,
-    rest: usize,
-    code: &[u32],
-    list: &mut [u32],
-    at: usize,
-    cap: usize,
-) -> usize
-    requires { ⌜ AskKept (now plan) (now pool) (now table) (now text) root i e rest (length (now list)) at cap ⌝ }
-    requires { ⌜ AskTest (now plan) (now pool) p z × CallAt (now plan) p z g ⌝ }
-    requires { ⌜ TailAt (now plan) rest tail × (tail ≤ 1) ⌝ }
-    requires { ⌜ Ready (scopeFor (g .kind)) (part (now pool) (g .start) (g .size)) (now code) 2 ⌝ }
-    ensures { λ r. ⌜ DoneRange (now (plan .entry)) (now (pool .entry)) (now (table .entry)) (now (text .entry)) root i e p z rest cap (now (list .entry)) at (now (list .exit)) r ⌝ }
-{
-    // 0 for both kinds; but LLVM cannot tell.
-    let again = g.kind / NO_KIND;
-    let w = weigh(code, 0, MOST);
-    if has_states(w.size, i, e) {
-        return with_states(
-            plan,
-            pool,
-            table,
-            text,
-            root,
-            i,
-            e,
-            p,
-            z,
-            g,
-            tail,
-            rest,
-            code,
-            list,
-            at,
-            cap,
-            again,
-        );
-    }
-    if w.size <= FEW {
-        return with_few(
-            plan,
-            pool,
-            table,
-            text,
-            root,
-            i,
-            e,
-            p,
-            z,
-            g,
-            tail,
-            rest,
-            code,
-            list,
-            at,
-            cap,
-            again,
-        );
-    }
-    with_most(
-        plan,
-        pool,
-        table,
-        text,
-        root,
-        i,
-        e,
-        p,
-        z,
-        g,
-        tail,
-        rest,
-        code,
-        list,
-        at,
-        cap,
-        again,
-    )
-}
-
-// The same where the expression is outside the part.
-fn outside(
-    plan: &[u8],
-    pool: &[u8],
-    table: &[u8],
-    text: &[u8],
-    root: usize,
-    i: usize,
-    e: usize,
-    p: usize,
-    z: usize,
-    g: Call,
-    tail: usize,
-    rest: usize,
-    list: &mut [u32],
-    at: usize,
-    cap: usize,
-) -> usize
-    requires { ⌜ AskKept (now plan) (now pool) (now table) (now text) root i e rest (length (now list)) at cap ⌝ }
-    requires { ⌜ AskTest (now plan) (now pool) p z × CallAt (now plan) p z g ⌝ }
-    requires { ⌜ TailAt (now plan) rest tail × (tail ≤ 1) ⌝ }
-    requires { ⌜ Outside (scopeFor (g .kind)) (part (now pool) (g .start) (g .size)) ⌝ }
-    ensures { λ r. ⌜ DoneRange (now (plan .entry)) (now (pool .entry)) (now (table .entry)) (now (text .entry)) root i e p z rest cap (now (list .entry)) at (now (list .exit)) r ⌝ }
-{
-    let code = [0u32; 1];
-    let mut edges = [0u8; 1];
-    let mut sets = [0u8; 1];
-    let mut marks = [0u8; 1];
-    let v = rows::keep(
-        plan,
-        pool,
-        table,
-        text,
-        root,
-        i,
-        e,
-        p,
-        z,
-        g,
-        tail,
-        rest,
-        OUTSIDE,
-        &code,
-        &mut edges,
-        &mut sets,
-        &mut marks,
-        list,
-        at,
-        cap,
-    );
-    v.at
-}
-
-// The same where the expression is read first, into the rooms.
+// The nodes from i up to e that the filter keeps, with what follows. The expression is read first, into the rooms.
 fn read_in(
     plan: &[u8],
     pool: &[u8],
@@ -467,7 +66,7 @@ fn read_in(
     let b = g.start;
     let n = g.size;
     match reads::read_widened(g.kind, &pool[b..b + n], chars, code) {
-        Reading::Outside => outside(
+        Reading::Outside => coded::outside(
             plan,
             pool,
             table,
@@ -484,7 +83,7 @@ fn read_in(
             at,
             cap,
         ),
-        Reading::Code(k) => by_code(
+        Reading::Code(k) => coded::by_code(
             plan,
             pool,
             table,
@@ -707,7 +306,7 @@ fn by_size(
             again,
         );
     }
-    outside(
+    coded::outside(
         plan,
         pool,
         table,

@@ -3,6 +3,7 @@ use crate::calls::Call;
 use crate::paths;
 use eval_filters::kept;
 use regex::test;
+use regex_rooms::marks::test_within;
 use regex_states::test_with;
 use table::records;
 use table::records::KIND_TEXT;
@@ -97,8 +98,10 @@ fn text_of(
     }
 }
 
-// Whether a text has the expression that the code is of: by its states where the rooms are ready for them. The marks are room.
+// Whether a text has the expression that the code is of: by its states where the rooms are ready for them; in rooms of its own where no marks are lent, since then the
+// code has too many. The marks are room.
 fn tested(
+    kind: u8,
     known: u8,
     code: &[u32],
     text: &[u8],
@@ -112,6 +115,9 @@ fn tested(
 {
     if known == STATES {
         return test_with(code, text, edges, sets, marks);
+    }
+    if marks.len() == 0 {
+        return test_within(kind, code, text);
     }
     test(code, text, marks)
 }
@@ -161,7 +167,7 @@ fn asked(
     }
     let a = s.start;
     let n = s.size;
-    let b = tested(known, code, &text[a..a + n], edges, sets, marks);
+    let b = tested(g.kind, known, code, &text[a..a + n], edges, sets, marks);
     Answer {
         acc: flipped(negated, b),
         some: true,

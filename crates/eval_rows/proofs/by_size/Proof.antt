@@ -8,7 +8,7 @@ use Rattle.eval_rows.proofs.by_size.Tie as tie
 use Rattle.eval_rows.proofs.by_size.Reads as reads
 use Rattle.eval_rows.proofs.by_size.Lts as lts
 use Rattle.eval_rows.proofs.long.Reads as long-reads
-use Rattle.eval_rows.proofs.outside.Reads as outside-reads
+use Rattle.eval_rows.proofs.coded.outside.Reads as outside-reads
 use Rattle.eval_rows.proofs.short.Reads as short-reads
 
 short-requires : tie.Need-short-requires

@@ -11,8 +11,8 @@ use Rattle.eval_rows.proofs.read_in.Statement.{statement}
 use Rattle.eval_rows.proofs.read_in.Tie as tie
 use Rattle.eval_rows.proofs.read_in.Reads as reads
 use Rattle.eval_rows.proofs.read_in.Lts as lts
-use Rattle.eval_rows.proofs.by_code.Reads as by-code-reads
-use Rattle.eval_rows.proofs.outside.Reads as outside-reads
+use Rattle.eval_rows.proofs.coded.by_code.Reads as by-code-reads
+use Rattle.eval_rows.proofs.coded.outside.Reads as outside-reads
 use Rattle.regex_rooms.proofs.reads.read_widened.Reads as read-widened-reads
 
 add-read-widened : tie.Need-add-read-widened

@@ -5,6 +5,7 @@ use Rattle.eval_rows.proofs.rows.tested.Tie as tie
 use Rattle.eval_rows.proofs.rows.tested.Reads as reads
 use Rattle.eval_rows.proofs.rows.tested.Lts as lts
 use Rattle.regex.proofs.test.Reads as test-reads
+use Rattle.regex_rooms.proofs.marks.test_within.Reads as test-within-reads
 use Rattle.regex_states.proofs.test_with.Reads as test-with-reads
 
 test-with-requires : tie.Need-test-with-requires
@@ -22,14 +23,20 @@ same-length-3 c = search needs
 returns : tie.Need-returns
 returns c = search needs
 
+test-within-requires : tie.Need-test-within-requires
+test-within-requires c κs = search needs
+
+returns-2 : tie.Need-returns-2
+returns-2 c = search needs
+
 test-requires : tie.Need-test-requires
 test-requires c κs = search needs
 
 same-length-4 : tie.Need-same-length-4
 same-length-4 c = search needs
 
-returns-2 : tie.Need-returns-2
-returns-2 c = search needs
+returns-3 : tie.Need-returns-3
+returns-3 c = search needs
 
 pub tested-spec : {M : Type 1} → statement M
 tested-spec =
@@ -40,6 +47,8 @@ tested-spec =
     same-length-2
     same-length-3
     returns
+    test-within-requires
+    returns-2
     test-requires
     same-length-4
-    returns-2)
+    returns-3)

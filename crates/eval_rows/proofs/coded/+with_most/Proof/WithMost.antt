@@ -1,12 +1,12 @@
 -- The answers of `with_most` in the cycle of calls {with_most}.
-use Rattle.eval_rows.proofs.+with_most.Lts-with_most as lts
+use Rattle.eval_rows.proofs.coded.+with_most.Lts-with_most as lts
 use Prim.Native.Nat.{ℕ}
 use native.Mathlib.Omega.{arith}
 use borrow.Author.Needs.{needs}
 use Rattle.eval_rows.specs.Rows.{held-none}
-use Rattle.eval_rows.proofs.with_most.Reads as with-most
+use Rattle.eval_rows.proofs.coded.with_most.Reads as with-most
 use Rattle.eval_rows.proofs.rows.keep.Reads as keep-reads
-use Rattle.eval_rows.proofs.+with_most.Proof.Base.{with-most-at, with-most-below}
+use Rattle.eval_rows.proofs.coded.+with_most.Proof.Base.{with-most-at, with-most-below}
 
 abbrev pub calls : ℕ → lts.Claims
 calls t = (with-most-below t, with-most.Post, keep-reads.Asked, keep-reads.Learnt)

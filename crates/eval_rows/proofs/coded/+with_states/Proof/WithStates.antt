@@ -1,14 +1,14 @@
 -- The answers of `with_states` in the cycle of calls {with_states}.
-use Rattle.eval_rows.proofs.+with_states.Lts-with_states as lts
+use Rattle.eval_rows.proofs.coded.+with_states.Lts-with_states as lts
 use Prim.Native.Nat.{ℕ}
 use mathlib.Core.Path.{refl}
 use native.Mathlib.Omega.{arith}
 use borrow.Author.Needs.{needs}
 use Rattle.eval_rows.specs.Rows.{rooms-enough}
-use Rattle.eval_rows.proofs.with_states.Reads as with-states
+use Rattle.eval_rows.proofs.coded.with_states.Reads as with-states
 use Rattle.eval_rows.proofs.rows.keep.Reads as keep-reads
 use Rattle.regex_states.proofs.prepare.Reads as prepare-reads
-use Rattle.eval_rows.proofs.+with_states.Proof.Base.{with-states-at, with-states-below}
+use Rattle.eval_rows.proofs.coded.+with_states.Proof.Base.{with-states-at, with-states-below}
 
 abbrev pub calls : ℕ → lts.Claims
 calls t = (with-states-below t, with-states.Post, prepare-reads.Asked, prepare-reads.Learnt, keep-reads.Asked, keep-reads.Learnt)

@@ -2,8 +2,8 @@
 use Prim.Native.Nat.{ℕ, _<_}
 use borrow.Fn.Kinds.{In}
 use borrow.Fn.PlainCycle.{Measures, is, falls, and}
-use Rattle.eval_rows.proofs.with_most.Reads as with-most
-use Rattle.eval_rows.proofs.with_most.Kinds as with-most-kinds
+use Rattle.eval_rows.proofs.coded.with_most.Reads as with-most
+use Rattle.eval_rows.proofs.coded.with_most.Kinds as with-most-kinds
 
 abbrev pub μ-with-most : Measures 6 with-most-kinds.ps ℕ
 μ-with-most κs a = a .1 .1 .1 .1 .1 .1 .1 .1 .1 .1 .1 .1 .1 .1 .1 .1 .0

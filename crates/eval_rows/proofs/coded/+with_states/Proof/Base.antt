@@ -2,8 +2,8 @@
 use Prim.Native.Nat.{ℕ, _<_}
 use borrow.Fn.Kinds.{In}
 use borrow.Fn.PlainCycle.{Measures, is, falls, and}
-use Rattle.eval_rows.proofs.with_states.Reads as with-states
-use Rattle.eval_rows.proofs.with_states.Kinds as with-states-kinds
+use Rattle.eval_rows.proofs.coded.with_states.Reads as with-states
+use Rattle.eval_rows.proofs.coded.with_states.Kinds as with-states-kinds
 
 abbrev pub μ-with-states : Measures 6 with-states-kinds.ps ℕ
 μ-with-states κs a = a .1 .1 .1 .1 .1 .1 .1 .1 .1 .1 .1 .1 .1 .1 .1 .1 .0

@@ -1,11 +1,11 @@
 -- The proof of the cycle of calls {with_states}: the members' answers, tied together.
-use Rattle.eval_rows.proofs.with_states.Reads as with-states
-use Rattle.eval_rows.proofs.+with_states.Lts-with_states as with-states-lts
-use Rattle.eval_rows.proofs.+with_states.{statement}
-use Rattle.eval_rows.proofs.+with_states.Tie.{close}
+use Rattle.eval_rows.proofs.coded.with_states.Reads as with-states
+use Rattle.eval_rows.proofs.coded.+with_states.Lts-with_states as with-states-lts
+use Rattle.eval_rows.proofs.coded.+with_states.{statement}
+use Rattle.eval_rows.proofs.coded.+with_states.Tie.{close}
 mod Base
 mod WithStates
-use Rattle.eval_rows.proofs.+with_states.Proof.Base.{μ-with-states, with-states-at}
+use Rattle.eval_rows.proofs.coded.+with_states.Proof.Base.{μ-with-states, with-states-at}
 
 pub +with-states-spec : {M : Type 1} → statement M
 +with-states-spec =

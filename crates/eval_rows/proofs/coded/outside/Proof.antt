@@ -1,13 +1,13 @@
--- `outside` meets its contract. Assumes nothing.
+-- `coded::outside` meets its contract. Assumes nothing.
 use native.Mathlib.Omega.{arith}
 use Rattle.definition.specs.Bytes.{part}
 use Rattle.regex_rooms.specs.Rooms.{scopeFor}
 use Rattle.eval_rows.specs.Rows.{ready-outside, held-none}
 use borrow.Author.Needs.{needs}
-use Rattle.eval_rows.proofs.outside.Statement.{statement}
-use Rattle.eval_rows.proofs.outside.Tie as tie
-use Rattle.eval_rows.proofs.outside.Reads as reads
-use Rattle.eval_rows.proofs.outside.Lts as lts
+use Rattle.eval_rows.proofs.coded.outside.Statement.{statement}
+use Rattle.eval_rows.proofs.coded.outside.Tie as tie
+use Rattle.eval_rows.proofs.coded.outside.Reads as reads
+use Rattle.eval_rows.proofs.coded.outside.Lts as lts
 use Rattle.eval_rows.proofs.rows.keep.Reads as keep-reads
 
 slice-aggregate-keep : tie.Need-slice-aggregate-keep

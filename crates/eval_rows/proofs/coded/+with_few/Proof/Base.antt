@@ -2,8 +2,8 @@
 use Prim.Native.Nat.{ℕ, _<_}
 use borrow.Fn.Kinds.{In}
 use borrow.Fn.PlainCycle.{Measures, is, falls, and}
-use Rattle.eval_rows.proofs.with_few.Reads as with-few
-use Rattle.eval_rows.proofs.with_few.Kinds as with-few-kinds
+use Rattle.eval_rows.proofs.coded.with_few.Reads as with-few
+use Rattle.eval_rows.proofs.coded.with_few.Kinds as with-few-kinds
 
 abbrev pub μ-with-few : Measures 6 with-few-kinds.ps ℕ
 μ-with-few κs a = a .1 .1 .1 .1 .1 .1 .1 .1 .1 .1 .1 .1 .1 .1 .1 .1 .0

@@ -1,11 +1,11 @@
 -- The proof of the cycle of calls {with_most}: the members' answers, tied together.
-use Rattle.eval_rows.proofs.with_most.Reads as with-most
-use Rattle.eval_rows.proofs.+with_most.Lts-with_most as with-most-lts
-use Rattle.eval_rows.proofs.+with_most.{statement}
-use Rattle.eval_rows.proofs.+with_most.Tie.{close}
+use Rattle.eval_rows.proofs.coded.with_most.Reads as with-most
+use Rattle.eval_rows.proofs.coded.+with_most.Lts-with_most as with-most-lts
+use Rattle.eval_rows.proofs.coded.+with_most.{statement}
+use Rattle.eval_rows.proofs.coded.+with_most.Tie.{close}
 mod Base
 mod WithMost
-use Rattle.eval_rows.proofs.+with_most.Proof.Base.{μ-with-most, with-most-at}
+use Rattle.eval_rows.proofs.coded.+with_most.Proof.Base.{μ-with-most, with-most-at}
 
 pub +with-most-spec : {M : Type 1} → statement M
 +with-most-spec =

@@ -1,11 +1,11 @@
 -- The proof of the cycle of calls {with_few}: the members' answers, tied together.
-use Rattle.eval_rows.proofs.with_few.Reads as with-few
-use Rattle.eval_rows.proofs.+with_few.Lts-with_few as with-few-lts
-use Rattle.eval_rows.proofs.+with_few.{statement}
-use Rattle.eval_rows.proofs.+with_few.Tie.{close}
+use Rattle.eval_rows.proofs.coded.with_few.Reads as with-few
+use Rattle.eval_rows.proofs.coded.+with_few.Lts-with_few as with-few-lts
+use Rattle.eval_rows.proofs.coded.+with_few.{statement}
+use Rattle.eval_rows.proofs.coded.+with_few.Tie.{close}
 mod Base
 mod WithFew
-use Rattle.eval_rows.proofs.+with_few.Proof.Base.{μ-with-few, with-few-at}
+use Rattle.eval_rows.proofs.coded.+with_few.Proof.Base.{μ-with-few, with-few-at}
 
 pub +with-few-spec : {M : Type 1} → statement M
 +with-few-spec =

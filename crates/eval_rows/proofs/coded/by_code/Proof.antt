@@ -1,14 +1,14 @@
--- `by_code` meets its contract. Assumes nothing.
+-- `coded::by_code` meets its contract. Assumes nothing.
 use Rattle.eval_rows.specs.Rows.{ready-states}
 use borrow.Author.Needs.{needs}
-use Rattle.eval_rows.proofs.by_code.Statement.{statement}
-use Rattle.eval_rows.proofs.by_code.Tie as tie
-use Rattle.eval_rows.proofs.by_code.Reads as reads
-use Rattle.eval_rows.proofs.by_code.Lts as lts
-use Rattle.eval_rows.proofs.has_states.Reads as has-states-reads
-use Rattle.eval_rows.proofs.with_few.Reads as with-few-reads
-use Rattle.eval_rows.proofs.with_most.Reads as with-most-reads
-use Rattle.eval_rows.proofs.with_states.Reads as with-states-reads
+use Rattle.eval_rows.proofs.coded.by_code.Statement.{statement}
+use Rattle.eval_rows.proofs.coded.by_code.Tie as tie
+use Rattle.eval_rows.proofs.coded.by_code.Reads as reads
+use Rattle.eval_rows.proofs.coded.by_code.Lts as lts
+use Rattle.eval_rows.proofs.coded.has_states.Reads as has-states-reads
+use Rattle.eval_rows.proofs.coded.with_few.Reads as with-few-reads
+use Rattle.eval_rows.proofs.coded.with_most.Reads as with-most-reads
+use Rattle.eval_rows.proofs.coded.with_states.Reads as with-states-reads
 use Rattle.regex_marks.proofs.weigh.Reads as weigh-reads
 
 weigh-requires : tie.Need-weigh-requires

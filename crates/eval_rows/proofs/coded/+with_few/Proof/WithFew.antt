@@ -1,12 +1,12 @@
 -- The answers of `with_few` in the cycle of calls {with_few}.
-use Rattle.eval_rows.proofs.+with_few.Lts-with_few as lts
+use Rattle.eval_rows.proofs.coded.+with_few.Lts-with_few as lts
 use Prim.Native.Nat.{ℕ}
 use native.Mathlib.Omega.{arith}
 use borrow.Author.Needs.{needs}
 use Rattle.eval_rows.specs.Rows.{held-none}
-use Rattle.eval_rows.proofs.with_few.Reads as with-few
+use Rattle.eval_rows.proofs.coded.with_few.Reads as with-few
 use Rattle.eval_rows.proofs.rows.keep.Reads as keep-reads
-use Rattle.eval_rows.proofs.+with_few.Proof.Base.{with-few-at, with-few-below}
+use Rattle.eval_rows.proofs.coded.+with_few.Proof.Base.{with-few-at, with-few-below}
 
 abbrev pub calls : ℕ → lts.Claims
 calls t = (with-few-below t, with-few.Post, keep-reads.Asked, keep-reads.Learnt)
