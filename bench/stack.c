@@ -189,6 +189,18 @@ static void measure_expression(const char *name, const char *begins, const char 
     searching = 0, patience = 0;
 }
 
+// The same expression as a literal of the query, which is read once for all nodes of a range, asked of itself as a text of the table.
+static void measure_literal(const char *name, const char *begins, const char *middle, const char *ends, int often) {
+    static char last[1200];
+    printf("%s, %d times, as a literal\n", name, often);
+    levels = 30;
+    make_expression(begins, middle, ends, often);
+    char *p = stpcpy(last, "..[?search(@,'");
+    memcpy(p, text, text_length);
+    strcpy(p + text_length, "')]");
+    measure_query("..[?@>''", "", 0, "..[?@>''&&$", last);
+}
+
 // 1,023 alternatives as a second element of the root, at the bottom of a query that takes the most stack by itself.
 static void measure_beside(void) {
     make_expression("|", "a", "", 1023);
@@ -240,6 +252,11 @@ int main(void) {
     measure_expression("groups behind a character", "(a", "", ")*", 255, "..[?@>''&&search('aaaaaa',@)]");
     measure_expression("groups behind an alternative", "(a|", "", ")", 255, "..[?@>''&&match('aaaaaa',@)]");
     measure_expression("groups with a count", "(", "a", "){2}", 200, "..[?@>''&&match('aaaaaa',@)]");
+    measure_literal("alternatives", "|", "a", "", 1023);
+    measure_literal("groups", "(", "a", ")", 511);
+    measure_literal("groups that are repeated", "(", "a", ")*", 340);
+    measure_literal("groups behind a character", "(a", "", ")*", 255);
+    measure_literal("groups with a count", "(", "a", "){2}", 200);
     measure_beside();
     measure_long("stars", "(", ")*", 335);
     measure_long("counts", "(", "){64}", 167);
