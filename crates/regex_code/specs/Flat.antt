@@ -9,7 +9,7 @@
 use mathlib.Core.Path.{_≡_, refl, ap, sym, _∙_}
 use mathlib.Core.List.{List, [], _∷_, _++_}
 use mathlib.Core.Bool.{Bool, true, false}
-use Prim.Native.Nat.{ℕ, suc, _+_, _-_, _*_, _<_}
+use Prim.Native.Nat.{ℕ, suc, _+_, _-_, _*_, _≤_, _<_}
 use native.Mathlib.Omega.{arith}
 use lib.ListN.{length, drop, getD, length-drop}
 use lib.Seq.{drop-drop}
@@ -42,6 +42,15 @@ module _ (k : ℕ) (l : List ℕ) where
 
 pub head : {k n : ℕ} {l m : List ℕ} → k ∷ l ≡ n ∷ m → k ≡ n
 head e = cc
+
+-- every expression has a word
+some-code : (x : Regexp) (r : List ℕ) → 1 ≤ length (flat x r)
+some-code empty r = omega arith
+some-code (class comp gs) r = omega arith
+some-code (then x y) r = omega arith
+some-code (or x y) r = omega arith
+some-code (times lo (upto n) x) r = omega arith
+some-code (times lo any x) r = omega arith
 
 module _ (F : Regexp → List ℕ → Type 0) (k : ℕ) (l : List ℕ) where
   pub of-empty : k ≡ 0 → ((r : List ℕ) → l ≡ r → F empty r) → (x : Regexp) (r : List ℕ) → k ∷ l ≡ flat x r → F x r
@@ -101,6 +110,15 @@ module _ (F : Regexp → List ℕ → Type 0) (k : ℕ) (l : List ℕ) where
   of-any h f (or x y) r e = absurd (differ k l _ _ (omega arith) e)
   of-any h f (times lo (upto n) x) r e = absurd (differ k l _ _ (omega arith) e)
   of-any h f (times lo any x) r e = f lo x r (tail e)
+
+  -- a repeat has three words or more
+  pub of-short : 3 < k → length l < 2 → (x : Regexp) (r : List ℕ) → k ∷ l ≡ flat x r → F x r
+  of-short h m empty r e = absurd (differ k l _ _ (omega arith) e)
+  of-short h m (class comp gs) r e = absurd (differ k l _ _ (omega arith) e)
+  of-short h m (then x y) r e = absurd (differ k l _ _ (omega arith) e)
+  of-short h m (or x y) r e = absurd (differ k l _ _ (omega arith) e)
+  of-short h m (times lo (upto n) x) r e = absurd (omega (arith, ap length e))
+  of-short h m (times lo any x) r e = absurd (omega (arith, ap length e, some-code x r))
 
   -- any other word begins no code
   pub of-other : 5 < k → (x : Regexp) (r : List ℕ) → k ∷ l ≡ flat x r → F x r

@@ -2,25 +2,24 @@
 use mathlib.Core.Path.{_≡_, refl, ap, sym, _∙_, subst}
 use mathlib.Core.Bool.{Bool, true, false, false≢true}
 use mathlib.Core.List.{List, [], _∷_, _++_}
-use Prim.Native.Nat.{ℕ, suc, min, _+_, _-_, _*_, _^_, _≤_, _<_}
+use Prim.Native.Nat.{ℕ, suc, min, _+_, _*_, _^_, _≤_, _<_}
 use native.Mathlib.Omega.{arith}
 use native.Mathlib.Nat.{le-refl, mul-le-mul-left}
-use borrow.Author.Tests.{eqb-true, eqb-false, leb-true, leb-false}
-use lib.Dec.{eqb, leb}
+use borrow.Author.Tests.{eqb-true, eqb-false}
+use lib.Dec.{eqb}
 use lib.ListN.{length, set, drop, getD, length-append, length-set, drop-of-length-le}
-use lib.Seq.{slice, slice-cons, slice-empty, drop-drop}
-use Rattle.basics.specs.Reads.{Wrote}
+use lib.Seq.{slice, slice-cons, slice-empty}
 use Rattle.basics.specs.Lists.{drop-at as word}
-use Rattle.regex_definition.specs.Words.{Join, Times, Most, upto, any}
-use Rattle.regex_definition.specs.Regexp.{Regexp, empty, class, then, or, times, Describes}
+use Rattle.regex_definition.specs.Words.{Times, upto, any}
+use Rattle.regex_definition.specs.Regexp.{Regexp, class, then, or, times, Describes}
 use Rattle.regex_definition.specs.Agree.{told-true}
 use Rattle.regex_code.specs.Flat.{flat, of-empty, of-then, of-or, of-upto, of-any, of-nothing, word-of}
-use Rattle.regex_code.specs.Skips.{Skips}
+use Rattle.regex_code.specs.Skips.{Skips, drop-min}
 use Rattle.regex_reader.proofs.Parts.{flat-behind, wrote-then}
 use Rattle.regex_chars.specs.Laws.{slice-end, encodeAll-none}
-use Rattle.regex_total.specs.Answers.{bytes, Matched, Widths}
+use Rattle.regex_total.specs.Answers.{Matched, Widths}
 use Rattle.regex_total.proofs.Parts.{slice-join, front-same}
-use Rattle.regex_needed.specs.Needed.{Alike, Goes, Written, Instead, once, repeated, Lessened, Asks, Word, Closes, Misses, Needed, Joint, Joins, Endless, Head, Headed}
+use Rattle.regex_needed.specs.Needed.{Alike, Goes, Written, Instead, once, repeated, Lessened, Asks, Word, Closes, Misses, Needed, Joint, Joins, Endless, Headed}
 use Rattle.regex_needed.specs.Needed.Needed.{all, none}
 use Rattle.regex_needed.specs.Needed.Endless.{zero as from-none, some as from-some}
 use Rattle.regex_needed.proofs.Alike.{alike-same, alike-on, alike-back, alike-join, alike-sum, alike-times, alike-once, alike-end, alike-none, alike-needed, alike-needed-any, alike-fold, alike-few, alike-endless}
@@ -73,18 +72,6 @@ copy-more s i from {q} {q1} {q2} {to} {e} {f} h k a b =
     rw (z, g) (written-on a b)
 
 -- ---- the code as it is
-
-drop-min : (s : List ℕ) (n : ℕ) → drop (min n (length s)) s ≡ drop n s
-drop-min s n = go (leb n (length s)) refl
-  where
-    go : (b : Bool) → leb n (length s) ≡ b → drop (min n (length s)) s ≡ drop n s
-    go true e = let h = leb-true n (length s) e in let k : min n (length s) ≡ n = omega arith in rw k
-    go false e =
-        let h = leb-false n (length s) e in
-        let k : min n (length s) ≡ length s = omega arith in
-        let i : length s ≤ length s = omega arith in
-        let j : length s ≤ n = omega arith in
-        rw k (drop-of-length-le s i ∙ sym (drop-of-length-le s j))
 
 words-of :
     (s : List ℕ) (at m : ℕ) → at ≤ m → m ≤ length s → (x : Regexp) (r : List ℕ) → drop at s ≡ flat x r → drop m s ≡ r

@@ -1,7 +1,6 @@
 -- What is written in place of an expression for texts of at most n bytes. Assumes nothing: these are definitions.
 use mathlib.Core.Path.{_≡_}
 use mathlib.Core.List.{List, [], _∷_, _++_}
-use mathlib.Core.Logic.{_⊎_}
 use Prim.Native.Nat.{ℕ, _+_, _*_, _^_, _≤_, _<_}
 use lib.ListN.{length, drop, getD}
 use Rattle.basics.specs.Reads.{Wrote}

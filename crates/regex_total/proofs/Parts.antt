@@ -1,7 +1,7 @@
 -- Parts of a text, cut and put together. Assumes nothing.
 use mathlib.Core.Path.{_≡_, ap, sym, _∙_}
 use mathlib.Core.List.{List, [], _++_}
-use Prim.Native.Nat.{ℕ, _+_, _-_, _≤_}
+use Prim.Native.Nat.{ℕ, _-_, _≤_}
 use native.Mathlib.Omega.{arith}
 use lib.ListN.{length, length-append, take, drop, length-take, take-append-drop}
 use lib.Seq.{slice, length-slice, take-take, drop-append-le, length-take-le, take-append-seam, drop-append-seam}

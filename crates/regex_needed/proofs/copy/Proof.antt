@@ -1,10 +1,9 @@
 -- `regex_needed::copy` meets its contract. Assumes nothing.
 use Rattle.regex_needed.proofs.copy.Statement.{statement}
-use mathlib.Core.Path.{refl}
 use Rattle.regex_needed.proofs.Writing.{written-none, copy-more}
 use Rattle.regex_needed.specs.Needed.{Written}
 use lib.Seq.{slice, slice-empty}
-use mathlib.Core.Path.{_≡_, refl}
+use mathlib.Core.Path.{_≡_}
 use Prim.Native.Nat.{_≤_, _-_}
 use native.Mathlib.Omega.{arith}
 use Rattle.regex_needed.proofs.copy.Tie as tie

@@ -1,15 +1,15 @@
 -- What is said of two parts from what is said of each. Assumes nothing: these are definitions.
-use mathlib.Core.Bool.{Bool, true, false, _&&_, _||_, cond}
+use mathlib.Core.Bool.{Bool, false, _&&_, _||_, cond}
 use Prim.Native.Nat.{ℕ, _+_, _/_, _%_}
 use lib.Dec.{eqb, leb}
-use Rattle.regex_marks.specs.declared.Step.{Step}
+use Rattle.regex_marks.specs.declared.passes.Pass.{Pass}
 
--- a step in one word
+-- a pass in one word
 abbrev pub flagOf : Bool → ℕ
 flagOf b = cond b 1 0
 
-abbrev pub stepOf : ℕ → Step
-stepOf w =
+abbrev pub passOf : ℕ → Pass
+passOf w =
     record {
       next = w / 524288;
       size = w / 8 % 65536;
@@ -18,10 +18,10 @@ stepOf w =
       now = eqb (w % 2) 1;
     }
 
-abbrev pub enterOf : Bool → Step → Bool
+abbrev pub enterOf : Bool → Pass → Bool
 enterOf m s = s .was || (m && s .empty)
 
-abbrev pub chainOf : Step → Step → Step
+abbrev pub chainOf : Pass → Pass → Pass
 chainOf s t =
     record {
       next = t .next;
@@ -31,7 +31,7 @@ chainOf s t =
       now = (s .now && t .empty) || t .now;
     }
 
-abbrev pub forkOf : Step → Step → Step
+abbrev pub forkOf : Pass → Pass → Pass
 forkOf s t =
     record {
       next = t .next;
@@ -41,7 +41,7 @@ forkOf s t =
       now = s .now || t .now;
     }
 
-abbrev pub linkOf : ℕ → Step → Step → Step
+abbrev pub linkOf : ℕ → Pass → Pass → Pass
 linkOf lo s t =
     record {
       next = t .next;
@@ -51,29 +51,29 @@ linkOf lo s t =
       now = (s .now && t .empty) || t .now;
     }
 
-abbrev pub lastOf : ℕ → Step → Step
+abbrev pub lastOf : ℕ → Pass → Pass
 lastOf lo s = record { next = s .next; size = 0; empty = leb lo 1; was = false; now = false }
 
 -- copies of a part without marks
-abbrev pub bareOf : ℕ → ℕ → Step → Step
+abbrev pub bareOf : ℕ → ℕ → Pass → Pass
 bareOf lo hi s = record { next = s .next; size = 0; empty = eqb lo 0 || (s .empty && leb lo hi); was = false; now = false }
 
-abbrev pub bareLoopOf : Step → Step
+abbrev pub bareLoopOf : Pass → Pass
 bareLoopOf s = record { next = s .next; size = 1; empty = s .empty; was = false; now = false }
 
-abbrev pub loopOf : ℕ → Step → Step
+abbrev pub loopOf : ℕ → Pass → Pass
 loopOf lo s = record { next = s .next; size = 1 + s .size; empty = eqb lo 0 || s .empty; was = s .was; now = s .now }
 
-abbrev pub stopOf : ℕ → Step
+abbrev pub stopOf : ℕ → Pass
 stopOf at = record { next = at; size = 0; empty = false; was = false; now = false }
 
 -- no character, and no copy
-abbrev pub emptyOf : ℕ → Bool → Step
+abbrev pub emptyOf : ℕ → Bool → Pass
 emptyOf at e = record { next = at; size = 0; empty = e; was = false; now = false }
 
 -- two parts in a row for the word 2, one of two for the word 3: whether the second is entered, and what is said of both
-abbrev pub secondOf : ℕ → Bool → Step → Bool
+abbrev pub secondOf : ℕ → Bool → Pass → Bool
 secondOf k m s = cond (eqb k 2) (enterOf m s) m
 
-abbrev pub joinedOf : ℕ → Step → Step → Step
+abbrev pub joinedOf : ℕ → Pass → Pass → Pass
 joinedOf k s t = cond (eqb k 2) (chainOf s t) (forkOf s t)

@@ -1,9 +1,8 @@
--- `regex_marks::pack` meets its contract. Assumes nothing.
+-- `regex_marks::passes::pack` meets its contract. Assumes nothing.
 use borrow.Author.Needs.{needs}
 use Rattle.regex_marks.proofs.Words.{packed}
-use Rattle.regex_marks.proofs.pack.Statement.{statement}
-use Rattle.regex_marks.proofs.pack.Tie as tie
-use Rattle.regex_marks.proofs.pack.Reads as reads
+use Rattle.regex_marks.proofs.passes.pack.Statement.{statement}
+use Rattle.regex_marks.proofs.passes.pack.Tie as tie
 
 flag-requires : tie.Need-flag-requires
 flag-requires c κs = search needs

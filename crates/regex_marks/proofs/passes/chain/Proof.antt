@@ -1,7 +1,7 @@
--- `regex_marks::chain` meets its contract. Assumes nothing.
+-- `regex_marks::passes::chain` meets its contract. Assumes nothing.
 use borrow.Author.Needs.{needs}
-use Rattle.regex_marks.proofs.chain.Statement.{statement}
-use Rattle.regex_marks.proofs.chain.Tie as tie
+use Rattle.regex_marks.proofs.passes.chain.Statement.{statement}
+use Rattle.regex_marks.proofs.passes.chain.Tie as tie
 
 add-t3 : tie.Need-add-t3
 add-t3 c = search needs

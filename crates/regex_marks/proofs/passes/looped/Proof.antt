@@ -1,7 +1,7 @@
--- `regex_marks::looped` meets its contract. Assumes nothing.
+-- `regex_marks::passes::looped` meets its contract. Assumes nothing.
 use borrow.Author.Needs.{needs}
-use Rattle.regex_marks.proofs.looped.Statement.{statement}
-use Rattle.regex_marks.proofs.looped.Tie as tie
+use Rattle.regex_marks.proofs.passes.looped.Statement.{statement}
+use Rattle.regex_marks.proofs.passes.looped.Tie as tie
 
 add-t4 : tie.Need-add-t4
 add-t4 c = search needs

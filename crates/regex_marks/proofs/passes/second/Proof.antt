@@ -1,10 +1,9 @@
--- `regex_marks::second` meets its contract. Assumes nothing.
+-- `regex_marks::passes::second` meets its contract. Assumes nothing.
 use borrow.Author.Needs.{needs}
 use borrow.Author.Tests.{ne-eqb}
 use mathlib.Core.Path.{refl}
-use Rattle.regex_marks.proofs.second.Statement.{statement}
-use Rattle.regex_marks.proofs.second.Tie as tie
-use Rattle.regex_marks.proofs.second.Reads as reads
+use Rattle.regex_marks.proofs.passes.second.Statement.{statement}
+use Rattle.regex_marks.proofs.passes.second.Tie as tie
 
 enters-requires : tie.Need-enters-requires
 enters-requires c κs = search needs

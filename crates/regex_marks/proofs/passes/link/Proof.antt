@@ -1,7 +1,7 @@
--- `regex_marks::link` meets its contract. Assumes nothing.
+-- `regex_marks::passes::link` meets its contract. Assumes nothing.
 use borrow.Author.Needs.{needs}
-use Rattle.regex_marks.proofs.link.Statement.{statement}
-use Rattle.regex_marks.proofs.link.Tie as tie
+use Rattle.regex_marks.proofs.passes.link.Statement.{statement}
+use Rattle.regex_marks.proofs.passes.link.Tie as tie
 
 add-t5 : tie.Need-add-t5
 add-t5 c = search needs

@@ -1,7 +1,7 @@
--- `regex_marks::fork` meets its contract. Assumes nothing.
+-- `regex_marks::passes::fork` meets its contract. Assumes nothing.
 use borrow.Author.Needs.{needs}
-use Rattle.regex_marks.proofs.fork.Statement.{statement}
-use Rattle.regex_marks.proofs.fork.Tie as tie
+use Rattle.regex_marks.proofs.passes.fork.Statement.{statement}
+use Rattle.regex_marks.proofs.passes.fork.Tie as tie
 
 add-t3 : tie.Need-add-t3
 add-t3 c = search needs

@@ -1,7 +1,7 @@
--- `regex_marks::enters` meets its contract. Assumes nothing.
+-- `regex_marks::passes::enters` meets its contract. Assumes nothing.
 use borrow.Author.Needs.{needs}
-use Rattle.regex_marks.proofs.enters.Statement.{statement}
-use Rattle.regex_marks.proofs.enters.Tie as tie
+use Rattle.regex_marks.proofs.passes.enters.Statement.{statement}
+use Rattle.regex_marks.proofs.passes.enters.Tie as tie
 
 both-requires : tie.Need-both-requires
 both-requires c κs = search needs

@@ -1,9 +1,8 @@
--- `regex_marks::joined` meets its contract. Assumes nothing.
+-- `regex_marks::passes::joined` meets its contract. Assumes nothing.
 use borrow.Author.Needs.{needs}
 use borrow.Author.Tests.{ne-eqb}
-use Rattle.regex_marks.proofs.joined.Statement.{statement}
-use Rattle.regex_marks.proofs.joined.Tie as tie
-use Rattle.regex_marks.proofs.joined.Reads as reads
+use Rattle.regex_marks.proofs.passes.joined.Statement.{statement}
+use Rattle.regex_marks.proofs.passes.joined.Tie as tie
 
 chain-requires : tie.Need-chain-requires
 chain-requires c κs = search needs

@@ -1,7 +1,7 @@
--- `regex_marks::bare` meets its contract. Assumes nothing.
+-- `regex_marks::passes::bare` meets its contract. Assumes nothing.
 use borrow.Author.Needs.{needs}
-use Rattle.regex_marks.proofs.bare.Statement.{statement}
-use Rattle.regex_marks.proofs.bare.Tie as tie
+use Rattle.regex_marks.proofs.passes.bare.Statement.{statement}
+use Rattle.regex_marks.proofs.passes.bare.Tie as tie
 
 both-requires : tie.Need-both-requires
 both-requires c κs = search needs
