@@ -1,5 +1,4 @@
 pub mod States
-pub mod Nodes
 pub mod Segments
 pub mod Emits
 pub mod Steps

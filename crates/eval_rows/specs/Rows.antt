@@ -18,7 +18,7 @@ use Rattle.definition.specs.Tables.{nodeCount, nodeAt, kindAt, lowWord, highWor
 use Rattle.definition.specs.Evaluation.{evalSegments, firstValue}
 use Rattle.table_laws.specs.Accepted.{Accepted}
 use Rattle.eval_laws.specs.States.{st}
-use Rattle.eval_laws.specs.Nodes.{kidsAt, kind-of, Kind}
+use Rattle.table_laws.specs.Nodes.{kidsAt, kind-of, Kind}
 use Rattle.eval_laws.specs.Items.{SegmentsAt}
 use Rattle.eval_laws.specs.Founds.{found-first, found-none}
 use Rattle.eval_values.specs.Values.{of-null, of-false, of-true, of-integer, of-float, of-text, value-list, value-map}

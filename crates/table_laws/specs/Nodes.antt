@@ -1,22 +1,20 @@
 -- The nodes of an accepted table: each is made from its kind and the nodes of its range, and the children of a node are the nodes of that range.
 -- Assumes nothing.
-use Prim.Native.Nat.{ℕ, zero, suc, _+_, _*_, _-_, _≤_, _<_}
+use Prim.Native.Nat.{ℕ, zero, suc, _+_, _-_, _≤_, _<_}
 use mathlib.Core.Path.{_≡_, refl, sym, ap, _∙_, subst}
-use mathlib.Core.List.{List, [], _∷_, _++_}
-use mathlib.Core.Bool.{Bool, true, false, cond, _||_}
+use mathlib.Core.List.{List, [], _∷_}
+use mathlib.Core.Bool.{true, false}
 use mathlib.Core.Option.{Option, none, some}
 use lib.ListN.{length, take, drop}
-use lib.Dec.{eqb}
 use lib.Ieee.{binary64, ofBits}
 use native.Mathlib.Omega.{arith}
-use borrow.Author.Tests.{eqb-true, eqb-false, eq-eqb, ne-eqb}
 use Rattle.definition.specs.Limits.{maxDepth}
 use Rattle.definition.specs.Bytes.{signed64, sameBytes}
-use Rattle.definition.specs.Values.{Json, Kids, idOf, toList, many, lookup, children, elements, members, descend, descendAll}
+use Rattle.definition.specs.Values.{Json, Kids, idOf, toList, many, lookup, children, elements, members}
 use Rattle.definition.specs.Values.Kids.{nil, more}
-use Rattle.definition.specs.Tables.{nodeCount, kindAt, depthAt, payload, keyBytes, textBytesAt, kindFloat, kindText, kindList, kindMap, isContainer, childCount, firstChild, row, valueBy, treeAt, nodeAt, tree}
-use Rattle.definition.specs.Evaluation.{flat}
+use Rattle.definition.specs.Tables.{nodeCount, kindAt, depthAt, payload, keyBytes, textBytesAt, kindFloat, kindText, kindList, kindMap, childCount, firstChild, row, valueBy, treeAt, nodeAt}
+use Rattle.table_laws.specs.Rights.{count-other}
 use Rattle.table_laws.specs.Accepted.{Accepted}
 
 -- the values of c nodes from j on
 unfoldable pub nodes : List ℕ → List ℕ → ℕ → ℕ → List Json
@@ -88,10 +86,9 @@ kind-by T i (suc (suc (suc (suc (suc (suc zero)))))) e l = list e
 kind-by T i (suc (suc (suc (suc (suc (suc (suc zero))))))) e l = map e
 kind-by T i (suc (suc (suc (suc (suc (suc (suc (suc k)))))))) e l = absurd (omega arith)
 
--- child counts by kind
+-- a node of another kind than list and map has no children
 pub count-scalar : (T : List ℕ) (i : ℕ) → kindAt T i ≤ kindText → childCount T i ≡ 0
-unfolding childCount
-count-scalar T i l = rw (ne-eqb (kindAt T i) kindList (omega arith), ne-eqb (kindAt T i) kindMap (omega arith))
+count-scalar T i l = count-other T i (omega arith) (omega arith)
 
 -- ---- lists of nodes
 
@@ -129,23 +126,6 @@ unfolding nodes
 nodes-one T X j zero k h = absurd (omega arith)
 nodes-one T X j (suc c) zero h = let e : j ≡ j + 0 = omega arith in ap (λ (x : ℕ). nodeAt T X x ∷ []) e
 nodes-one T X j (suc c) (suc k) h = let e : j + 1 + k ≡ j + suc k = omega arith in nodes-one T X (j + 1) c k (omega arith) ∙ ap (λ (x : ℕ). nodeAt T X x ∷ []) e
-
--- ---- descent: the node, then each child's descent
-
-descend-all : (ks : Kids) → descendAll ks ≡ flat descend (toList ks)
-unfolding descend flat toList
-descend-all nil = refl
-descend-all (more k j ks) = ap (λ (l : List Json). descend j ++ l) (descend-all ks)
-
-pub descend-children : (n : Json) → descend n ≡ n ∷ flat descend (children n)
-unfolding descend children flat
-descend-children (Json.null i) = refl
-descend-children (Json.boolean i b) = refl
-descend-children (Json.integer i z) = refl
-descend-children (Json.float i x) = refl
-descend-children (Json.text i s) = refl
-descend-children (Json.list i ks) = ap (λ (l : List Json). Json.list i ks ∷ l) (descend-all ks)
-descend-children (Json.map i ks) = ap (λ (l : List Json). Json.map i ks ∷ l) (descend-all ks)
 
 -- ---- an accepted table
 
