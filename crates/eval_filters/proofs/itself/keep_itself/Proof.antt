@@ -35,7 +35,7 @@ compare-form-requires : tie.Need-compare-form-requires Inv-loop μ-loop
 compare-form-requires c κs = (itself-asks (kept-within (c .before .before .before .before .before .before .before .before .pre .0) (c .before .before .loop .inv) (c .before .loop-test .taken)) (c .before .before .before .before .before .before .before .before .pre .1 .0) (c .before .before .before .before .before .before .before .before .pre .1 .1 .0), c .before .before .before .before .before .before .before .before .pre .1 .1 .0 .form-is)
 
 push-requires : tie.Need-push-requires Inv-loop μ-loop
-push-requires c κs = 
+push-requires c κs =
     let s = c .before .before .before .before .before .before .before .before .before .before .before .pre .0 in
     let i = c .before .before .before .before .before .loop .inv in
     let l = i .low in
@@ -49,7 +49,7 @@ loop-less : tie.Need-loop-less Inv-loop μ-loop
 loop-less c = search needs
 
 loop-again : tie.Need-loop-again Inv-loop μ-loop
-loop-again c = 
+loop-again c =
     let s = c .before .before .before .before .before .before .before .before .before .before .before .before .before .before .pre .0 in
     let i = c .before .before .before .before .before .before .before .before .loop .inv in
     let u = c .before .before .before .before .before .before .before .loop-test .taken in
@@ -62,7 +62,7 @@ loop-less-2 : tie.Need-loop-less-2 Inv-loop μ-loop
 loop-less-2 c = search needs
 
 loop-again-2 : tie.Need-loop-again-2 Inv-loop μ-loop
-loop-again-2 c = 
+loop-again-2 c =
     let s = c .before .before .before .before .before .before .before .before .before .before .pre .0 in
     let i = c .before .before .before .before .loop .inv in
     let u = c .before .before .before .loop-test .taken in
