@@ -4,10 +4,10 @@ use Rattle.eval_front.specs.Heads.{head-of}
 use Rattle.eval_filters.specs.Keeps.{none-counts, counts-at}
 use native.Mathlib.Omega.{arith}
 use borrow.Author.Needs.{needs}
-use Rattle.eval_filters.proofs.kept.read_counts.Statement.{statement}
-use Rattle.eval_filters.proofs.kept.read_counts.Tie as tie
-use Rattle.eval_filters.proofs.kept.read_counts.Reads as reads
-use Rattle.eval_filters.proofs.kept.read_counts.Lts as lts
+use Rattle.eval_filters.proofs.counts.read_counts.Statement.{statement}
+use Rattle.eval_filters.proofs.counts.read_counts.Tie as tie
+use Rattle.eval_filters.proofs.counts.read_counts.Reads as reads
+use Rattle.eval_filters.proofs.counts.read_counts.Lts as lts
 use Rattle.eval_filters.proofs.atoms.behind_literal.Reads as behind-literal-reads
 use Rattle.text.proofs.bytes.word32.Reads as word32-reads
 

@@ -5,11 +5,11 @@ use Rattle.eval_filters.specs.Kept.{InKept, kept-full, kept-end, kept-pa
 use Rattle.eval_filters.specs.Keeps.{range-done, pushed-end, kept-visit}
 use native.Mathlib.Omega.{arith}
 use borrow.Author.Needs.{needs}
-use Rattle.eval_filters.proofs.kept.keep_counts.Statement.{statement}
-use Rattle.eval_filters.proofs.kept.keep_counts.Tie as tie
-use Rattle.eval_filters.proofs.kept.keep_counts.Reads as reads
-use Rattle.eval_filters.proofs.kept.keep_counts.Lts as lts
-use Rattle.eval_filters.proofs.kept.count_passes.Reads as count-passes-reads
+use Rattle.eval_filters.proofs.counts.keep_counts.Statement.{statement}
+use Rattle.eval_filters.proofs.counts.keep_counts.Tie as tie
+use Rattle.eval_filters.proofs.counts.keep_counts.Reads as reads
+use Rattle.eval_filters.proofs.counts.keep_counts.Lts as lts
+use Rattle.eval_filters.proofs.counts.count_passes.Reads as count-passes-reads
 use Rattle.eval_front.proofs.push.Reads as push-reads
 
 abbrev Inv-loop : tie.InvT-loop

@@ -5,10 +5,10 @@ use mir.Syntax.{w64}
 use Rattle.eval_filters.specs.Keeps.{count-bound, count-small, count-ints}
 use native.Mathlib.Omega.{arith}
 use borrow.Author.Needs.{needs}
-use Rattle.eval_filters.proofs.kept.count_passes.Statement.{statement}
-use Rattle.eval_filters.proofs.kept.count_passes.Tie as tie
-use Rattle.eval_filters.proofs.kept.count_passes.Reads as reads
-use Rattle.eval_filters.proofs.kept.count_passes.Lts as lts
+use Rattle.eval_filters.proofs.counts.count_passes.Statement.{statement}
+use Rattle.eval_filters.proofs.counts.count_passes.Tie as tie
+use Rattle.eval_filters.proofs.counts.count_passes.Reads as reads
+use Rattle.eval_filters.proofs.counts.count_passes.Lts as lts
 use Rattle.eval_filters.proofs.compare_ints.Reads as compare-ints-reads
 use Rattle.table.proofs.records.child_count.Reads as child-count-reads
 use Rattle.text.proofs.bytes.int64.Reads as int64-reads
