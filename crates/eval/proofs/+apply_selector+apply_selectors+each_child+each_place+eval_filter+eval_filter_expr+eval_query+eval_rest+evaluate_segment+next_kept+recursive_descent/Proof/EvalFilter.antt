@@ -3,7 +3,7 @@ use Rattle.eval.proofs.+apply_selector+apply_selectors+each_child+each_
 use Prim.Native.Nat.{ℕ}
 use Rattle.eval.proofs.eval_filter.Reads as eval-filter
 use Rattle.eval.proofs.evaluate_segment.Reads as evaluate-segment
-use Rattle.eval.proofs.keep_matched.Reads as keep-matched-reads
+use Rattle.eval_shortcuts.proofs.keep_matched.Reads as keep-matched-reads
 use Rattle.eval.proofs.next_kept.Reads as next-kept
 use Rattle.table.proofs.records.child_count.Reads as child-count-reads
 use Rattle.table.proofs.records.first_child.Reads as first-child-reads
@@ -12,9 +12,9 @@ use Rattle.eval.proofs.+apply_selector+apply_selectors+each_child+each_
 use borrow.Author.Needs.{needs}
 use Prim.Native.Nat.{_+_, _-_}
 use native.Mathlib.Omega.{arith}
-use Rattle.eval.specs.Steady.{steady-then, going-asked}
+use Rattle.eval_asks.specs.Steady.{steady-then, going-asked}
 use Rattle.eval.specs.Calls.{segment-room}
-use Rattle.eval.specs.Kinds.{filter-given, filter-later, rest-in, filter-bound, filter-inside, rest-asked, next-asked, kept-in-table, filter-done, InFilter, filter-start, filter-end-all, filter-full, filter-again, next-later}
+use Rattle.eval_asks.specs.Kinds.{filter-given, filter-later, rest-in, filter-bound, filter-inside, rest-asked, next-asked, kept-in-table, filter-done, InFilter, filter-start, filter-end-all, filter-full, filter-again, next-later}
 
 abbrev pub calls : ℕ → lts.Claims
 calls t = (keep-matched-reads.Asked, keep-matched-reads.Learnt, word16-reads.Asked, word16-reads.Learnt, first-child-reads.Asked, first-child-reads.Learnt, child-count-reads.Asked, child-count-reads.Learnt, next-kept-below t, next-kept.Post, evaluate-segment-below t, evaluate-segment.Post)

@@ -1,9 +1,9 @@
--- `eval::keep_children` meets its contract: a filter that is read once keeps what it selects, and else nothing is done. Assumes nothing.
+-- `eval_shortcuts::keep_children` meets its contract: a filter that is read once keeps what it selects, and else nothing is done. Assumes nothing.
 use borrow.Author.Needs.{needs}
-use Rattle.eval.proofs.keep_children.Statement.{statement}
-use Rattle.eval.proofs.keep_children.Tie as tie
-use Rattle.eval.proofs.keep_children.Reads as reads
-use Rattle.eval.proofs.keep_children.Lts as lts
+use Rattle.eval_shortcuts.proofs.keep_children.Statement.{statement}
+use Rattle.eval_shortcuts.proofs.keep_children.Tie as tie
+use Rattle.eval_shortcuts.proofs.keep_children.Reads as reads
+use Rattle.eval_shortcuts.proofs.keep_children.Lts as lts
 use Rattle.eval_filters.proofs.kept.keep.Reads as keep-reads
 use Rattle.eval_filters.proofs.kept.read_form.Reads as read-form-reads
 use Rattle.table.proofs.records.child_count.Reads as child-count-reads
@@ -12,8 +12,9 @@ use Rattle.text.proofs.bytes.word16.Reads as word16-reads
 use mathlib.Core.Path.{refl}
 use native.Mathlib.Omega.{arith}
 use Rattle.eval_filters.specs.Keeps.{test-code, tail-asked}
-use Rattle.eval.specs.Steady.{steady-refl, steady-wrote}
-use Rattle.eval.specs.Kinds.{filter-bound, filter-inside, test-asked, rest-asked, rest-in, keep-asked, keep-done, kept-none, kept-done}
+use Rattle.eval_asks.specs.Steady.{steady-refl, steady-wrote}
+use Rattle.eval_shortcuts.specs.Entries.{keep-asked, keep-done}
+use Rattle.eval_asks.specs.Kinds.{filter-bound, filter-inside, test-asked, rest-asked, rest-in, kept-none, kept-done}
 
 element-copy-out-plan : tie.Need-element-copy-out-plan
 element-copy-out-plan c = search needs

@@ -1,16 +1,17 @@
--- `eval::keep_matched` meets its contract: such a filter keeps what it selects, and else nothing is done. Assumes nothing.
+-- `eval_shortcuts::keep_matched` meets its contract: such a filter keeps what it selects, and else nothing is done. Assumes nothing.
 use mathlib.Core.Path.{refl}
 use native.Mathlib.Omega.{arith}
 use borrow.Author.Tests.{not-false}
 use Rattle.eval_filters.specs.Keeps.{tail-asked}
 use Rattle.eval_rows.specs.Calls.{call-asked}
-use Rattle.eval.specs.Steady.{steady-refl, steady-wrote}
-use Rattle.eval.specs.Kinds.{filter-bound, filter-inside, test-asked, rest-asked, rest-in, keep-asked, keep-done, kept-none, kept-done}
+use Rattle.eval_asks.specs.Steady.{steady-refl, steady-wrote}
+use Rattle.eval_shortcuts.specs.Entries.{keep-asked, keep-done}
+use Rattle.eval_asks.specs.Kinds.{filter-bound, filter-inside, test-asked, rest-asked, rest-in, kept-none, kept-done}
 use borrow.Author.Needs.{needs}
-use Rattle.eval.proofs.keep_matched.Statement.{statement}
-use Rattle.eval.proofs.keep_matched.Tie as tie
-use Rattle.eval.proofs.keep_matched.Reads as reads
-use Rattle.eval.proofs.keep_matched.Lts as lts
+use Rattle.eval_shortcuts.proofs.keep_matched.Statement.{statement}
+use Rattle.eval_shortcuts.proofs.keep_matched.Tie as tie
+use Rattle.eval_shortcuts.proofs.keep_matched.Reads as reads
+use Rattle.eval_shortcuts.proofs.keep_matched.Lts as lts
 use Rattle.eval_filters.proofs.kept.tail_of.Reads as tail-of-reads
 use Rattle.eval_rows.proofs.calls.read_call.Reads as read-call-reads
 use Rattle.eval_rows.proofs.keep_matched.Reads as keep-matched-reads
