@@ -24,7 +24,7 @@ use Rattle.eval_items.specs.declared.Regs.{Regs}
 use Rattle.eval_front.specs.Visits.{DoneReach}
 use Rattle.eval_front.specs.declared.Reached.{Reached}
 use Rattle.eval_filters.specs.Queries.{Past, begins-root, begins-node}
-use Rattle.eval.specs.Asks.{AskQuery, DoneQuery, DoneAnswer}
+use Rattle.eval_asks.specs.Asks.{AskQuery, DoneQuery, DoneAnswer}
 
 -- ---- the cap of a query
 

@@ -1,5 +1,5 @@
 pub mod Flats
 pub mod FlatLaws
 pub mod FlatTests
-pub mod Straights
 pub mod Alongs
+pub mod Entries

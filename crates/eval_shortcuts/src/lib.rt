@@ -1,7 +1,188 @@
-// Shortcuts of evaluation, each with the contract of what it stands for: nodes with nothing below their children under a descendant segment, a slice at the end
-// of a query, and a range of nodes with names and indices up to the end.
+// The shortcuts of evaluation, behind four functions. Each takes a query or a filter that it knows and gives the whole answer, with the contract of what it stands for;
+// else it leaves everything as it was, and says so: false, or the node that it was given. Evaluation knows no other shortcut, and is proved and right without them.
 //
 //   flats     nodes with nothing below their children under a descendant segment of one selector
-//   straight  a child segment of one slice at the end of a query; a range of nodes with names and indices up to the end
+//   straight  a range of nodes with names and indices up to the end
+//
+// Filters that are read once stand in `eval_filters`, those that are match or search alone in `eval_rows`.
+ghost use Rattle.eval_asks.specs.Asks.{Asked, Steady, AskEach, DoneAhead, AskFlats, DoneFlats, AskSelector, AskKind, DoneKeep};
+use eval_asks::AT;
+use eval_asks::CAP;
+use eval_asks::PLAN;
+use eval_asks::POOL;
+use eval_asks::ROOT;
+use eval_asks::TABLE;
+use eval_asks::TEXT;
+use eval_filters::kept;
+use eval_rows::calls;
+use table::records;
+use text::bytes;
+
 pub mod flats;
 pub mod straight;
+
+// The first node from i on that needs a call with the segments at rest, or i. What names and indices up to the end lead to from those before it is pushed.
+pub fn ahead(
+    lent: &[&[u8]; 4],
+    state: &mut [usize; 3],
+    list: &mut &mut [u32],
+    i: usize,
+    e: usize,
+    rest: usize,
+) -> usize
+    requires { ⌜ Asked (now lent) (now state) (now (now list)) ⌝ }
+    requires { ⌜ AskEach (now lent) i e rest ⌝ }
+    ensures { λ r. ⌜ Steady (now (state .entry)) (now (list .entry)) (now (state .exit)) (now (list .exit)) ⌝ }
+    ensures { λ r. ⌜ DoneAhead (now (lent .entry)) i e rest (now (state .entry)) (now (now (list .entry))) (now (state .exit)) (now (now (list .exit))) r ⌝ }
+{
+    let plan = lent[PLAN];
+    if !straight::leads(plan, rest) {
+        return i;
+    }
+    let at = state[AT];
+    let r = straight::push_along(
+        plan,
+        lent[POOL],
+        lent[TABLE],
+        lent[TEXT],
+        i,
+        e,
+        rest,
+        *list,
+        at,
+        state[CAP],
+    );
+    state[AT] = r.at;
+    r.i
+}
+
+// The first node from i on whose descent needs a call, or i. What the descendant segment at pc selects of those before it is pushed.
+pub fn pass_flats(
+    lent: &[&[u8]; 4],
+    state: &mut [usize; 3],
+    list: &mut &mut [u32],
+    i: usize,
+    e: usize,
+    pc: usize,
+) -> usize
+    requires { ⌜ Asked (now lent) (now state) (now (now list)) ⌝ }
+    requires { ⌜ AskFlats (now lent) i e pc ⌝ }
+    ensures { λ r. ⌜ Steady (now (state .entry)) (now (list .entry)) (now (state .exit)) (now (list .exit)) ⌝ }
+    ensures { λ r. ⌜ DoneFlats (now (lent .entry)) i e pc (now (state .entry)) (now (now (list .entry))) (now (state .exit)) (now (now (list .exit))) r ⌝ }
+{
+    let at = state[AT];
+    let cap = state[CAP];
+    let f = flats::flat_start(
+        lent[PLAN],
+        lent[POOL],
+        lent[TABLE],
+        lent[TEXT],
+        i,
+        e,
+        pc,
+        *list,
+        at,
+        cap,
+    );
+    state[AT] = f.at;
+    f.i
+}
+
+// The children of a node for which the filter at p holds, each with the segments at rest, where the filter is read once: whether it is.
+pub fn keep_children(
+    lent: &[&[u8]; 4],
+    state: &mut [usize; 3],
+    list: &mut &mut [u32],
+    node: usize,
+    p: usize,
+    rest: usize,
+) -> bool
+    requires { ⌜ Asked (now lent) (now state) (now (now list)) ⌝ }
+    requires { ⌜ AskSelector (now lent) node p rest ⌝ }
+    requires { ⌜ AskKind (now lent) p 9 ⌝ }
+    ensures { λ r. ⌜ Steady (now (state .entry)) (now (list .entry)) (now (state .exit)) (now (list .exit)) ⌝ }
+    ensures { λ r. ⌜ DoneKeep (now (lent .entry)) node p rest (now (state .entry)) (now (now (list .entry))) (now (state .exit)) (now (now (list .exit))) r ⌝ }
+{
+    let plan = lent[PLAN];
+    let z = p + 3 + bytes::word16(plan, p + 1);
+    let g = kept::read_form(plan, p + 3, z, rest);
+    if g.way == 0 {
+        return false;
+    }
+    let table = lent[TABLE];
+    let i = records::first_child(table, node) as usize;
+    let n = records::child_count(table, node) as usize;
+    let root = state[ROOT];
+    let at = state[AT];
+    let cap = state[CAP];
+    let next = kept::keep(
+        plan,
+        lent[POOL],
+        table,
+        lent[TEXT],
+        root,
+        i,
+        i + n,
+        p + 3,
+        z,
+        g,
+        rest,
+        *list,
+        at,
+        cap,
+    );
+    state[AT] = next;
+    true
+}
+
+// The same where the filter is match or search with a text of the plan, which is read once.
+pub fn keep_matched(
+    lent: &[&[u8]; 4],
+    state: &mut [usize; 3],
+    list: &mut &mut [u32],
+    node: usize,
+    p: usize,
+    rest: usize,
+) -> bool
+    requires { ⌜ Asked (now lent) (now state) (now (now list)) ⌝ }
+    requires { ⌜ AskSelector (now lent) node p rest ⌝ }
+    requires { ⌜ AskKind (now lent) p 9 ⌝ }
+    ensures { λ r. ⌜ Steady (now (state .entry)) (now (list .entry)) (now (state .exit)) (now (list .exit)) ⌝ }
+    ensures { λ r. ⌜ DoneKeep (now (lent .entry)) node p rest (now (state .entry)) (now (now (list .entry))) (now (state .exit)) (now (now (list .exit))) r ⌝ }
+{
+    let plan = lent[PLAN];
+    let z = p + 3 + bytes::word16(plan, p + 1);
+    let tail = kept::tail_of(plan, rest);
+    if 1 < tail {
+        return false;
+    }
+    let g = calls::read_call(plan, p + 3, z);
+    if !g.some {
+        return false;
+    }
+    let table = lent[TABLE];
+    let i = records::first_child(table, node) as usize;
+    let n = records::child_count(table, node) as usize;
+    let root = state[ROOT];
+    let at = state[AT];
+    let cap = state[CAP];
+    let next = eval_rows::keep_matched(
+        plan,
+        lent[POOL],
+        table,
+        lent[TEXT],
+        root,
+        i,
+        i + n,
+        p + 3,
+        z,
+        g,
+        tail,
+        rest,
+        *list,
+        at,
+        cap,
+    );
+    state[AT] = next;
+    true
+}

@@ -6,7 +6,7 @@ use Rattle.eval.proofs.each_child.Reads as each-child
 use Rattle.eval.proofs.each_place.Reads as each-place
 use Rattle.eval.proofs.eval_filter.Reads as eval-filter
 use Rattle.eval.proofs.evaluate_segment.Reads as evaluate-segment
-use Rattle.eval.proofs.keep_children.Reads as keep-children-reads
+use Rattle.eval_shortcuts.proofs.keep_children.Reads as keep-children-reads
 use Rattle.eval_items.proofs.leaves.select_one.Reads as select-one-reads
 use Rattle.table.proofs.records.child_count.Reads as child-count-reads
 use Rattle.table.proofs.records.first_child.Reads as first-child-reads
@@ -15,8 +15,8 @@ use borrow.Author.Needs.{needs}
 use native.Mathlib.Omega.{arith}
 use borrow.Author.Tests.{not-true, not-false}
 use Rattle.eval_laws.specs.Ranges.{range-of}
-use Rattle.eval.specs.Steady.{steady-refl, steady-then, asked-later}
-use Rattle.eval.specs.Kinds.{one-asked, rest-in, selector-absent, found-asked, selector-found, each-asked, wildcard-done, kept-after, kept-room, kind-filter}
+use Rattle.eval_asks.specs.Steady.{steady-refl, steady-then, asked-later}
+use Rattle.eval_asks.specs.Kinds.{one-asked, rest-in, selector-absent, found-asked, selector-found, each-asked, wildcard-done, kept-after, kept-room, kind-filter}
 
 abbrev pub calls : ℕ → lts.Claims
 calls t = (select-one-reads.Asked, select-one-reads.Learnt, evaluate-segment-below t, evaluate-segment.Post, each-place-below t, each-place.Post, first-child-reads.Asked, first-child-reads.Learnt, child-count-reads.Asked, child-count-reads.Learnt, each-child-below t, each-child.Post, keep-children-reads.Asked, keep-children-reads.Learnt, eval-filter-below t, eval-filter.Post)

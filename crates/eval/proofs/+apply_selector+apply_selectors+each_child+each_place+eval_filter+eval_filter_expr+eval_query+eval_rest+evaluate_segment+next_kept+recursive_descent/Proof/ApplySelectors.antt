@@ -9,7 +9,7 @@ use Rattle.text.proofs.bytes.word16.Reads as word16-reads
 use Rattle.eval.proofs.+apply_selector+apply_selectors+each_child+each_place+eval_filter+eval_filter_expr+eval_query+eval_rest+evaluate_segment+next_kept+recursive_descent.Proof.Base.{apply-selector-below, apply-selectors-at}
 use borrow.Author.Needs.{needs}
 use native.Mathlib.Omega.{arith}
-use Rattle.eval.specs.Steady.{steady-then, going-asked}
+use Rattle.eval_asks.specs.Steady.{steady-then, going-asked}
 use Rattle.eval.specs.Calls.{selector-room, InSelectors, parts-bound, parts-skip, selectors-start, selectors-asked, selectors-in, selectors-passed, selectors-again, selectors-done, selectors-next}
 
 abbrev pub calls : ℕ → lts.Claims

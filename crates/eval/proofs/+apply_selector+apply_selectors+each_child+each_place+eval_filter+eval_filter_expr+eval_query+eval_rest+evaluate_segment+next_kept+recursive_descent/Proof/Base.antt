@@ -5,7 +5,7 @@ use mathlib.Core.List.{List}
 use lib.ListN.{length}
 use Rattle.definition.specs.Limits.{maxDepth}
 use Rattle.definition.specs.Tables.{depthAt}
-use Rattle.eval.specs.Lent.{planOf, tableOf}
+use Rattle.eval_asks.specs.Lent.{planOf, tableOf}
 use borrow.Fn.Kinds.{In}
 use borrow.Fn.PlainCycle.{Measures, is, falls, and}
 use Rattle.eval.proofs.apply_selector.Reads as apply-selector

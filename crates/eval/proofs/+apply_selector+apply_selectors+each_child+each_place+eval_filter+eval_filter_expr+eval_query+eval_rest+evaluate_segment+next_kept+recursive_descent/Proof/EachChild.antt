@@ -15,10 +15,10 @@ use native.Mathlib.Omega.{arith}
 use lib.ListN.{getD}
 use Rattle.eval_laws.specs.Items.{segments-in}
 use Rattle.eval_laws.specs.Ranges.{range-of}
-use Rattle.eval.specs.Lent.{planOf}
-use Rattle.eval.specs.Steady.{steady-refl, steady-wrote, going-start}
+use Rattle.eval_asks.specs.Lent.{planOf}
+use Rattle.eval_asks.specs.Steady.{steady-refl, steady-wrote, going-start}
 use Rattle.eval.specs.Calls.{segment-room}
-use Rattle.eval.specs.Kinds.{InEach, each-none, each-ended, numbers-asked, each-again, each-full, each-end, each-enters, each-asked, wildcard-done}
+use Rattle.eval_asks.specs.Kinds.{InEach, each-none, each-ended, numbers-asked, each-again, each-full, each-end, each-enters, each-asked, wildcard-done}
 use Rattle.eval.specs.Alone.{enter-head, enter-selector, enter-done, wildcard-ends, query-bound}
 
 abbrev pub calls : ℕ → lts.Claims

@@ -12,9 +12,9 @@ use Rattle.eval.proofs.+apply_selector+apply_selectors+each_child+each_
 use borrow.Author.Needs.{needs}
 use mathlib.Core.Path.{refl}
 use native.Mathlib.Omega.{arith}
-use Rattle.eval.specs.Steady.{steady-wrote, going-start, going-asked}
+use Rattle.eval_asks.specs.Steady.{steady-wrote, going-start, going-asked}
 use Rattle.eval.specs.Calls.{segment-room}
-use Rattle.eval.specs.Kinds.{rest-in, slice-walk, placed-asked, placed-in, walked-asked, slice-ended, slice-done-all, InPlaces, place-in, place-near, places-again, places-full, places-end}
+use Rattle.eval_asks.specs.Kinds.{rest-in, slice-walk, placed-asked, placed-in, walked-asked, slice-ended, slice-done-all, InPlaces, place-in, place-near, places-again, places-full, places-end}
 
 abbrev pub calls : ℕ → lts.Claims
 calls t = (first-child-reads.Asked, first-child-reads.Learnt, slice-at-reads.Asked, slice-at-reads.Learnt, placed-reads.Asked, placed-reads.Learnt, push-places-reads.Asked, push-places-reads.Learnt, evaluate-segment-below t, evaluate-segment.Post, further-reads.Asked, further-reads.Learnt)

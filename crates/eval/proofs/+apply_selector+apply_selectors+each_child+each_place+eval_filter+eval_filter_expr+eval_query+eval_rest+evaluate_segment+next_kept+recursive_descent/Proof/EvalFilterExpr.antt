@@ -14,7 +14,7 @@ use mathlib.Core.Path.{sym, _∙_}
 use borrow.Author.Tests.{not-false}
 use Rattle.eval_laws.specs.Todos.{todo-start, todo-in, todo-end}
 use Rattle.eval_filters.specs.Tests.{logic-kind}
-use Rattle.eval.specs.Lent.{planOf, poolOf, tableOf, textOf}
+use Rattle.eval_asks.specs.Lent.{planOf, poolOf, tableOf, textOf}
 use Rattle.eval.specs.Loops.{InTest}
 
 abbrev pub calls : ℕ → lts.Claims

@@ -16,7 +16,7 @@ use borrow.Author.Tests.{not-true, not-false}
 use lib.ListN.{getD}
 use Rattle.eval_laws.specs.Items.{segments-in}
 use Rattle.eval_filters.specs.Queries.{begins-in, past-of, found-lost, found-one}
-use Rattle.eval.specs.Lent.{planOf}
+use Rattle.eval_asks.specs.Lent.{planOf}
 use Rattle.eval.specs.Queries.{cap-small, query-done, here, nested-found, nested-head, walk-found}
 
 abbrev pub calls : ℕ → lts.Claims

@@ -9,7 +9,7 @@ use borrow.Author.Needs.{needs}
 use Prim.Native.Nat.{_-_}
 use native.Mathlib.Omega.{arith}
 use Rattle.eval_laws.specs.Todos.{todo-in, todo-end}
-use Rattle.eval.specs.Lent.{planOf, poolOf, tableOf, textOf}
+use Rattle.eval_asks.specs.Lent.{planOf, poolOf, tableOf, textOf}
 use Rattle.eval.specs.Loops.{InRest}
 
 abbrev pub calls : ℕ → lts.Claims

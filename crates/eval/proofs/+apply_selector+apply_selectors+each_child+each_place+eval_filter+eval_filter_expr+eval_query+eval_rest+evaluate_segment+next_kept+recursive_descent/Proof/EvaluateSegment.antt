@@ -11,7 +11,7 @@ use borrow.Author.Needs.{needs}
 use mathlib.Core.Path.{refl}
 use native.Mathlib.Omega.{arith}
 use borrow.Author.Tests.{not-true, not-false}
-use Rattle.eval.specs.Steady.{steady-refl, steady-wrote}
+use Rattle.eval_asks.specs.Steady.{steady-refl, steady-wrote}
 use Rattle.eval.specs.Calls.{reach-asked, reached-in, segment-lost, push-asked, segment-ends, onward-selectors, segment-child-done, onward-descent, segment-descent-done}
 
 abbrev pub calls : ℕ → lts.Claims

@@ -6,7 +6,7 @@ use Rattle.eval.proofs.next_kept.Reads as next-kept
 use Rattle.eval.proofs.+apply_selector+apply_selectors+each_child+each_place+eval_filter+eval_filter_expr+eval_query+eval_rest+evaluate_segment+next_kept+recursive_descent.Proof.Base.{eval-filter-expr-below, next-kept-at}
 use Prim.Native.Nat.{_-_}
 use native.Mathlib.Omega.{arith}
-use Rattle.eval.specs.Kinds.{InNext, next-found, next-none, next-again}
+use Rattle.eval_asks.specs.Kinds.{InNext, next-found, next-none, next-again}
 
 abbrev pub calls : ℕ → lts.Claims
 calls t = (eval-filter-expr-below t, eval-filter-expr.Post)

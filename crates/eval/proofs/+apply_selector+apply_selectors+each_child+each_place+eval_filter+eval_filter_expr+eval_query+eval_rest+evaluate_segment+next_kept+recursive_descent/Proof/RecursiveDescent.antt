@@ -11,7 +11,7 @@ use borrow.Author.Needs.{needs}
 use Prim.Native.Nat.{_-_}
 use native.Mathlib.Omega.{arith}
 use Rattle.eval_laws.specs.Ranges.{range-of, range-in}
-use Rattle.eval.specs.Steady.{steady-then, asked-later, going-start, going-asked}
+use Rattle.eval_asks.specs.Steady.{steady-then, asked-later, going-start, going-asked}
 use Rattle.eval.specs.Calls.{selectors-room, descent-room, descent-selectors, InDescent, descent-again, descent-ended, descent-done, child-of}
 
 abbrev pub calls : ℕ → lts.Claims

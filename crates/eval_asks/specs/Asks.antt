@@ -30,7 +30,7 @@ use Rattle.eval_items.specs.declared.Regs.{Regs}
 use Rattle.eval_front.specs.Visits.{capLimit, Given, Query, over}
 use Rattle.eval_front.specs.Stands.{Alone}
 use Rattle.eval_filters.specs.Kept.{Tested, AskTest}
-use Rattle.eval.specs.Lent.{planOf, poolOf, tableOf, textOf, rootOf, capOf, atOf}
+use Rattle.eval_asks.specs.Lent.{planOf, poolOf, tableOf, textOf, rootOf, capOf, atOf}
 
 -- ---- where evaluation begins
 

@@ -1,13 +1,13 @@
 -- `ahead` meets its contract. Assumes nothing.
 use native.Mathlib.Omega.{arith}
 use mathlib.Core.Path.{refl}
-use Rattle.eval.specs.Steady.{steady-refl, steady-wrote}
-use Rattle.eval.specs.Aheads.{rest-here, ahead-none, ahead-asked, ahead-done}
+use Rattle.eval_asks.specs.Steady.{steady-refl, steady-wrote}
+use Rattle.eval_shortcuts.specs.Entries.{rest-here, ahead-none, ahead-asked, ahead-done}
 use borrow.Author.Needs.{needs}
-use Rattle.eval.proofs.ahead.Statement.{statement}
-use Rattle.eval.proofs.ahead.Tie as tie
-use Rattle.eval.proofs.ahead.Reads as reads
-use Rattle.eval.proofs.ahead.Lts as lts
+use Rattle.eval_shortcuts.proofs.ahead.Statement.{statement}
+use Rattle.eval_shortcuts.proofs.ahead.Tie as tie
+use Rattle.eval_shortcuts.proofs.ahead.Reads as reads
+use Rattle.eval_shortcuts.proofs.ahead.Lts as lts
 
 element-copy-out-plan : tie.Need-element-copy-out-plan
 element-copy-out-plan c = search needs

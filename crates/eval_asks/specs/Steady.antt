@@ -7,8 +7,8 @@ use lib.ListN.{length, set, length-set}
 use lib.Seq.{getD-set-same, getD-set-other}
 use denote.Ref.{RefT, at-last}
 use Rattle.eval_laws.specs.States.{State, st}
-use Rattle.eval.specs.Lent.{rootOf, capOf, atOf}
-use Rattle.eval.specs.Asks.{Asked, Steady, Gives}
+use Rattle.eval_asks.specs.Lent.{rootOf, capOf, atOf}
+use Rattle.eval_asks.specs.Asks.{Asked, Steady, Gives}
 
 -- ---- what is kept
 

@@ -31,11 +31,10 @@ use Rattle.eval_front.specs.Fronts.{never}
 use Rattle.eval_front.specs.Places.{goes-places, goes-step, goes-end}
 use Rattle.eval_front.specs.Stands.{kind-low, kind-high, alone-in, one-found, one-absent, slice-asked, slice-done, filter-end}
 use Rattle.eval_front.specs.Spans.{over-range, wildcard-range}
-use Rattle.eval_filters.specs.Kept.{Tested, AskTest, AskKept, DoneTest, tested-of}
-use Rattle.eval_filters.specs.Keeps.{DoneRange}
-use Rattle.eval.specs.Lent.{planOf, poolOf, tableOf, textOf, rootOf, capOf, atOf}
-use Rattle.eval.specs.Asks.{Asked, Steady, Gives, AskEnter, AskSegment, DoneSegment, AskSelector, DoneSelector, Selects, selection, DoneKeep, AskEach, DoneEach, each, AskNext, DoneNext}
-use Rattle.eval.specs.Steady.{steady-refl, gives-wrote, gives-none, gives-as, Going, going-asked, going-on, going-step, going-end, going-full}
+use Rattle.eval_filters.specs.Kept.{Tested, AskTest, DoneTest, tested-of}
+use Rattle.eval_asks.specs.Lent.{planOf, poolOf, tableOf, textOf, rootOf, capOf, atOf}
+use Rattle.eval_asks.specs.Asks.{Asked, Steady, Gives, AskEnter, AskSegment, DoneSegment, AskSelector, AskKind, DoneSelector, Selects, selection, DoneKeep, AskEach, DoneEach, each, AskNext, DoneNext}
+use Rattle.eval_asks.specs.Steady.{steady-refl, steady-then, asked-later, gives-wrote, gives-none, gives-as, Going, going-asked, going-on, going-step, going-end, going-full}
 
 -- ---- forms
 
@@ -145,7 +144,7 @@ module _ {v : List (RefT (List ℕ))} {s l : List ℕ} {node p rest : ℕ} (a : 
   -- ---- a filter
 
   module _ (k : getD (planOf v) p 0 ≡ 9) where
-    filtered : (x : Selects (planOf v) (poolOf v) p rest) → Filtered (planOf v) (poolOf v) p (x .k) (x .x)
+    pub filtered : (x : Selects (planOf v) (poolOf v) p rest) → Filtered (planOf v) (poolOf v) p (x .k) (x .x)
     filtered x =
         is-filter (planOf v) (poolOf v) (a .given .fewP) (a .given .fewL) p (x .k) (x .x) (x .stands .selector) (λ z. omega arith) (λ z. omega arith) (λ z. omega arith) (λ z. omega arith)
 
@@ -156,7 +155,7 @@ module _ {v : List (RefT (List ℕ))} {s l : List ℕ} {node p rest : ℕ} (a : 
       pub filter-inside : p + 3 + n ≤ rest
       filter-inside = filter-end (q .selects .stands) (filtered (q .selects)) n w
 
-      tests : (x : Selects (planOf v) (poolOf v) p rest) → Tested (planOf v) (poolOf v) (p + 3) (p + 3 + n) (filtered x .t) (x .k)
+      pub tests : (x : Selects (planOf v) (poolOf v) p rest) → Tested (planOf v) (poolOf v) (p + 3) (p + 3 + n) (filtered x .t) (x .k)
       tests x = tested-of (filtered x) n w
 
       pub test-asked : AskTest (planOf v) (poolOf v) (p + 3) (p + 3 + n)
@@ -173,16 +172,10 @@ module _ {v : List (RefT (List ℕ))} {s l : List ℕ} {node p rest : ℕ} (a : 
         kept-in-table h = range-in S X (a .given .tab) node (q .node-in) i c kept-range (omega arith)
 
         -- the children that the filter keeps are what it selects
-        kept-same : (x : Selects (planOf v) (poolOf v) p rest) (R : ℕ) (σ : State) → over (x .q) (nodeAt S X R) (kept (filtered x .t) (nodeAt S X R)) S X i (i + c) σ ≡ selection v node p rest x R σ
+        pub kept-same : (x : Selects (planOf v) (poolOf v) p rest) (R : ℕ) (σ : State) → over (x .q) (nodeAt S X R) (kept (filtered x .t) (nodeAt S X R)) S X i (i + c) σ ≡ selection v node p rest x R σ
         kept-same x R σ =
             over-range (x .q) _ (kept (filtered x .t) _) S X i c σ ∙ span-kept (x .q) (filtered x .t) _ S X i c σ
             ∙ select-filter S X (a .given .tab) node (q .node-in) i c kept-range (x .q) _ σ (x .x) (filtered x .t) (filtered x .made)
-
-        pub keep-asked : AskKept (planOf v) (poolOf v) (tableOf v) (textOf v) (rootOf s) i (i + c) rest (length l) (atOf s) (capOf s)
-        keep-asked = record { given = a .given; root-in = a .root-in; range = kept-in-table; query = behind (q .selects); room = a .room; wide = a .wide; small = a .small }
-
-        pub keep-done : (l′ : List ℕ) (r : ℕ) → DoneRange (planOf v) (poolOf v) (tableOf v) (textOf v) (rootOf s) i (i + c) (p + 3) (p + 3 + n) rest (capOf s) l (atOf s) l′ r → DoneSelector v node p rest s l (set s 2 r) l′
-        keep-done l′ r d = gives-wrote _ s l l′ r a (λ x. d .ended (filtered x .t) (x .k) (x .q) (x .k′) (tests x) (x .stands .after) ∙ kept-same x (rootOf s) _)
 
         pub next-asked : (j : ℕ) → i ≤ j → AskNext v (rootOf s) j (i + c) (p + 3) (p + 3 + n)
         next-asked j h = record { given = a .given; root-in = a .root-in; range = λ y. kept-in-table (omega arith); test = test-asked }
@@ -354,6 +347,13 @@ kept-after {v} {node} {p} {rest} {s} {l} {l′ = l′} {s″ = s″} {l″ = l�
 
 pub kept-room : {v : List (RefT (List ℕ))} {node p rest : ℕ} {s l s′ l′ : List ℕ} {r : Bits} → Asked v s l → DoneKeep v node p rest s l s′ l′ r → r ≡ false → atOf s′ ≤ capOf s + 1
 kept-room {s = s} a k e = subst (λ (x : List ℕ). atOf x ≤ capOf s + 1) (sym (k .numbers e)) (a .room)
+
+-- and what is asked there is asked still
+pub filter-given : {v : List (RefT (List ℕ))} {node p rest : ℕ} {s s′ : List ℕ} {l l′ : RefT (List ℕ)} {r : Bits} → Asked v s (l .now) × (AskSelector v node p rest × AskKind v p 9) → Steady s l s′ l′ × DoneKeep v node p rest s (l .now) s′ (l′ .now) r → r ≡ false → Asked v s′ (l′ .now) × (AskSelector v node p rest × AskKind v p 9)
+filter-given a k e = (asked-later (k .0) (a .0) (kept-room (a .0) (k .1) e), a .1)
+
+pub filter-later : {v : List (RefT (List ℕ))} {node p rest : ℕ} {s s′ s″ : List ℕ} {l l′ l″ : RefT (List ℕ)} {r : Bits} → Steady s l s′ l′ × DoneKeep v node p rest s (l .now) s′ (l′ .now) r → r ≡ false → Steady s′ l′ s″ l″ → DoneSelector v node p rest s′ (l′ .now) s″ (l″ .now) → Steady s l s″ l″ × DoneSelector v node p rest s (l .now) s″ (l″ .now)
+filter-later k e u d = (steady-then (k .0) u, kept-after (k .1) e d)
 
 -- a selector that is none of the others is a filter
 pub kind-filter : {v : List (RefT (List ℕ))} {s l : List ℕ} {node p rest : ℕ} → Asked v s l → AskSelector v node p rest → 6 < getD (planOf v) p 0 → (getD (planOf v) p 0 ≡ 7 → ⊥) → (getD (planOf v) p 0 ≡ 8 → ⊥) → getD (planOf v) p 0 ≡ 9

@@ -1,0 +1,4 @@
+pub mod Lent
+pub mod Asks
+pub mod Steady
+pub mod Kinds
