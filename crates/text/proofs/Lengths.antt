@@ -1,7 +1,7 @@
 -- A block of bytes of a text of some kind: that its bytes are placed, and what the turned bytes say. Assumes nothing.
 use Prim.Native.Nat.{ℕ, zero, suc, _+_, _-_, _≤_, _<_}
-use mathlib.Core.Path.{_≡_, refl, sym, ap, _∙_, subst}
-use mathlib.Core.Bool.{Bool, true, false, not, cond, _&&_, _||_, and-eq-true-iff, true≢false}
+use mathlib.Core.Path.{_≡_, refl, sym, _∙_, subst}
+use mathlib.Core.Bool.{Bool, true, false, not, _&&_, _||_, and-eq-true-iff, true≢false}
 use mathlib.Core.List.{List}
 use native.Mathlib.Nat.{le-trans}
 use native.Mathlib.Omega.{arith}
@@ -265,13 +265,6 @@ start-turned c x h l =
     by-test (leb 0x80 x && leb x 0x9F)
     (λ t. let w = turned-not (startTurned 0 0x0D) 0xE0 256 refl c h (rw (mark-none x 0x8F 0x10 f, mark-low x 0x9F 0x0D t) at l) in (low-bounds c x t (w .0), λ _ m. beyond x 0x8F f m))
     (λ g. let w = turned-not (startTurned 0 0) 0xED 256 refl c h (rw (mark-none x 0x8F 0x10 f, mark-none x 0x9F 0x0D g) at l) in (high-bounds c x g (w .0), λ _ m. beyond x 0x8F f m)))
-
--- a mark is no more than it is
-pub mark-most : (x top mark : ℕ) → lowMark x top mark ≤ mark
-mark-most x top mark =
-    by-test (leb 0x80 x && leb x top)
-    (λ t. rw (mark-low x top mark t) (omega arith))
-    (λ f. rw (mark-none x top mark f) (omega arith))
 
 module _ (n : ℕ) where
   pub least-two : n ≡ 2 → leastOf n ≡ 0x22

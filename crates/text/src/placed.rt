@@ -261,12 +261,12 @@ fn passes_block(s: &[u8], at: usize, n: usize, kind: u8) -> u8
     next_kind(s, at, n, kind)
 }
 
-// How many of the bytes that are left are tested next: 512 where the first 64 are ASCII, and else as many as a block may have, by 64.
+// How many of the bytes that are left are tested next: 512 where the first 32 are ASCII, and else as many as a block may have, by 64.
 fn step_at(s: &[u8], at: usize, left: usize) -> usize
     requires { ⌜ (at + left + 3 ≤ length (now s)) × (512 ≤ left) ⌝ }
     ensures { λ r. ⌜ (64 ≤ r) × (r ≤ left) ⌝ }
 {
-    if ascii_many(s, at) {
+    if encoding::ascii32(s, at + BEFORE) {
         return MOST;
     }
     if LARGE < left {
