@@ -148,6 +148,11 @@ word-of s i k l e =
     let w = word s i p in
     (p, cc, cc)
 
+-- the word k stands at a place
+pub record Word (s : List ℕ) (at k : ℕ) : Type 0 where
+  pub here : at < length s
+  pub is : getD s at 0 ≡ k
+
 -- the words of ranges are two for each, and what is behind them is behind them
 pub drop-ranges : (gs : List Range) (r : List ℕ) → drop (2 * length gs) (flatRanges gs r) ≡ r
 drop-ranges [] r = refl

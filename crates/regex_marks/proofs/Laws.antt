@@ -13,11 +13,12 @@ use Rattle.regex_code.specs.Flat.{flat, of-empty, of-class, of-then, of-or, of-
 use Rattle.regex_code.specs.Skips.{Skips, SkipsClass}
 use Rattle.regex_marks.specs.Marks.{size, Good}
 use Rattle.regex_marks.specs.Moves.{Moved, Shifted, Copied, Endless}
-use Rattle.regex_marks.proofs.Turns.{turn-none, turn-zero, turn-class, eqb-told}
+use Rattle.regex_marks.proofs.Turns.{turn-none, turn-zero, turn-class}
 use Rattle.regex_marks.specs.Runs.{Entered}
 use Rattle.regex_marks.proofs.Hollow.{moved-bare, moved-hollow, endless-some}
 use Rattle.basics.specs.Lists.{drop-at as word}
 use Rattle.regex_marks.proofs.Moved.{kept-refl, second-ready, moved-then, moved-or, moved-more, moved-next, moved-last, moved-loop}
+use Rattle.regex_code.specs.Tests.{eqb-told}
 
 -- what is asked of an expression at a place
 Asked : List ℕ → ℕ → List ℕ → List ℕ → Bool → ℕ → ℕ → ℕ → Bool → Bool → Bool → Regexp → List ℕ → Type 0

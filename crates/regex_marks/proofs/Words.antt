@@ -10,10 +10,11 @@ use lib.ListN.{length, drop}
 use Rattle.regex_code.specs.Skips.{Skips, SkipsClass, drop-min}
 use Rattle.regex_marks.specs.declared.passes.Pass.{Pass}
 use Rattle.regex_marks.specs.Passes.{flagOf, passOf, enterOf, chainOf, forkOf, secondOf, joinedOf}
-use Rattle.regex_marks.specs.Moves.{Fits, Word, Shifted, Copied, Endless, ShiftedBy, CopiedBy, EndlessBy}
+use Rattle.regex_marks.specs.Moves.{Fits, Shifted, Copied, Endless, ShiftedBy, CopiedBy, EndlessBy}
 use Rattle.regex_marks.proofs.Laws.{shift-then, shift-or}
 use Rattle.regex_marks.specs.Runs.{Weighs, Capped}
 use Rattle.regex_marks.proofs.Runs.{weigh-then, weigh-or}
+use Rattle.regex_code.specs.Flat.{Word}
 
 flag-few : (b : Bool) → flagOf b ≤ 1
 flag-few true = omega arith

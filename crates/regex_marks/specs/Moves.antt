@@ -69,8 +69,3 @@ CopiedBy s at enter c b lo hi ms ms' t = Copied s at enter c b lo hi ms ms' (t .
 
 abbrev pub EndlessBy : List ℕ → ℕ → Bool → ℕ → ℕ → ℕ → List ℕ → List ℕ → Pass → Type 0
 EndlessBy s at enter c b lo ms ms' t = Endless s at enter c b lo ms ms' (t .next) (t .size) (t .empty) (t .was) (t .now)
-
--- the word at a place
-pub record Word (s : List ℕ) (at k : ℕ) : Type 0 where
-  pub here : at < length s
-  pub is : getD s at 0 ≡ k

@@ -30,9 +30,10 @@ ghost use mathlib.Core.Path.{_≡_};
 ghost use mathlib.Core.Bool.{true};
 ghost use Prim.Native.Nat.{_+_, _-_, _≤_, _<_, _^_};
 ghost use lib.ListN.{length};
-ghost use Rattle.regex_marks.specs.Moves.{Fits, Word, ShiftedBy, CopiedBy, EndlessBy};
+ghost use Rattle.regex_marks.specs.Moves.{Fits, ShiftedBy, CopiedBy, EndlessBy};
 ghost use Rattle.regex_marks.specs.Runs.{Read, Ran, Clear, Dead, Grows, Weighs, Capped, Entered};
 ghost use Rattle.regex_marks.specs.Passes.{passOf};
+ghost use Rattle.regex_code.specs.Flat.{Word};
 
 // Whether the class at `at` is entered and has c.
 fn hits(code: &[u32], at: usize, enter: bool, c: u32) -> bool

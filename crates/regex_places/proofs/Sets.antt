@@ -11,10 +11,10 @@ use lib.ListN.{length, set, drop, getD, length-set}
 use lib.Seq.{slice-cons, slice-empty, getD-set-same, getD-set-other}
 use Rattle.basics.specs.Lists.{drop-at as word}
 use Rattle.regex_definition.specs.Regexp.{Range, One, hits, Describes}
-use Rattle.regex_code.specs.Flat.{flag, flatRanges, of-class}
+use Rattle.regex_code.specs.Flat.{flag, flatRanges, of-class, Word}
 use Rattle.regex_chars.specs.Laws.{slice-first, slice-nil}
 use Rattle.regex_chars.specs.Classes.{Hits}
-use Rattle.regex_places.specs.Places.{Reach, In, Image, Reached, once, Word, Moves, Moving, Same, Adds, Both, None, IsRow}
+use Rattle.regex_places.specs.Places.{Reach, In, Image, Reached, once, Moves, Moving, Same, Adds, Both, None, IsRow}
 use Rattle.regex_places.specs.Places.Adds.{was, new}
 
 -- a decision on two numbers

@@ -15,10 +15,10 @@ use Rattle.basics.specs.Lists.{drop-at as word}
 use Rattle.regex_definition.specs.Words.{Join, Row, Times, upto, any, Told, holds, fails}
 use Rattle.regex_definition.specs.Laws.{row-add, row-split, times-split, times-join}
 use Rattle.regex_definition.specs.Regexp.{Regexp, Describes}
-use Rattle.regex_code.specs.Flat.{flat, of-empty, of-then, of-or, of-upto, of-any, of-short, of-other, of-nothing, word-of}
+use Rattle.regex_code.specs.Flat.{flat, of-empty, of-then, of-or, of-upto, of-any, of-short, of-other, of-nothing, word-of, Word}
 use Rattle.regex_code.specs.Skips.{Skips}
 use Rattle.regex_total.proofs.Count.{any-upto, upto-any, upto-more}
-use Rattle.regex_places.specs.Places.{Reach, In, Image, Fits, Reached, once, rows, most, Word, IsRow, Same, Both, None, Wider, Left, Rest, Row-left, Placed}
+use Rattle.regex_places.specs.Places.{Reach, In, Image, Fits, Reached, once, rows, most, IsRow, Same, Both, None, Wider, Left, Rest, Row-left, Placed}
 use Rattle.regex_places.proofs.Sets.{same-or-not}
 use Rattle.regex_places.proofs.Reaching.{reach-map, reach-empty, empty-reach, reach-then, then-reach, closed-times, times-grow, grow-times}
 

@@ -12,7 +12,7 @@ use Rattle.definition.specs.Utf8.{encode, encodeAll}
 use Rattle.basics.specs.Lists.{drop-at as word}
 use Rattle.regex_chars.specs.Chars.{Stands}
 use Rattle.regex_chars.specs.Classes.{Hits}
-use Rattle.regex_chars.specs.Laws.{encodeAll-none, encodeAll-cons, encodeAll-nil, nil-slice, slice-nil}
+use Rattle.regex_chars.specs.Laws.{encodeAll-none, encodeAll-cons, encodeAll-nil, nil-slice, slice-nil, Spells}
 use lib.Dec.{eqb}
 use borrow.Author.Tests.{eqb-true, eqb-false}
 use Rattle.regex_definition.specs.Words.{Join, Row, Times, upto, Told, holds, fails}
@@ -21,9 +21,10 @@ use Rattle.regex_definition.specs.Laws.{join-map, join-nil}
 use Rattle.regex_definition.specs.Agree.{told, told-true, bool-told}
 use Rattle.regex_code.specs.Flat.{flat, of-empty, of-class, of-then, of-or, of-upto, of-any, of-short, of-other, of-nothing, word-of}
 use Rattle.regex_code.specs.Skips.{Skips}
-use Rattle.regex_total.specs.Answers.{Inside, Spells, Matched, Repeated, Paired, Joined, Enough}
+use Rattle.regex_total.specs.Answers.{Inside, Matched, Repeated, Paired, Joined, Enough}
 use Rattle.regex_total.proofs.Count.{halves-join, halves-split, of-once, to-once, of-most-once, any-upto, upto-any, upto-more, row-nil}
 use Rattle.regex_total.proofs.Parts.{append-same, front-spells, spells-nil, nil-spells, spells-chars}
+use Rattle.regex_code.specs.Tests.{eqb-told}
 
 pub told-false : {P : Type 0} {b : Bool} → Told P b → b ≡ false → P → ⊥
 told-false (holds p) e q = let z : _≡_ {A = ℕ} 1 0 = ap number e in omega arith
@@ -32,13 +33,6 @@ told-false (holds p) e q = let z : _≡_ {A = ℕ} 1 0 = ap number e in omega ar
     number true = 1
     number false = 0
 told-false (fails n) e q = n q
-
-eqb-told : (a b : ℕ) → Told (a ≡ b) (eqb a b)
-eqb-told a b = go (eqb a b) refl
-  where
-    go : (t : Bool) → eqb a b ≡ t → Told (a ≡ b) t
-    go true e = holds (eqb-true a b e)
-    go false e = fails (eqb-false a b e)
 
 module _ (s t : List ℕ) (from to : ℕ) (i : Inside t from to) where
   -- the empty word

@@ -2,7 +2,7 @@
 use mathlib.Core.Path.{_≡_, refl, ap, sym, _∙_, subst}
 use mathlib.Core.Bool.{Bool, true, false, not, _&&_, _||_}
 use mathlib.Core.List.{List, [], _∷_}
-use mathlib.Core.Logic.{_⊎_, inl, inr, ⊎-elim}
+use mathlib.Core.Logic.{inl, inr, ⊎-elim}
 use Prim.Native.Nat.{ℕ, zero, suc, pred, _+_, _≤_, _<_}
 use native.Mathlib.Omega.{arith}
 use lib.Dec.{leb}
@@ -10,16 +10,13 @@ use lib.ListN.{length, getD}
 use borrow.Author.Tests.{leb-true}
 use Rattle.regex_definition.specs.Chars.{within}
 use Rattle.regex_definition.specs.Words.{Join, Row, Times, Most, upto, any}
-use Rattle.regex_definition.specs.Regexp.{Range, inside, hits, Regexp, empty, class, then, or, times, One, Describes}
+use Rattle.regex_definition.specs.Regexp.{Range, inside, hits, Regexp, empty, class, then, or, times, Describes}
 use Rattle.regex_definition.specs.Laws.{join-cons, cons-join, nil-join, join-map}
 use Rattle.regex_code.specs.Flat.{flat, flatRanges}
 use Rattle.regex_marks.specs.Marks.{size, Rest, RestUpto, RestAny}
-use Rattle.regex_states.specs.States.{After}
-use Rattle.regex_states.specs.Ready.{Alike}
+use Rattle.regex_states.specs.Ready.{Interchangeable}
 use Rattle.regex_states.specs.Rooms.{AllLow}
-
-not-nil : {c : ℕ} {w : List ℕ} → c ∷ w ≡ [] → ⊥
-not-nil e = let z : _≡_ {A = ℕ} 0 1 = cc in omega arith
+use Rattle.regex_marks.proofs.Hollow.{not-nil}
 
 module _ (c d : ℕ) where
   abbrev Swaps : (List ℕ → Type 0) → Type 0
@@ -137,8 +134,8 @@ module _ (c d : ℕ) (hc : 128 ≤ c) (hd : 128 ≤ d) where
   low-narrow (times lo (upto n) x) r l = low-narrow x r (l .1 .1 .1)
   low-narrow (times lo any x) r l = low-narrow x r (l .1 .1)
 
-pub alike : {s : List ℕ} → AllLow s → Alike s
-alike {s} a =
+pub interchangeable : {s : List ℕ} → AllLow s → Interchangeable s
+interchangeable {s} a =
     record {
       of =
           λ x e c d hc hd k ms w.
