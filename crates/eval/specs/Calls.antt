@@ -119,6 +119,16 @@ descent-selectors {v} {node} {pc} q =
       going = λ z. omega (arith, descendant-byte (planOf v) (poolOf v) pc (x .k) (x .ss) (x .q) (x .at));
     }
 
+-- the query ends behind a node
+module _ {v : List (RefT (List ℕ))} {s l : List ℕ} {m rest : ℕ} (a : Asked v s l) (q : AskSegment v m rest) where
+  pub here-push : AskPush (length l) (atOf s) m (capOf s)
+  here-push = record { room = a .room; wide = a .wide; small = a .small; number = omega (arith, q .node-in, a .given .tab .size .few) }
+
+  pub here-ends : getD (planOf v) rest 0 ≡ 0x0A → (l′ : List ℕ) (n : ℕ) → st (capOf s) l′ n ≡ push m (st (capOf s) l (atOf s)) → DoneSegment v m rest s l (set s 2 n) l′
+  here-ends z l′ n p =
+      gives-wrote _ s l l′ n a
+      (λ x. p ∙ segment-end (tableOf v) (textOf v) (a .given .tab) (x .f) _ m (q .node-in) _ (is-end (planOf v) rest (x .k) (x .f) (x .at .holds) z))
+
 -- its selectors and what follows them are those of its parts
 module _ {P L : List ℕ} {pc : ℕ} (few : length P ≤ maxPlan) (x : Descends P L pc) where
   abbrev parted-of : Parted P L pc
@@ -157,6 +167,9 @@ module _ {v : List (RefT (List ℕ))} {s l : List ℕ} {i e pc : ℕ} (a : Asked
           room = d .room;
           goes = λ x R C r k. d .goes x R C r k ∙ over-passed (x .q) _ (x .ss) (tableOf v) (textOf v) (a .given .tab) i j e _ (c .low) (c .high (q .upto)) (q .range) (c .passed);
         }
+
+    pub flats-scalars : DoneFlats v i e pc s l s l j
+    flats-scalars = flats-done (record { low = omega arith; high = c .high (q .upto); room = a .room; goes = λ x R C r k. refl })
 
 -- the children that are left
 pub record InDescent (v : List (RefT (List ℕ))) (pc e j₀ : ℕ) (s₀ : List ℕ) (l₀ : RefT (List ℕ)) (s : List ℕ) (l : RefT (List ℕ)) (j : ℕ) : Type 0 where

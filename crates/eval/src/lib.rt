@@ -3,11 +3,10 @@
 // in a filter has one place, for its first node.
 //
 // What is lent, the numbers of the evaluation and the list stand behind one reference each, so that a call hands on few words and one that comes last takes the place
-// of its caller's frame.
-//
-// What is faster than the general way stands in `eval_shortcuts`: four functions, each of which does what is asked or leaves it.
+// of its caller's frame. What is faster than the general way stands in `eval_shortcuts`, whose functions do what is asked or leave it.
 //
 //   answers    what is asked of a query in a filter's code
+//   descents   the next child that a descent goes to
 ghost use Prim.Native.Nat.{_<_};
 ghost use lib.ListN.{length};
 ghost use Rattle.definition.specs.Tables.{nodeCount};
@@ -15,7 +14,7 @@ ghost use Rattle.eval_filters.specs.Queries.{Within};
 ghost use Rattle.eval_filters.specs.Kept.{AskTest, DoneTest};
 ghost use Rattle.eval_filters.specs.Tests.{AskRest, DoneRest};
 ghost use Rattle.eval_asks.specs.Lent.{planOf, poolOf, tableOf, textOf};
-ghost use Rattle.eval_asks.specs.Asks.{Begins, AskSegments, DoneSegments, Asked, Steady, AskSegment, DoneSegment, AskEnter, Entered, AskSelectors, DoneSelectors, AskDescent, DoneDescent, AskSelector, DoneSelector, AskKind, AskEach, DoneEach, AskFlats, DoneFlats, AskNext, DoneNext, AskQuery, DoneQuery};
+ghost use Rattle.eval_asks.specs.Asks.{Begins, AskSegments, DoneSegments, Asked, Steady, AskSegment, DoneSegment, AskEnter, Entered, AskSelectors, DoneSelectors, AskDescent, DoneDescent, AskSelector, DoneSelector, AskKind, AskEach, DoneEach, AskNext, DoneNext, AskQuery, DoneQuery};
 use eval_asks::AT;
 use eval_asks::CAP;
 use eval_asks::PLAN;
@@ -41,6 +40,7 @@ use table::records;
 use text::bytes;
 
 mod answers;
+mod descents;
 
 // From one node, what the segments at pc select: the next place of the list. Where names and indices lead to the end of the query, no further call is needed.
 pub fn evaluate<'a>(
@@ -148,6 +148,10 @@ fn evaluate_segment(
         apply_selectors(lent, state, list, m, q);
         return;
     }
+    if eval_shortcuts::has_flats(lent, q) {
+        descend_flats(lent, state, list, m, q);
+        return;
+    }
     recursive_descent(lent, state, list, m, q);
 }
 
@@ -169,35 +173,36 @@ fn recursive_descent(
     let first = records::first_child(table, node) as usize;
     let count = records::child_count(table, node) as usize;
     let e = first + count;
-    let mut j = skip_flats(lent, state, list, first, e, pc);
+    let mut j = descents::skip_scalars(lent, state, list, first, e, pc);
     while j < e {
         recursive_descent(lent, state, list, j, pc);
-        j = skip_flats(lent, state, list, j + 1, e, pc);
+        j = descents::skip_scalars(lent, state, list, j + 1, e, pc);
     }
 }
 
-// The first node from i on that needs a call with the descendant segment at pc, or e. What the segment selects of those before it is pushed. Once the cap is passed none is left.
-fn skip_flats(
+// The same where `pass_flats` may pass some of the children.
+fn descend_flats(
     lent: &[&[u8]; 4],
     state: &mut [usize; 3],
     list: &mut &mut [u32],
-    i: usize,
-    e: usize,
+    node: usize,
     pc: usize,
-) -> usize
+)
     requires { ⌜ Asked (now lent) (now state) (now (now list)) ⌝ }
-    requires { ⌜ AskFlats (now lent) i e pc ⌝ }
+    requires { ⌜ AskDescent (now lent) node pc ⌝ }
     ensures { λ r. ⌜ Steady (now (state .entry)) (now (list .entry)) (now (state .exit)) (now (list .exit)) ⌝ }
-    ensures { λ r. ⌜ DoneFlats (now (lent .entry)) i e pc (now (state .entry)) (now (now (list .entry))) (now (state .exit)) (now (now (list .exit))) r ⌝ }
+    ensures { λ r. ⌜ DoneDescent (now (lent .entry)) node pc (now (state .entry)) (now (now (list .entry))) (now (state .exit)) (now (now (list .exit))) ⌝ }
 {
-    let cap = state[CAP];
-    let at = state[AT];
-    if cap < at {
-        return e;
-    }
+    apply_selectors(lent, state, list, node, pc);
     let table = lent[TABLE];
-    let j = eval_front::next_container(table, i, e);
-    eval_shortcuts::pass_flats(lent, state, list, j, e, pc)
+    let first = records::first_child(table, node) as usize;
+    let count = records::child_count(table, node) as usize;
+    let e = first + count;
+    let mut j = descents::skip_flats(lent, state, list, first, e, pc);
+    while j < e {
+        descend_flats(lent, state, list, j, pc);
+        j = descents::skip_flats(lent, state, list, j + 1, e, pc);
+    }
 }
 
 // The selectors of the segment at pc on a node, one after the other.
@@ -249,6 +254,12 @@ fn apply_selector(
         let Member::At(m) = found else {
             return;
         };
+        if plan[rest] == END {
+            let at = state[AT];
+            let next = eval_front::push(*list, at, m, state[CAP]);
+            state[AT] = next;
+            return;
+        }
         evaluate_segment(lent, state, list, m, rest);
         return;
     }

@@ -1,11 +1,14 @@
-// The shortcuts of evaluation, behind four functions. Each takes a query or a filter that it knows and gives the whole answer, with the contract of what it stands for;
-// else it leaves everything as it was, and says so: false, or the node that it was given. Evaluation knows no other shortcut, and is proved and right without them.
+// The shortcuts of evaluation, and the one way by which they enter it. Each function takes a query or a filter that it knows and gives the whole answer, with the
+// contract of what it stands for; else it leaves everything as it was, and says so: false, or the node that it was given. `has_flats` says only which way is the faster
+// one. Evaluation knows no other shortcut, and is proved without them (docs/DECISIONS.md, 271).
 //
 //   flats     nodes with nothing below their children under a descendant segment of one selector
 //   straight  a range of nodes with names and indices up to the end
 //
 // Filters that are read once stand in `eval_filters`, those that are match or search alone in `eval_rows`.
-ghost use Rattle.eval_asks.specs.Asks.{Asked, Steady, AskEach, DoneAhead, AskFlats, DoneFlats, AskSelector, AskKind, DoneKeep};
+ghost use Rattle.eval_front.specs.Visits.{Given};
+ghost use Rattle.eval_asks.specs.Lent.{planOf, poolOf, tableOf, textOf};
+ghost use Rattle.eval_asks.specs.Asks.{Asked, Steady, AskEach, DoneAhead, Descends, AskFlats, DoneFlats, AskSelector, AskKind, DoneKeep};
 use eval_asks::AT;
 use eval_asks::CAP;
 use eval_asks::PLAN;
@@ -54,6 +57,18 @@ pub fn ahead(
     );
     state[AT] = r.at;
     r.i
+}
+
+// Whether `pass_flats` may pass a node with the descendant segment at pc. It only says which way is the faster one.
+pub fn has_flats(lent: &[&[u8]; 4], pc: usize) -> bool
+    requires { ⌜ Given (planOf (now lent)) (poolOf (now lent)) (tableOf (now lent)) (textOf (now lent)) ⌝ }
+    requires { ⌜ Descends (planOf (now lent)) (poolOf (now lent)) pc ⌝ }
+{
+    let plan = lent[PLAN];
+    if flats::is_plain(plan, pc) {
+        return true;
+    }
+    flats::asks_member(plan, pc)
 }
 
 // The first node from i on whose descent needs a call, or i. What the descendant segment at pc selects of those before it is pushed.

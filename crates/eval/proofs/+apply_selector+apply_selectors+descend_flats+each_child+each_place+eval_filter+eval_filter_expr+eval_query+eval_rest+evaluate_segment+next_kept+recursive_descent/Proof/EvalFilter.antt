@@ -1,5 +1,5 @@
 -- The answers of `eval_filter` in evaluation's cycle of calls. The loop keeps the nodes that are left, from the next one on for which the test holds; match or search alone is done before it. Assumes nothing.
-use Rattle.eval.proofs.+apply_selector+apply_selectors+each_child+each_place+eval_filter+eval_filter_expr+eval_query+eval_rest+evaluate_segment+next_kept+recursive_descent.Lts-eval_filter as lts
+use Rattle.eval.proofs.+apply_selector+apply_selectors+descend_flats+each_child+each_place+eval_filter+eval_filter_expr+eval_query+eval_rest+evaluate_segment+next_kept+recursive_descent.Lts-eval_filter as lts
 use Prim.Native.Nat.{ℕ}
 use Rattle.eval.proofs.eval_filter.Reads as eval-filter
 use Rattle.eval.proofs.evaluate_segment.Reads as evaluate-segment
@@ -8,7 +8,7 @@ use Rattle.eval.proofs.next_kept.Reads as next-kept
 use Rattle.table.proofs.records.child_count.Reads as child-count-reads
 use Rattle.table.proofs.records.first_child.Reads as first-child-reads
 use Rattle.text.proofs.bytes.word16.Reads as word16-reads
-use Rattle.eval.proofs.+apply_selector+apply_selectors+each_child+each_place+eval_filter+eval_filter_expr+eval_query+eval_rest+evaluate_segment+next_kept+recursive_descent.Proof.Base.{eval-filter-at, evaluate-segment-below, next-kept-below}
+use Rattle.eval.proofs.+apply_selector+apply_selectors+descend_flats+each_child+each_place+eval_filter+eval_filter_expr+eval_query+eval_rest+evaluate_segment+next_kept+recursive_descent.Proof.Base.{eval-filter-at, evaluate-segment-below, next-kept-below}
 use borrow.Author.Needs.{needs}
 use Prim.Native.Nat.{_+_, _-_}
 use native.Mathlib.Omega.{arith}

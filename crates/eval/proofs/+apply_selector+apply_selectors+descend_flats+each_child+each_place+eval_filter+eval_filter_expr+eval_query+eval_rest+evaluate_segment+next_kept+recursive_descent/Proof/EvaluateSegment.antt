@@ -1,12 +1,14 @@
 -- The answers of `evaluate_segment` in evaluation's cycle of calls. Names and indices lead nowhere, to the end of the query, or to a segment. Assumes nothing.
-use Rattle.eval.proofs.+apply_selector+apply_selectors+each_child+each_place+eval_filter+eval_filter_expr+eval_query+eval_rest+evaluate_segment+next_kept+recursive_descent.Lts-evaluate_segment as lts
+use Rattle.eval.proofs.+apply_selector+apply_selectors+descend_flats+each_child+each_place+eval_filter+eval_filter_expr+eval_query+eval_rest+evaluate_segment+next_kept+recursive_descent.Lts-evaluate_segment as lts
 use Prim.Native.Nat.{ℕ}
 use Rattle.eval.proofs.apply_selectors.Reads as apply-selectors
 use Rattle.eval.proofs.evaluate_segment.Reads as evaluate-segment
+use Rattle.eval.proofs.descend_flats.Reads as descend-flats
 use Rattle.eval.proofs.recursive_descent.Reads as recursive-descent
+use Rattle.eval_shortcuts.proofs.has_flats.Reads as has-flats-reads
 use Rattle.eval_front.proofs.push.Reads as push-reads
 use Rattle.eval_front.proofs.reach.Reads as reach-reads
-use Rattle.eval.proofs.+apply_selector+apply_selectors+each_child+each_place+eval_filter+eval_filter_expr+eval_query+eval_rest+evaluate_segment+next_kept+recursive_descent.Proof.Base.{apply-selectors-below, evaluate-segment-at, recursive-descent-below}
+use Rattle.eval.proofs.+apply_selector+apply_selectors+descend_flats+each_child+each_place+eval_filter+eval_filter_expr+eval_query+eval_rest+evaluate_segment+next_kept+recursive_descent.Proof.Base.{apply-selectors-below, descend-flats-below, evaluate-segment-at, recursive-descent-below}
 use borrow.Author.Needs.{needs}
 use mathlib.Core.Path.{refl}
 use native.Mathlib.Omega.{arith}
@@ -15,7 +17,7 @@ use Rattle.eval_asks.specs.Steady.{steady-refl, steady-wrote}
 use Rattle.eval.specs.Calls.{reach-asked, reached-in, segment-lost, push-asked, segment-ends, onward-selectors, segment-child-done, onward-descent, segment-descent-done}
 
 abbrev pub calls : ℕ → lts.Claims
-calls t = (reach-reads.Asked, reach-reads.Learnt, push-reads.Asked, push-reads.Learnt, apply-selectors-below t, apply-selectors.Post, recursive-descent-below t, recursive-descent.Post)
+calls t = (reach-reads.Asked, reach-reads.Learnt, push-reads.Asked, push-reads.Learnt, apply-selectors-below t, apply-selectors.Post, has-flats-reads.Asked, has-flats-reads.Learnt, descend-flats-below t, descend-flats.Post, recursive-descent-below t, recursive-descent.Post)
 
 module _ (t : ℕ) where
   pub element-copy-out-plan : lts.Need-element-copy-out-plan (calls t) (evaluate-segment-at t) evaluate-segment.Post
@@ -69,13 +71,30 @@ module _ (t : ℕ) where
       let p = c .before .before .before .before .before .before .before .before .before .before .before .before .before .pre .1 in
       (c .apply-selectors .ensures .0, segment-child-done (p .0) (p .1) (c .before .before .before .before .before .before .before .before .reach .ensures) (c .before .before .before .before .if2 .left) (not-false _ (c .before .before .before .before .before .before .if1 .left)) (c .before .before .before .if3 .taken) _ _ (c .apply-selectors .ensures .1))
 
-  pub recursive-descent-requires : lts.Need-recursive-descent-requires (calls t) (evaluate-segment-at t) evaluate-segment.Post
-  recursive-descent-requires c κs =
-      let p = c .before .before .before .before .before .before .before .before .before .before .before .before .pre .1 in
-      let d = onward-descent (p .0) (p .1) (c .before .before .before .before .before .before .before .reach .ensures) (c .before .before .before .if2 .left) (c .before .before .if3 .left) in
-      (omega (arith, c .before .before .before .before .before .before .before .reach .ensures .later, p .0 .given .tab .depths _ (d .node-in)), (p .0, d))
+  pub has-flats-requires : lts.Need-has-flats-requires (calls t) (evaluate-segment-at t) evaluate-segment.Post
+  has-flats-requires c κs =
+      let p = c .before .before .before .before .before .before .before .before .before .before .pre .1 in
+      let d = onward-descent (p .0) (p .1) (c .before .before .before .before .before .reach .ensures) (c .before .if2 .left) (c .if3 .left) in
+      (p .0 .given, d .descends)
+
+  pub descend-flats-requires : lts.Need-descend-flats-requires (calls t) (evaluate-segment-at t) evaluate-segment.Post
+  descend-flats-requires c κs =
+      let p = c .before .before .before .before .before .before .before .before .before .before .before .before .before .before .pre .1 in
+      let d = onward-descent (p .0) (p .1) (c .before .before .before .before .before .before .before .before .before .reach .ensures) (c .before .before .before .before .before .if2 .left) (c .before .before .before .before .if3 .left) in
+      (omega (arith, c .before .before .before .before .before .before .before .before .before .reach .ensures .later, p .0 .given .tab .depths _ (d .node-in)), (p .0, d))
 
   pub returns-4 : lts.Need-returns-4 (calls t) (evaluate-segment-at t) evaluate-segment.Post
   returns-4 c =
-      let p = c .before .before .before .before .before .before .before .before .before .before .before .before .before .pre .1 in
-      (c .recursive-descent .ensures .0, segment-descent-done (p .0) (p .1) (c .before .before .before .before .before .before .before .before .reach .ensures) (c .before .before .before .before .if2 .left) (not-false _ (c .before .before .before .before .before .before .if1 .left)) (c .before .before .before .if3 .left) _ _ (c .recursive-descent .ensures .1))
+      let p = c .before .before .before .before .before .before .before .before .before .before .before .before .before .before .before .pre .1 in
+      (c .descend-flats .ensures .0, segment-descent-done (p .0) (p .1) (c .before .before .before .before .before .before .before .before .before .before .reach .ensures) (c .before .before .before .before .before .before .if2 .left) (not-false _ (c .before .before .before .before .before .before .before .before .if1 .left)) (c .before .before .before .before .before .if3 .left) _ _ (c .descend-flats .ensures .1))
+
+  pub recursive-descent-requires : lts.Need-recursive-descent-requires (calls t) (evaluate-segment-at t) evaluate-segment.Post
+  recursive-descent-requires c κs =
+      let p = c .before .before .before .before .before .before .before .before .before .before .before .before .before .before .pre .1 in
+      let d = onward-descent (p .0) (p .1) (c .before .before .before .before .before .before .before .before .before .reach .ensures) (c .before .before .before .before .before .if2 .left) (c .before .before .before .before .if3 .left) in
+      (omega (arith, c .before .before .before .before .before .before .before .before .before .reach .ensures .later, p .0 .given .tab .depths _ (d .node-in)), (p .0, d))
+
+  pub returns-5 : lts.Need-returns-5 (calls t) (evaluate-segment-at t) evaluate-segment.Post
+  returns-5 c =
+      let p = c .before .before .before .before .before .before .before .before .before .before .before .before .before .before .before .pre .1 in
+      (c .recursive-descent .ensures .0, segment-descent-done (p .0) (p .1) (c .before .before .before .before .before .before .before .before .before .before .reach .ensures) (c .before .before .before .before .before .before .if2 .left) (not-false _ (c .before .before .before .before .before .before .before .before .if1 .left)) (c .before .before .before .before .before .if3 .left) _ _ (c .recursive-descent .ensures .1))

@@ -1,9 +1,9 @@
--- `eval::skip_flats` meets its contract: past the cap nothing is left, and else what the shortcut leaves. Assumes nothing.
+-- `eval::descents::skip_flats` meets its contract: past the cap nothing is left, and else what the shortcut leaves. Assumes nothing.
 use borrow.Author.Needs.{needs}
-use Rattle.eval.proofs.skip_flats.Statement.{statement}
-use Rattle.eval.proofs.skip_flats.Tie as tie
-use Rattle.eval.proofs.skip_flats.Reads as reads
-use Rattle.eval.proofs.skip_flats.Lts as lts
+use Rattle.eval.proofs.descents.skip_flats.Statement.{statement}
+use Rattle.eval.proofs.descents.skip_flats.Tie as tie
+use Rattle.eval.proofs.descents.skip_flats.Reads as reads
+use Rattle.eval.proofs.descents.skip_flats.Lts as lts
 use Rattle.eval_shortcuts.proofs.pass_flats.Reads as pass-flats-reads
 use Rattle.eval_front.proofs.next_container.Reads as next-container-reads
 use Rattle.eval_asks.specs.Steady.{steady-refl}

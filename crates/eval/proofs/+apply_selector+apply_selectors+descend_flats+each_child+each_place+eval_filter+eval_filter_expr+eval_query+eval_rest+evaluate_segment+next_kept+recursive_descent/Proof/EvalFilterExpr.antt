@@ -1,12 +1,12 @@
 -- The answers of `eval_filter_expr` in evaluation's cycle of calls. The loop keeps that what is left of the filter's code gives the test's answer. Assumes nothing.
-use Rattle.eval.proofs.+apply_selector+apply_selectors+each_child+each_place+eval_filter+eval_filter_expr+eval_query+eval_rest+evaluate_segment+next_kept+recursive_descent.Lts-eval_filter_expr as lts
+use Rattle.eval.proofs.+apply_selector+apply_selectors+descend_flats+each_child+each_place+eval_filter+eval_filter_expr+eval_query+eval_rest+evaluate_segment+next_kept+recursive_descent.Lts-eval_filter_expr as lts
 use Prim.Native.Nat.{ℕ}
 use Rattle.eval.proofs.eval_filter_expr.Reads as eval-filter-expr
 use Rattle.eval.proofs.eval_rest.Reads as eval-rest
 use Rattle.eval_filters.proofs.is_logic.Reads as is-logic-reads
 use Rattle.eval_filters.proofs.logic_expr.Reads as logic-expr-reads
 use Rattle.eval_filters.proofs.plain_test.Reads as plain-test-reads
-use Rattle.eval.proofs.+apply_selector+apply_selectors+each_child+each_place+eval_filter+eval_filter_expr+eval_query+eval_rest+evaluate_segment+next_kept+recursive_descent.Proof.Base.{eval-filter-expr-at, eval-rest-below}
+use Rattle.eval.proofs.+apply_selector+apply_selectors+descend_flats+each_child+each_place+eval_filter+eval_filter_expr+eval_query+eval_rest+evaluate_segment+next_kept+recursive_descent.Proof.Base.{eval-filter-expr-at, eval-rest-below}
 use borrow.Author.Needs.{needs}
 use Prim.Native.Nat.{_-_}
 use native.Mathlib.Omega.{arith}

@@ -12,6 +12,8 @@ use Rattle.eval.proofs.apply_selector.Reads as apply-selector
 use Rattle.eval.proofs.apply_selector.Kinds as apply-selector-kinds
 use Rattle.eval.proofs.apply_selectors.Reads as apply-selectors
 use Rattle.eval.proofs.apply_selectors.Kinds as apply-selectors-kinds
+use Rattle.eval.proofs.descend_flats.Reads as descend-flats
+use Rattle.eval.proofs.descend_flats.Kinds as descend-flats-kinds
 use Rattle.eval.proofs.each_child.Reads as each-child
 use Rattle.eval.proofs.each_child.Kinds as each-child-kinds
 use Rattle.eval.proofs.each_place.Reads as each-place
@@ -40,6 +42,9 @@ abbrev pub μ-apply-selector : Measures 5 apply-selector-kinds.ps ℕ
 
 abbrev pub μ-apply-selectors : Measures 5 apply-selectors-kinds.ps ℕ
 μ-apply-selectors κs a = left (planOf (a .0 .now)) (a .1 .1 .1 .1 .0) + 1
+
+abbrev pub μ-descend-flats : Measures 5 descend-flats-kinds.ps ℕ
+μ-descend-flats κs a = left (planOf (a .0 .now)) (a .1 .1 .1 .1 .0) + 2 + (maxDepth - depthAt (tableOf (a .0 .now)) (a .1 .1 .1 .0))
 
 abbrev pub μ-each-child : Measures 5 each-child-kinds.ps ℕ
 μ-each-child κs a = left (planOf (a .0 .now)) (a .1 .1 .1 .1 .1 .0) + 71
@@ -79,6 +84,12 @@ apply-selectors-at t = and 5 apply-selectors-kinds.ps (is 5 apply-selectors-kind
 
 abbrev pub apply-selectors-below : ℕ → In 5 apply-selectors-kinds.ps
 apply-selectors-below t = and 5 apply-selectors-kinds.ps (falls 5 apply-selectors-kinds.ps _<_ μ-apply-selectors t) apply-selectors.Pre
+
+abbrev pub descend-flats-at : ℕ → In 5 descend-flats-kinds.ps
+descend-flats-at t = and 5 descend-flats-kinds.ps (is 5 descend-flats-kinds.ps μ-descend-flats t) descend-flats.Pre
+
+abbrev pub descend-flats-below : ℕ → In 5 descend-flats-kinds.ps
+descend-flats-below t = and 5 descend-flats-kinds.ps (falls 5 descend-flats-kinds.ps _<_ μ-descend-flats t) descend-flats.Pre
 
 abbrev pub each-child-at : ℕ → In 5 each-child-kinds.ps
 each-child-at t = and 5 each-child-kinds.ps (is 5 each-child-kinds.ps μ-each-child t) each-child.Pre

@@ -1,9 +1,9 @@
 -- The answers of `next_kept` in evaluation's cycle of calls. The loop keeps that the test holds of no node before. Assumes nothing.
-use Rattle.eval.proofs.+apply_selector+apply_selectors+each_child+each_place+eval_filter+eval_filter_expr+eval_query+eval_rest+evaluate_segment+next_kept+recursive_descent.Lts-next_kept as lts
+use Rattle.eval.proofs.+apply_selector+apply_selectors+descend_flats+each_child+each_place+eval_filter+eval_filter_expr+eval_query+eval_rest+evaluate_segment+next_kept+recursive_descent.Lts-next_kept as lts
 use Prim.Native.Nat.{ℕ}
 use Rattle.eval.proofs.eval_filter_expr.Reads as eval-filter-expr
 use Rattle.eval.proofs.next_kept.Reads as next-kept
-use Rattle.eval.proofs.+apply_selector+apply_selectors+each_child+each_place+eval_filter+eval_filter_expr+eval_query+eval_rest+evaluate_segment+next_kept+recursive_descent.Proof.Base.{eval-filter-expr-below, next-kept-at}
+use Rattle.eval.proofs.+apply_selector+apply_selectors+descend_flats+each_child+each_place+eval_filter+eval_filter_expr+eval_query+eval_rest+evaluate_segment+next_kept+recursive_descent.Proof.Base.{eval-filter-expr-below, next-kept-at}
 use Prim.Native.Nat.{_-_}
 use native.Mathlib.Omega.{arith}
 use Rattle.eval_asks.specs.Kinds.{InNext, next-found, next-none, next-again}
