@@ -1,9 +1,8 @@
 -- The interval around n * 10 ^ (i - 342) that the leading bits of a power of five give. Assumes nothing.
 use mathlib.Core.Path.{_≡_, refl, sym, ap, _∙_, subst}
-use mathlib.Core.Bool.{Bool, true, false, not}
 use mathlib.Core.Logic.{_⊎_, inl, inr, ⊎-elim}
 use Prim.Native.Nat.{ℕ, zero, suc, _+_, _-_, _*_, _/_, _%_, _^_, _≤_, _<_}
-use native.Mathlib.Nat.{le-trans, le-of-eq, le-of-lt, lt-of-lt-of-le, lt-of-le-of-lt, add-mul, mul-comm, mul-assoc, mul-left-comm, mul-right-comm, mul-one, mul-suc, mul-pos, mul-le-mul-left, mul-le-mul-right, mul-lt-mul-of-pos-left, mul-lt-mul-of-pos-right, lt-of-mul-lt-mul-right, le-of-mul-le-mul-right, mul-mul-mul-comm, mul-sub, suc-mul, pow-suc, mul-le-mul, lt-irrefl, div-lt-iff-lt-mul, le-div-iff-mul-le, one-le-pow, one-mul, mod-lt, div-eq-of-lt, le-add-right, div-add-mod'}
+use native.Mathlib.Nat.{le-trans, le-of-eq, le-of-lt, lt-of-lt-of-le, lt-of-le-of-lt, add-mul, mul-comm, mul-assoc, mul-left-comm, mul-right-comm, mul-suc, mul-pos, mul-le-mul-left, mul-le-mul-right, mul-lt-mul-of-pos-left, mul-lt-mul-of-pos-right, lt-of-mul-lt-mul-right, le-of-mul-le-mul-right, mul-mul-mul-comm, mul-sub, suc-mul, pow-suc, mul-le-mul, lt-irrefl, div-lt-iff-lt-mul, le-div-iff-mul-le, one-le-pow, one-mul, mod-lt, div-eq-of-lt, le-add-right, div-add-mod'}
 use native.Mathlib.Omega.{arith}
 use lib.Dec.{lit≤}
 use lib.Pow.{pow-add, pow-pos, pow-mono}
