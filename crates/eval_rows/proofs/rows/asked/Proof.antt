@@ -1,73 +1,74 @@
--- `rows::asked` meets its contract, by what is known of the expression. Assumes nothing.
+-- `rows::asked` meets its contract. The loop keeps that what is left of the filter's code gives the test's answer. Assumes nothing.
+use Prim.Native.Nat.{_-_}
+use mathlib.Core.Path.{_≡_, refl, _∙_}
+use lib.ListN.{length}
 use native.Mathlib.Omega.{arith}
 use borrow.Author.Tests.{not-true, not-false}
-use Rattle.eval_rows.specs.Rows.{answer-none, answer-unread, answer-outside, answer-tested}
-use borrow.Author.Needs.{needs}
+use Rattle.eval_rows.specs.Known.{Held}
+use Rattle.eval_rows.specs.Rows.{InAsked, asked-start, asked-turn, asked-further, answer-none, answer-told}
 use Rattle.eval_rows.proofs.rows.asked.Statement.{statement}
 use Rattle.eval_rows.proofs.rows.asked.Tie as tie
 use Rattle.eval_rows.proofs.rows.asked.Reads as reads
 use Rattle.eval_rows.proofs.rows.asked.Lts as lts
-use Rattle.eval_rows.proofs.rows.flipped.Reads as flipped-reads
-use Rattle.eval_rows.proofs.rows.tested.Reads as tested-reads
-use Rattle.eval_rows.proofs.rows.text_of.Reads as text-of-reads
+use Rattle.eval_rows.proofs.turns.turn.Reads as turn-reads
 
-text-of-requires : tie.Need-text-of-requires
-text-of-requires c κs = search needs
+abbrev Inv-loop : tie.InvT-loop
+Inv-loop plan pool table text root node p z g known code edges₀ sets₀ marks₀ acc₀ q₀ edges sets marks acc q = InAsked plan pool table text root node p z acc q × ((length edges ≡ length edges₀) × ((length sets ≡ length sets₀) × ((length marks ≡ length marks₀) × Held code edges sets known)))
 
-returns : tie.Need-returns
-returns c = let s = c .before .before .before .before .before .before .before .before .before .before .before .pre in (answer-none (s .0) (s .1 .0 .1) (c .before .before .text-of .ensures) (not-true _ (c .if1 .taken)), s .1 .1 .1)
+abbrev μ-loop : tie.MeasureT-loop
+μ-loop plan pool table text root node p z g known code edges₀ sets₀ marks₀ acc₀ q₀ edges sets marks acc q = z - q
 
-returns-2 : tie.Need-returns-2
-returns-2 c = (answer-unread (c .if2 .taken), c .before .before .before .before .before .before .before .before .before .before .before .before .pre .1 .1 .1)
+loop-holds : tie.Need-loop-holds Inv-loop μ-loop
+loop-holds c = let s = c .before .before .before .before .before .before .before .before .pre in (asked-start (s .0 .0), (refl, (refl, (refl, s .1 .1))))
 
-returns-3 : tie.Need-returns-3
-returns-3 c = let s = c .before .before .before .before .before .before .before .before .before .before .before .before .before .pre in (answer-outside (s .0) (s .1 .0 .1) (c .before .before .before .before .text-of .ensures) (not-false _ (c .before .before .if1 .left)) (s .1 .1 .0) (c .if3 .taken), s .1 .1 .1)
+turn-requires : tie.Need-turn-requires Inv-loop μ-loop
+turn-requires c κs = let s = c .before .before .before .before .before .before .before .before .before .before .before .before .before .pre in let i = c .before .before .before .before .loop .inv in (asked-turn (s .0 .0) (s .0 .1) (i .0) (c .before .before .before .loop-test .taken), (s .1 .0, i .1 .1 .1 .1))
 
-add-tested : tie.Need-add-tested
-add-tested c = omega (arith, c .before .before .before .before .text-of .ensures .inside (not-false _ (c .before .before .if1 .left)) .0, c .before .before .before .before .before .before .before .before .before .before .before .before .before .pre .0 .tab .size .short)
+same-length : tie.Need-same-length Inv-loop μ-loop
+same-length c = c .before .before .before .before .before .before .before .before .turn .kept .1 .1 .1 .1 .1 .1 .1 .1 .1 .1 .1 .1 .0 ∙ c .before .before .before .before .before .before .before .before .before .before .before .before .before .loop .inv .1 .0
 
-sub-tested : tie.Need-sub-tested
-sub-tested c = search needs
+same-length-2 : tie.Need-same-length-2 Inv-loop μ-loop
+same-length-2 c = c .before .before .before .before .before .before .before .before .turn .kept .1 .1 .1 .1 .1 .1 .1 .1 .1 .1 .1 .1 .1 .0 ∙ c .before .before .before .before .before .before .before .before .before .before .before .before .before .loop .inv .1 .1 .0
 
-part-tested-start : tie.Need-part-tested-start
-part-tested-start c = search needs
+same-length-3 : tie.Need-same-length-3 Inv-loop μ-loop
+same-length-3 c = c .before .before .before .before .before .before .before .before .turn .kept .1 .1 .1 .1 .1 .1 .1 .1 .1 .1 .1 .1 .1 .1 .0 ∙ c .before .before .before .before .before .before .before .before .before .before .before .before .before .loop .inv .1 .1 .1 .0
 
-part-tested-end : tie.Need-part-tested-end
-part-tested-end c = omega (arith, c .before .before .before .before .text-of .ensures .inside (not-false _ (c .before .before .if1 .left)) .0)
+returns : tie.Need-returns Inv-loop μ-loop
+returns c = let s = c .before .before .before .before .before .before .before .before .before .before .before .before .before .before .before .before .before .before .before .before .before .before .pre in (answer-none (s .0 .0) (s .0 .1) (c .before .before .before .before .before .before .before .before .before .before .before .before .before .loop .inv .0) (c .before .before .before .before .before .before .before .before .before .before .before .before .loop-test .taken), c .before .before .before .before .before .before .before .before .turn .ensures .1)
 
-tested-requires : tie.Need-tested-requires
-tested-requires c κs = search needs
+loop-less : tie.Need-loop-less Inv-loop μ-loop
+loop-less c = omega (arith, c .before .before .before .before .before .before .before .before .turn .ensures .0 .further (not-false _ (c .if1 .left)), c .before .before .before .before .before .before .before .before .before .before .before .before .loop-test .taken)
 
-flipped-requires : tie.Need-flipped-requires
-flipped-requires c κs = search needs
+loop-again : tie.Need-loop-again Inv-loop μ-loop
+loop-again c = let s = c .before .before .before .before .before .before .before .before .before .before .before .before .before .before .before .before .before .before .before .before .before .before .pre in let i = c .before .before .before .before .before .before .before .before .before .before .before .before .before .loop .inv in let k = c .before .before .before .before .before .before .before .before .turn .kept .1 .1 .1 .1 .1 .1 .1 .1 .1 .1 .1 .1 in (asked-further (s .0 .0) (s .0 .1) (i .0) (c .before .before .before .before .before .before .before .before .turn .ensures .0) (not-false _ (c .if1 .left)), (k .0 ∙ i .1 .0, (k .1 .0 ∙ i .1 .1 .0, (k .1 .1 .0 ∙ i .1 .1 .1 .0, c .before .before .before .before .before .before .before .before .turn .ensures .1))))
 
-same-length : tie.Need-same-length
-same-length c = search needs
+same-length-4 : tie.Need-same-length-4 Inv-loop μ-loop
+same-length-4 c = c .before .loop .inv .1 .0
 
-same-length-2 : tie.Need-same-length-2
-same-length-2 c = search needs
+same-length-5 : tie.Need-same-length-5 Inv-loop μ-loop
+same-length-5 c = c .before .loop .inv .1 .1 .0
 
-same-length-3 : tie.Need-same-length-3
-same-length-3 c = search needs
+same-length-6 : tie.Need-same-length-6 Inv-loop μ-loop
+same-length-6 c = c .before .loop .inv .1 .1 .1 .0
 
-returns-4 : tie.Need-returns-4
-returns-4 c = let s = c .before .before .before .before .before .before .before .before .before .before .before .before .before .before .before .before .before .before .before .before .before .before .before .before .before .pre in (answer-tested (s .0) (s .1 .0 .1) (c .before .before .before .before .before .before .before .before .before .before .before .before .before .before .before .before .text-of .ensures) (not-false _ (c .before .before .before .before .before .before .before .before .before .before .before .before .before .before .if1 .left)) (s .1 .1 .0) (c .before .before .before .before .before .before .before .before .before .before .before .before .before .if2 .left) (c .before .before .before .before .before .before .before .before .before .before .before .before .if3 .left) _ (c .before .before .before .before .before .before .before .tested .ensures .0) _ (c .flipped .ensures), c .before .before .before .before .before .before .before .tested .ensures .1)
+returns-2 : tie.Need-returns-2 Inv-loop μ-loop
+returns-2 c = let s = c .before .before .before .before .before .before .before .before .before .before .pre in (answer-told (s .0 .0) (s .0 .1) (c .before .loop .inv .0) (c .loop-test .left), c .before .loop .inv .1 .1 .1 .1)
 
 pub asked-spec : {M : Type 1} → statement M
 asked-spec =
     tie.close
     (tie.spec
-    text-of-requires
-    returns
-    returns-2
-    returns-3
-    add-tested
-    sub-tested
-    part-tested-start
-    part-tested-end
-    tested-requires
-    flipped-requires
+    Inv-loop
+    μ-loop
+    loop-holds
+    turn-requires
     same-length
     same-length-2
     same-length-3
-    returns-4)
+    returns
+    loop-less
+    loop-again
+    same-length-4
+    same-length-5
+    same-length-6
+    returns-2)
