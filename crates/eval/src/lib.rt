@@ -10,7 +10,6 @@ ghost use Prim.Native.Nat.{_<_};
 ghost use lib.ListN.{length};
 ghost use Rattle.definition.specs.Tables.{nodeCount};
 ghost use Rattle.eval_filters.specs.Queries.{Within};
-ghost use Rattle.eval_filters.specs.Keeps.{TailAt};
 ghost use Rattle.eval_filters.specs.Kept.{AskTest, DoneTest};
 ghost use Rattle.eval_filters.specs.Tests.{AskRest, DoneRest};
 ghost use Rattle.eval.specs.Lent.{planOf, poolOf, tableOf, textOf};
@@ -430,7 +429,7 @@ fn keep_children(
     let z = p + 3 + bytes::word16(plan, p + 1);
     let g = kept::read_form(plan, p + 3, z, rest);
     if g.way == 0 {
-        return keep_matched(lent, state, list, node, p, rest, g.tail);
+        return false;
     }
     let table = lent[TABLE];
     let i = records::first_child(table, node) as usize;
@@ -458,7 +457,7 @@ fn keep_children(
     true
 }
 
-// The same where the filter is match or search with a text of the plan, which is read once. What follows is told by its number.
+// The same where the filter is match or search with a text of the plan, which is read once.
 fn keep_matched(
     lent: &[&[u8]; 4],
     state: &mut [usize; 3],
@@ -466,19 +465,19 @@ fn keep_matched(
     node: usize,
     p: usize,
     rest: usize,
-    tail: usize,
 ) -> bool
     requires { ⌜ Asked (now lent) (now state) (now (now list)) ⌝ }
     requires { ⌜ AskSelector (now lent) node p rest ⌝ }
-    requires { ⌜ AskKind (now lent) p 9 × TailAt (planOf (now lent)) rest tail ⌝ }
+    requires { ⌜ AskKind (now lent) p 9 ⌝ }
     ensures { λ r. ⌜ Steady (now (state .entry)) (now (list .entry)) (now (state .exit)) (now (list .exit)) ⌝ }
     ensures { λ r. ⌜ DoneKeep (now (lent .entry)) node p rest (now (state .entry)) (now (now (list .entry))) (now (state .exit)) (now (now (list .exit))) r ⌝ }
 {
+    let plan = lent[PLAN];
+    let z = p + 3 + bytes::word16(plan, p + 1);
+    let tail = kept::tail_of(plan, rest);
     if 1 < tail {
         return false;
     }
-    let plan = lent[PLAN];
-    let z = p + 3 + bytes::word16(plan, p + 1);
     let g = calls::read_call(plan, p + 3, z);
     if !g.some {
         return false;
@@ -510,7 +509,7 @@ fn keep_matched(
     true
 }
 
-// The children of a node for which the filter at p holds, each with the segments at rest.
+// The children of a node for which the filter at p holds, each with the segments at rest. A filter that is match or search alone has a way of its own.
 fn eval_filter(
     lent: &[&[u8]; 4],
     state: &mut [usize; 3],
@@ -525,6 +524,9 @@ fn eval_filter(
     ensures { λ r. ⌜ Steady (now (state .entry)) (now (list .entry)) (now (state .exit)) (now (list .exit)) ⌝ }
     ensures { λ r. ⌜ DoneSelector (now (lent .entry)) node p rest (now (state .entry)) (now (now (list .entry))) (now (state .exit)) (now (now (list .exit))) ⌝ }
 {
+    if keep_matched(lent, state, list, node, p, rest) {
+        return;
+    }
     let z = p + 3 + bytes::word16(lent[PLAN], p + 1);
     let table = lent[TABLE];
     let i = records::first_child(table, node) as usize;

@@ -53,7 +53,7 @@ pub struct Pushed {
 }
 
 // What follows a test: 0 for nothing, 1 for one name at the end of the query, 2 for everything else.
-fn tail_of(plan: &[u8], rest: usize) -> usize
+pub fn tail_of(plan: &[u8], rest: usize) -> usize
     requires { ⌜ AskTail (now plan) rest ⌝ }
     ensures { λ r. ⌜ TailAt (now (plan .entry)) rest r ⌝ }
 {

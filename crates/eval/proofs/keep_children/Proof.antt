@@ -5,7 +5,6 @@ use Rattle.eval.proofs.keep_children.Tie as tie
 use Rattle.eval.proofs.keep_children.Reads as reads
 use Rattle.eval.proofs.keep_children.Lts as lts
 use Rattle.eval_filters.proofs.kept.keep.Reads as keep-reads
-use Rattle.eval.proofs.keep_matched.Reads as keep-matched-reads
 use Rattle.eval_filters.proofs.kept.read_form.Reads as read-form-reads
 use Rattle.table.proofs.records.child_count.Reads as child-count-reads
 use Rattle.table.proofs.records.first_child.Reads as first-child-reads
@@ -13,8 +12,8 @@ use Rattle.text.proofs.bytes.word16.Reads as word16-reads
 use mathlib.Core.Path.{refl}
 use native.Mathlib.Omega.{arith}
 use Rattle.eval_filters.specs.Keeps.{test-code, tail-asked}
-use Rattle.eval.specs.Steady.{steady-wrote}
-use Rattle.eval.specs.Kinds.{filter-bound, filter-inside, test-asked, rest-asked, rest-in, keep-asked, keep-done, kept-done}
+use Rattle.eval.specs.Steady.{steady-refl, steady-wrote}
+use Rattle.eval.specs.Kinds.{filter-bound, filter-inside, test-asked, rest-asked, rest-in, keep-asked, keep-done, kept-none, kept-done}
 
 element-copy-out-plan : tie.Need-element-copy-out-plan
 element-copy-out-plan c = search needs
@@ -37,11 +36,8 @@ add-read-form c = let p = c .before .before .pre in omega (arith, filter-bound (
 read-form-requires : tie.Need-read-form-requires
 read-form-requires c κs = let p = c .before .before .pre in (test-code (p .0 .given .fewP) (test-asked (p .0) (p .1 .0) (p .1 .1) (c .word16 .ensures)), tail-asked (p .0 .given .fewP) (rest-asked (p .0) (p .1 .0) (p .1 .1) (c .word16 .ensures)))
 
-keep-matched-requires : tie.Need-keep-matched-requires
-keep-matched-requires c κs = let p = c .before .before .before .before .before .before .before .pre in (p .0, (p .1 .0, (p .1 .1, c .before .before .before .before .read-form .ensures .tail)))
-
 returns : tie.Need-returns
-returns c = c .keep-matched .ensures
+returns c = (steady-refl _ _, kept-none _ _ _ _ _ _)
 
 element-copy-out-table : tie.Need-element-copy-out-table
 element-copy-out-table c = search needs
@@ -104,7 +100,6 @@ keep-children-spec =
     add-z-2
     add-read-form
     read-form-requires
-    keep-matched-requires
     returns
     element-copy-out-table
     first-child-requires
