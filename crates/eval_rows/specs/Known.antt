@@ -6,6 +6,7 @@ use mathlib.Core.Bool.{Bool as Bits, true, false}
 use lib.ListN.{length, take, drop}
 use native.Mathlib.Omega.{arith}
 use Rattle.definition.specs.Bytes.{part}
+use Rattle.definition.specs.Limits.{maxPlan}
 use Rattle.definition.specs.Utf8.{isUtf8}
 use Rattle.definition_bytes.specs.Same.{part-length}
 use Rattle.regex_definition.specs.Scope.{Scope}
@@ -76,14 +77,15 @@ module _ (c : Scope) (L : List ℕ) (a n : ℕ) where
 -- ---- of the expression of a call
 
 pub record Knows (P L code : List ℕ) (z : ℕ) (g : Call) (known : ℕ) : Type 0 where
-  pub call : (known ≡ 0 → ⊥) → CallAt P z g
+  pub call : g .at ≤ maxPlan → CallAt P z g
+  pub some : g .at ≤ maxPlan → known ≡ 0 → ⊥
   pub ready : Ready (scopeFor (g .kind)) (part L (g .start) (g .size)) code known
 
-pub knows-none : (P L code : List ℕ) (z : ℕ) (g : Call) → Knows P L code z g 0
-knows-none P L code z g = record { call = λ n. absurd (n refl); ready = ready-none _ _ _ }
+pub knows-none : (P L code : List ℕ) (z : ℕ) (g : Call) → maxPlan < g .at → Knows P L code z g 0
+knows-none P L code z g h = record { call = λ n. absurd (omega arith); some = λ n. absurd (omega arith); ready = ready-none _ _ _ }
 
-pub knows : {P L code : List ℕ} {z : ℕ} {g : Call} {known : ℕ} → CallAt P z g → Ready (scopeFor (g .kind)) (part L (g .start) (g .size)) code known → Knows P L code z g known
-knows c r = record { call = λ n. c; ready = r }
+pub knows : {P L code : List ℕ} {z : ℕ} {g : Call} (known : ℕ) → 0 < known → CallAt P z g → Ready (scopeFor (g .kind)) (part L (g .start) (g .size)) code known → Knows P L code z g known
+knows known h c r = record { call = λ n. c; some = λ n e. absurd (omega arith); ready = r }
 
 pub knows-outside : {P L code : List ℕ} {z : ℕ} {g : Call} → CallAt P z g → Outside (scopeFor (g .kind)) (part L (g .start) (g .size)) → Knows P L code z g 1
-knows-outside c o = knows c (ready-outside _ _ _ o)
+knows-outside c o = knows 1 (omega arith) c (ready-outside _ _ _ o)

@@ -32,8 +32,8 @@ use Rattle.regex_rooms.specs.Rooms.{scopeFor, scope-for}
 use Rattle.eval_rows.specs.declared.calls.Call.{Call}
 use Rattle.eval_rows.specs.declared.turns.Spot.{Spot}
 use Rattle.eval_rows.specs.Paths.{DoneFollow, leads-end, leads-low}
-use Rattle.eval_rows.specs.Calls.{CallAt, Spelled, AskText, DoneCall, call-told}
-use Rattle.eval_rows.specs.Known.{Ready}
+use Rattle.eval_rows.specs.Calls.{CallAt, Spelled, AskText, DoneCall, call-told, left-near}
+use Rattle.eval_rows.specs.Known.{Ready, Knows}
 
 never : false ≡ true → ⊥
 never e = let n : _≡_ {A = ℕ} 0 1 = cc in omega arith
@@ -169,6 +169,10 @@ module _ {P L S X : List ℕ} {root node : ℕ} {acc : Bits} {q z : ℕ} (a : As
 
   pub turn-plain : {r : Told} → DoneShort P L S X root node q z r → DoneTurn P L S X root node acc q z r
   turn-plain d = record { further = d .further; goes = λ t want l. d .goes t acc want l }
+
+  -- the call that is known stands there
+  pub turn-call : {code : List ℕ} {g : Call} {known : ℕ} → Knows P L code z g known → q ≡ g .at → CallAt P z g × (known ≡ 0 → ⊥)
+  turn-call k e = let h = left-near turn-left in let m = a .more in (k .call (omega arith), k .some (omega arith))
 
   module _ {g : Call} (c : CallAt P z g) (i : g .at ≡ q) where
     pub turn-at : AskLeft P L S X root node (g .at) z

@@ -2,12 +2,22 @@
 use crate::paths;
 use plan_format::kinds::CURRENT;
 use plan_format::kinds::MATCH;
+use plan_format::kinds::NOT;
 use plan_format::kinds::SEARCH;
 use plan_format::kinds::TEXT;
 use text::bytes;
 ghost use mathlib.Core.Path.{_≡_};
 ghost use mathlib.Core.Bool.{true, false};
+ghost use Prim.Native.Nat.{_≤_, _<_};
+ghost use lib.ListN.{length};
+ghost use Rattle.definition.specs.Limits.{maxPlan};
 ghost use Rattle.eval_rows.specs.Calls.{AskCall, ReadAt, regexKind};
+
+// A place that is in no plan.
+const NOWHERE: usize = 65536;
+
+// For so many nodes the whole code of a filter is looked at.
+const MANY: usize = 16;
 
 // The places of the call and of its query's end, the expression's place in the pool, and the kind of the call; `some` is false where there is no such call.
 pub struct Call {
@@ -21,10 +31,10 @@ pub struct Call {
 
 // No such call.
 pub fn no_call() -> Call
-    ensures { λ r. ⌜ r .some ≡ false ⌝ }
+    ensures { λ r. ⌜ (r .some ≡ false) × (maxPlan < r .at) ⌝ }
 {
     Call {
-        at: 0,
+        at: NOWHERE,
         end: 0,
         start: 0,
         size: 0,
@@ -41,6 +51,42 @@ fn is_regex(k: u8) -> bool
         return false;
     }
     k <= SEARCH
+}
+
+// Whether a byte from p up to z is that of match or search.
+fn mentions(plan: &[u8], p: usize, z: usize) -> bool
+    requires { ⌜ (z ≤ length (now plan)) × (z ≤ maxPlan) ⌝ }
+{
+    let mut n = 0;
+    let mut k = p;
+    while k < z {
+        if plan[k] / 2 == MATCH / 2 {
+            n = 1;
+        }
+        k += 1;
+    }
+    n == 1
+}
+
+// Whether a call may stand in the code from p up to z, which n nodes are asked for: a hint that is cheap beside them. For few nodes the end of the code is looked at
+// alone.
+pub fn may_call(plan: &[u8], p: usize, z: usize, n: usize) -> bool
+    requires { ⌜ (z ≤ length (now plan)) × (z ≤ maxPlan) ⌝ }
+{
+    if z < 8 {
+        return false;
+    }
+    let k = plan[z - 1];
+    if is_regex(k) {
+        return true;
+    }
+    if MANY <= n {
+        return mentions(plan, p, z);
+    }
+    if k != NOT {
+        return false;
+    }
+    is_regex(plan[z - 2])
 }
 
 // The call at q, in code that ends at z.

@@ -60,32 +60,35 @@ fn asked(
     let mut acc = false;
     let mut q = p;
     while q < z {
-        let t = turns::turn(
-            plan,
-            pool,
-            table,
-            text,
-            root,
-            node,
-            acc,
-            q,
-            z,
-            g,
-            known,
-            code,
-            edges,
-            sets,
-            marks,
-        );
-        if !t.some {
-            return Answer {
-                acc: false,
-                q,
-                some: false,
-            };
+        if q == g.at {
+            acc = turns::called(
+                plan,
+                pool,
+                table,
+                text,
+                root,
+                node,
+                z,
+                g,
+                known,
+                code,
+                edges,
+                sets,
+                marks,
+            );
+            q = g.end + 7;
+        } else {
+            let t = turns::told(plan, pool, table, text, root, node, acc, q, z, known);
+            if !t.some {
+                return Answer {
+                    acc: false,
+                    q,
+                    some: false,
+                };
+            }
+            acc = t.acc;
+            q = t.q;
         }
-        acc = t.acc;
-        q = t.q;
     }
     Answer { acc, q, some: true }
 }

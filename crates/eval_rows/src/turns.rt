@@ -15,7 +15,7 @@ ghost use Rattle.eval_filters.specs.Values.{AskLeft};
 ghost use Rattle.regex.specs.Tested.{Tested};
 ghost use Rattle.regex_rooms.specs.Rooms.{scopeFor};
 ghost use Rattle.eval_rows.specs.Calls.{CallAt, AskText, DoneCall};
-ghost use Rattle.eval_rows.specs.Known.{Ready, Held, Knows};
+ghost use Rattle.eval_rows.specs.Known.{Ready, Held};
 ghost use Rattle.eval_rows.specs.Turns.{TextOf, AskTurn, DoneTurn};
 
 // What is known of the expression: nothing yet, that it is outside the part, its code, or the code with rooms that are ready for its states.
@@ -89,7 +89,7 @@ fn tested(
 }
 
 // What the call says of a node, by what is known of its expression. The other rooms are those of `tested`.
-fn called(
+pub fn called(
     plan: &[u8],
     pool: &[u8],
     table: &[u8],
@@ -152,7 +152,7 @@ fn called_alone(
 }
 
 // The test or operator at q, with an answer before it, where no call stands that is known. Another call is asked alone, once one is known.
-fn told(
+pub fn told(
     plan: &[u8],
     pool: &[u8],
     table: &[u8],
@@ -195,54 +195,4 @@ fn told(
         q: g.end + 7,
         some: true,
     }
-}
-
-// The test or operator at q, with an answer before it.
-pub fn turn(
-    plan: &[u8],
-    pool: &[u8],
-    table: &[u8],
-    text: &[u8],
-    root: usize,
-    node: usize,
-    acc: bool,
-    q: usize,
-    z: usize,
-    g: Call,
-    known: u8,
-    code: &[u32],
-    edges: &mut [u8],
-    sets: &mut [u8],
-    marks: &mut [u8],
-) -> Told
-    requires { ⌜ AskTurn (now plan) (now pool) (now table) (now text) root node «acc» q z ⌝ }
-    requires { ⌜ Knows (now plan) (now pool) (now code) z g known × Held (now code) (now edges) (now sets) known ⌝ }
-    ensures { λ r. ⌜ DoneTurn (now (plan .entry)) (now (pool .entry)) (now (table .entry)) (now (text .entry)) root node «acc» q z r ⌝ }
-    ensures { λ r. ⌜ Held (now (code .entry)) (now (edges .exit)) (now (sets .exit)) known ⌝ }
-{
-    if known != UNREAD {
-        if q == g.at {
-            let b = called(
-                plan,
-                pool,
-                table,
-                text,
-                root,
-                node,
-                z,
-                g,
-                known,
-                code,
-                edges,
-                sets,
-                marks,
-            );
-            return Told {
-                acc: b,
-                q: g.end + 7,
-                some: true,
-            };
-        }
-    }
-    told(plan, pool, table, text, root, node, acc, q, z, known)
 }

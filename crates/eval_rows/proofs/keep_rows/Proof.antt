@@ -30,7 +30,7 @@ slice-aggregate-keep-4 : tie.Need-slice-aggregate-keep-4
 slice-aggregate-keep-4 c = search needs
 
 keep-requires : tie.Need-keep-requires
-keep-requires c κs = (c .before .before .before .before .before .before .before .before .before .before .before .pre, (knows-none _ _ _ _ _, held-none 0 (omega arith)))
+keep-requires c κs = (c .before .before .before .before .before .before .before .before .before .before .before .pre, (knows-none _ _ _ _ _ (c .before .before .before .before .before .no-call .ensures .1), held-none 0 (omega arith)))
 
 same-length : tie.Need-same-length
 same-length c = search needs

@@ -20,7 +20,7 @@ no-call-requires : tie.Need-no-call-requires
 no-call-requires c κs = search needs
 
 returns : tie.Need-returns
-returns c = none-read (c .no-call .ensures)
+returns c = none-read (c .no-call .ensures .0)
 
 shared-slice-read-if2 : tie.Need-shared-slice-read-if2
 shared-slice-read-if2 c = search needs
@@ -29,7 +29,7 @@ no-call-requires-2 : tie.Need-no-call-requires-2
 no-call-requires-2 c κs = search needs
 
 returns-2 : tie.Need-returns-2
-returns-2 c = none-read (c .no-call2 .ensures)
+returns-2 c = none-read (c .no-call2 .ensures .0)
 
 add-read-path : tie.Need-add-read-path
 add-read-path c = search needs
@@ -41,7 +41,7 @@ no-call-requires-3 : tie.Need-no-call-requires-3
 no-call-requires-3 c κs = search needs
 
 returns-3 : tie.Need-returns-3
-returns-3 c = none-read (c .no-call3 .ensures)
+returns-3 c = none-read (c .no-call3 .ensures .0)
 
 sub-if4 : tie.Need-sub-if4
 sub-if4 c = search needs
@@ -50,7 +50,7 @@ no-call-requires-4 : tie.Need-no-call-requires-4
 no-call-requires-4 c κs = search needs
 
 returns-4 : tie.Need-returns-4
-returns-4 c = none-read (c .no-call4 .ensures)
+returns-4 c = none-read (c .no-call4 .ensures .0)
 
 add-kind : tie.Need-add-kind
 add-kind c = search needs
@@ -68,7 +68,7 @@ no-call-requires-5 : tie.Need-no-call-requires-5
 no-call-requires-5 c κs = search needs
 
 returns-5 : tie.Need-returns-5
-returns-5 c = none-read (c .no-call5 .ensures)
+returns-5 c = none-read (c .no-call5 .ensures .0)
 
 add-word16 : tie.Need-add-word16
 add-word16 c = search needs

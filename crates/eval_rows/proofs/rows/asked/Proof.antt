@@ -1,16 +1,19 @@
 -- `rows::asked` meets its contract. The loop keeps that what is left of the filter's code gives the test's answer. Assumes nothing.
 use Prim.Native.Nat.{_-_}
-use mathlib.Core.Path.{_≡_, refl, _∙_}
+use mathlib.Core.Path.{_≡_, refl, sym, _∙_}
 use lib.ListN.{length}
 use native.Mathlib.Omega.{arith}
-use borrow.Author.Tests.{not-true, not-false}
+use borrow.Author.Tests.{not-false}
+use Rattle.eval_rows.specs.Calls.{left-near}
 use Rattle.eval_rows.specs.Known.{Held}
+use Rattle.eval_rows.specs.Turns.{turn-left, turn-call, turn-at, turn-called}
 use Rattle.eval_rows.specs.Rows.{InAsked, asked-start, asked-turn, asked-further, answer-none, answer-told}
 use Rattle.eval_rows.proofs.rows.asked.Statement.{statement}
 use Rattle.eval_rows.proofs.rows.asked.Tie as tie
 use Rattle.eval_rows.proofs.rows.asked.Reads as reads
 use Rattle.eval_rows.proofs.rows.asked.Lts as lts
-use Rattle.eval_rows.proofs.turns.turn.Reads as turn-reads
+use Rattle.eval_rows.proofs.turns.called.Reads as called-reads
+use Rattle.eval_rows.proofs.turns.told.Reads as told-reads
 
 abbrev Inv-loop : tie.InvT-loop
 Inv-loop plan pool table text root node p z g known code edges₀ sets₀ marks₀ acc₀ q₀ edges sets marks acc q = InAsked plan pool table text root node p z acc q × ((length edges ≡ length edges₀) × ((length sets ≡ length sets₀) × ((length marks ≡ length marks₀) × Held code edges sets known)))
@@ -21,26 +24,38 @@ abbrev μ-loop : tie.MeasureT-loop
 loop-holds : tie.Need-loop-holds Inv-loop μ-loop
 loop-holds c = let s = c .before .before .before .before .before .before .before .before .pre in (asked-start (s .0 .0), (refl, (refl, (refl, s .1 .1))))
 
-turn-requires : tie.Need-turn-requires Inv-loop μ-loop
-turn-requires c κs = let s = c .before .before .before .before .before .before .before .before .before .before .before .before .before .pre in let i = c .before .before .before .before .loop .inv in (asked-turn (s .0 .0) (s .0 .1) (i .0) (c .before .before .before .loop-test .taken), (s .1 .0, i .1 .1 .1 .1))
+called-requires : tie.Need-called-requires Inv-loop μ-loop
+called-requires c κs = let s = c .before .before .before .before .before .before .before .before .before .before .before .before .before .before .before .pre in let i = c .before .before .before .before .before .before .loop .inv in let t = asked-turn (s .0 .0) (s .0 .1) (i .0) (c .before .before .before .before .before .loop-test .taken) in let h = turn-call t (s .1 .0) (c .before .before .before .if1 .taken) in ((turn-at t (h .0) (sym (c .before .before .before .if1 .taken)), h .0), (h .1, (s .1 .0 .ready, i .1 .1 .1 .1)))
 
-same-length : tie.Need-same-length Inv-loop μ-loop
-same-length c = c .before .before .before .before .before .before .before .before .turn .kept .1 .1 .1 .1 .1 .1 .1 .1 .1 .1 .1 .1 .0 ∙ c .before .before .before .before .before .before .before .before .before .before .before .before .before .loop .inv .1 .0
-
-same-length-2 : tie.Need-same-length-2 Inv-loop μ-loop
-same-length-2 c = c .before .before .before .before .before .before .before .before .turn .kept .1 .1 .1 .1 .1 .1 .1 .1 .1 .1 .1 .1 .1 .0 ∙ c .before .before .before .before .before .before .before .before .before .before .before .before .before .loop .inv .1 .1 .0
-
-same-length-3 : tie.Need-same-length-3 Inv-loop μ-loop
-same-length-3 c = c .before .before .before .before .before .before .before .before .turn .kept .1 .1 .1 .1 .1 .1 .1 .1 .1 .1 .1 .1 .1 .1 .0 ∙ c .before .before .before .before .before .before .before .before .before .before .before .before .before .loop .inv .1 .1 .1 .0
-
-returns : tie.Need-returns Inv-loop μ-loop
-returns c = let s = c .before .before .before .before .before .before .before .before .before .before .before .before .before .before .before .before .before .before .before .before .before .before .pre in (answer-none (s .0 .0) (s .0 .1) (c .before .before .before .before .before .before .before .before .before .before .before .before .before .loop .inv .0) (c .before .before .before .before .before .before .before .before .before .before .before .before .loop-test .taken), c .before .before .before .before .before .before .before .before .turn .ensures .1)
+add-q : tie.Need-add-q Inv-loop μ-loop
+add-q c = let s = c .before .before .before .before .before .before .before .before .before .before .before .before .before .before .before .before .before .before .before .before .before .before .before .pre in let t = asked-turn (s .0 .0) (s .0 .1) (c .before .before .before .before .before .before .before .before .before .before .before .before .before .before .loop .inv .0) (c .before .before .before .before .before .before .before .before .before .before .before .before .before .loop-test .taken) in let h = turn-call t (s .1 .0) (c .before .before .before .before .before .before .before .before .before .before .before .if1 .taken) in omega (arith, h .0 .ends, left-near (turn-left t))
 
 loop-less : tie.Need-loop-less Inv-loop μ-loop
-loop-less c = omega (arith, c .before .before .before .before .before .before .before .before .turn .ensures .0 .further (not-false _ (c .if1 .left)), c .before .before .before .before .before .before .before .before .before .before .before .before .loop-test .taken)
+loop-less c = let s = c .before .before .before .before .before .before .before .before .before .before .before .before .before .before .before .before .before .before .before .before .before .before .before .pre in let t = asked-turn (s .0 .0) (s .0 .1) (c .before .before .before .before .before .before .before .before .before .before .before .before .before .before .loop .inv .0) (c .before .before .before .before .before .before .before .before .before .before .before .before .before .loop-test .taken) in let h = turn-call t (s .1 .0) (c .before .before .before .before .before .before .before .before .before .before .before .if1 .taken) in omega (arith, turn-called t (h .0) (sym (c .before .before .before .before .before .before .before .before .before .before .before .if1 .taken)) (c .before .before .before .before .before .before .before .called .ensures .0) .further refl, c .before .before .before .before .before .before .before .before .before .before .before .before .before .loop-test .taken)
 
 loop-again : tie.Need-loop-again Inv-loop μ-loop
-loop-again c = let s = c .before .before .before .before .before .before .before .before .before .before .before .before .before .before .before .before .before .before .before .before .before .before .pre in let i = c .before .before .before .before .before .before .before .before .before .before .before .before .before .loop .inv in let k = c .before .before .before .before .before .before .before .before .turn .kept .1 .1 .1 .1 .1 .1 .1 .1 .1 .1 .1 .1 in (asked-further (s .0 .0) (s .0 .1) (i .0) (c .before .before .before .before .before .before .before .before .turn .ensures .0) (not-false _ (c .if1 .left)), (k .0 ∙ i .1 .0, (k .1 .0 ∙ i .1 .1 .0, (k .1 .1 .0 ∙ i .1 .1 .1 .0, c .before .before .before .before .before .before .before .before .turn .ensures .1))))
+loop-again c = let s = c .before .before .before .before .before .before .before .before .before .before .before .before .before .before .before .before .before .before .before .before .before .before .before .pre in let i = c .before .before .before .before .before .before .before .before .before .before .before .before .before .before .loop .inv in let k = c .before .before .before .before .before .before .before .called .kept .1 .1 .1 .1 .1 .1 .1 .1 .1 .1 in let t = asked-turn (s .0 .0) (s .0 .1) (i .0) (c .before .before .before .before .before .before .before .before .before .before .before .before .before .loop-test .taken) in let h = turn-call t (s .1 .0) (c .before .before .before .before .before .before .before .before .before .before .before .if1 .taken) in (asked-further (s .0 .0) (s .0 .1) (i .0) (turn-called t (h .0) (sym (c .before .before .before .before .before .before .before .before .before .before .before .if1 .taken)) (c .before .before .before .before .before .before .before .called .ensures .0)) refl, (k .0 ∙ i .1 .0, (k .1 .0 ∙ i .1 .1 .0, (k .1 .1 .0 ∙ i .1 .1 .1 .0, c .before .before .before .before .before .before .before .called .ensures .1))))
+
+told-requires : tie.Need-told-requires Inv-loop μ-loop
+told-requires c κs = let s = c .before .before .before .before .before .before .before .before .before .before .before .before .pre in asked-turn (s .0 .0) (s .0 .1) (c .before .before .before .loop .inv .0) (c .before .before .loop-test .taken)
+
+same-length : tie.Need-same-length Inv-loop μ-loop
+same-length c = c .before .before .before .before .before .before .loop .inv .1 .0
+
+same-length-2 : tie.Need-same-length-2 Inv-loop μ-loop
+same-length-2 c = c .before .before .before .before .before .before .loop .inv .1 .1 .0
+
+same-length-3 : tie.Need-same-length-3 Inv-loop μ-loop
+same-length-3 c = c .before .before .before .before .before .before .loop .inv .1 .1 .1 .0
+
+returns : tie.Need-returns Inv-loop μ-loop
+returns c = let s = c .before .before .before .before .before .before .before .before .before .before .before .before .before .before .before .pre in (answer-none (s .0 .0) (s .0 .1) (c .before .before .before .before .before .before .loop .inv .0) (c .before .before .before .before .before .loop-test .taken), c .before .before .before .before .before .before .loop .inv .1 .1 .1 .1)
+
+loop-less-2 : tie.Need-loop-less-2 Inv-loop μ-loop
+loop-less-2 c = omega (arith, c .before .before .told .ensures .further (not-false _ (c .if2 .left)), c .before .before .before .before .before .loop-test .taken)
+
+loop-again-2 : tie.Need-loop-again-2 Inv-loop μ-loop
+loop-again-2 c = let s = c .before .before .before .before .before .before .before .before .before .before .before .before .before .before .before .pre in let i = c .before .before .before .before .before .before .loop .inv in (asked-further (s .0 .0) (s .0 .1) (i .0) (c .before .before .told .ensures) (not-false _ (c .if2 .left)), i .1)
 
 same-length-4 : tie.Need-same-length-4 Inv-loop μ-loop
 same-length-4 c = c .before .loop .inv .1 .0
@@ -61,13 +76,17 @@ asked-spec =
     Inv-loop
     μ-loop
     loop-holds
-    turn-requires
+    called-requires
+    add-q
+    loop-less
+    loop-again
+    told-requires
     same-length
     same-length-2
     same-length-3
     returns
-    loop-less
-    loop-again
+    loop-less-2
+    loop-again-2
     same-length-4
     same-length-5
     same-length-6

@@ -34,7 +34,7 @@ module _ (t : ℕ) where
   slice-aggregate-keep-3 c = search needs
 
   pub keep-requires : lts.Need-keep-requires (calls t) (with-few-at t) with-few.Post
-  keep-requires c κs = let s = c .before .before .before .before .before .before .before .before .before .before .before .pre .1 in (s .0, (knows (s .1 .0 .0) (s .1 .1), held-none 2 (omega arith)))
+  keep-requires c κs = let s = c .before .before .before .before .before .before .before .before .before .before .before .pre .1 in (s .0, (knows 2 (omega arith) (s .1 .0 .0) (s .1 .1), held-none 2 (omega arith)))
 
   pub same-length-2 : lts.Need-same-length-2 (calls t) (with-few-at t) with-few.Post
   same-length-2 c = search needs

@@ -2,6 +2,7 @@
 use Rattle.eval_rows.proofs.coded.+with_states.Lts-with_states as lts
 use Prim.Native.Nat.{ℕ}
 use mathlib.Core.Path.{refl}
+use native.Mathlib.Omega.{arith}
 use borrow.Author.Needs.{needs}
 use Rattle.eval_rows.specs.Known.{rooms-enough, knows}
 use Rattle.eval_rows.proofs.coded.with_states.Reads as with-states
@@ -44,7 +45,7 @@ module _ (t : ℕ) where
   slice-aggregate-keep-3 c = search needs
 
   pub keep-requires : lts.Need-keep-requires (calls t) (with-states-at t) with-states.Post
-  keep-requires c κs = let s = c .before .before .before .before .before .before .before .before .before .before .before .before .before .before .before .before .pre .1 in (s .0, (knows (s .1 .0 .0) (s .1 .1), λ e. c .before .before .before .before .before .before .prepare .ensures))
+  keep-requires c κs = let s = c .before .before .before .before .before .before .before .before .before .before .before .before .before .before .before .before .pre .1 in (s .0, (knows 3 (omega arith) (s .1 .0 .0) (s .1 .1), λ e. c .before .before .before .before .before .before .prepare .ensures))
 
   pub same-length-2 : lts.Need-same-length-2 (calls t) (with-states-at t) with-states.Post
   same-length-2 c = search needs
