@@ -372,15 +372,13 @@ fn eval_filter(
     ensures { λ r. ⌜ Steady (now (state .entry)) (now (list .entry)) (now (state .exit)) (now (list .exit)) ⌝ }
     ensures { λ r. ⌜ DoneSelector (now (lent .entry)) node p rest (now (state .entry)) (now (now (list .entry))) (now (state .exit)) (now (now (list .exit))) ⌝ }
 {
-    if eval_shortcuts::keep_matched(lent, state, list, node, p, rest) {
-        return;
-    }
     let z = p + 3 + bytes::word16(lent[PLAN], p + 1);
     let table = lent[TABLE];
     let i = records::first_child(table, node) as usize;
     let n = records::child_count(table, node) as usize;
     let e = i + n;
-    let mut j = next_kept(lent, state[ROOT], i, e, p + 3, z);
+    let k = eval_shortcuts::keep_rows(lent, state, list, i, e, p + 3, z, rest);
+    let mut j = next_kept(lent, state[ROOT], k, e, p + 3, z);
     while j < e {
         evaluate_segment(lent, state, list, j, rest);
         if state[CAP] < state[AT] {

@@ -348,13 +348,6 @@ kept-after {v} {node} {p} {rest} {s} {l} {l′ = l′} {s″ = s″} {l″ = l�
 pub kept-room : {v : List (RefT (List ℕ))} {node p rest : ℕ} {s l s′ l′ : List ℕ} {r : Bits} → Asked v s l → DoneKeep v node p rest s l s′ l′ r → r ≡ false → atOf s′ ≤ capOf s + 1
 kept-room {s = s} a k e = subst (λ (x : List ℕ). atOf x ≤ capOf s + 1) (sym (k .numbers e)) (a .room)
 
--- and what is asked there is asked still
-pub filter-given : {v : List (RefT (List ℕ))} {node p rest : ℕ} {s s′ : List ℕ} {l l′ : RefT (List ℕ)} {r : Bits} → Asked v s (l .now) × (AskSelector v node p rest × AskKind v p 9) → Steady s l s′ l′ × DoneKeep v node p rest s (l .now) s′ (l′ .now) r → r ≡ false → Asked v s′ (l′ .now) × (AskSelector v node p rest × AskKind v p 9)
-filter-given a k e = (asked-later (k .0) (a .0) (kept-room (a .0) (k .1) e), a .1)
-
-pub filter-later : {v : List (RefT (List ℕ))} {node p rest : ℕ} {s s′ s″ : List ℕ} {l l′ l″ : RefT (List ℕ)} {r : Bits} → Steady s l s′ l′ × DoneKeep v node p rest s (l .now) s′ (l′ .now) r → r ≡ false → Steady s′ l′ s″ l″ → DoneSelector v node p rest s′ (l′ .now) s″ (l″ .now) → Steady s l s″ l″ × DoneSelector v node p rest s (l .now) s″ (l″ .now)
-filter-later k e u d = (steady-then (k .0) u, kept-after (k .1) e d)
-
 -- a selector that is none of the others is a filter
 pub kind-filter : {v : List (RefT (List ℕ))} {s l : List ℕ} {node p rest : ℕ} → Asked v s l → AskSelector v node p rest → 6 < getD (planOf v) p 0 → (getD (planOf v) p 0 ≡ 7 → ⊥) → (getD (planOf v) p 0 ≡ 8 → ⊥) → getD (planOf v) p 0 ≡ 9
 kind-filter a q h u w = omega (arith, kind-high (q .selects .stands))

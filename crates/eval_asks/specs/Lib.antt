@@ -2,3 +2,4 @@ pub mod Lent
 pub mod Asks
 pub mod Steady
 pub mod Kinds
+pub mod Rows

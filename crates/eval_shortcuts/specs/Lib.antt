@@ -3,3 +3,4 @@ pub mod FlatLaws
 pub mod FlatTests
 pub mod Alongs
 pub mod Entries
+pub mod Rows

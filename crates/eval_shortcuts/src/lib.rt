@@ -5,10 +5,11 @@
 //   flats     nodes with nothing below their children under a descendant segment of one selector
 //   straight  a range of nodes with names and indices up to the end
 //
-// Filters that are read once stand in `eval_filters`, those that are match or search alone in `eval_rows`.
+// Filters that are read once stand in `eval_filters`, those with match or search of a text of the plan in `eval_rows`.
 ghost use Rattle.eval_front.specs.Visits.{Given};
 ghost use Rattle.eval_asks.specs.Lent.{planOf, poolOf, tableOf, textOf};
 ghost use Rattle.eval_asks.specs.Asks.{Asked, Steady, AskEach, DoneAhead, Descends, AskFlats, DoneFlats, AskSelector, AskKind, DoneKeep};
+ghost use Rattle.eval_asks.specs.Rows.{AskRows, DoneRows};
 use eval_asks::AT;
 use eval_asks::CAP;
 use eval_asks::PLAN;
@@ -18,6 +19,7 @@ use eval_asks::TABLE;
 use eval_asks::TEXT;
 use eval_filters::kept;
 use eval_rows::calls;
+use eval_rows::rows::Filter;
 use table::records;
 use text::bytes;
 
@@ -150,54 +152,50 @@ pub fn keep_children(
     true
 }
 
-// The same where the filter is match or search with a text of the plan, which is read once.
-pub fn keep_matched(
+// The first node from i on of which the test from p up to z needs a walk, or e. Those before it for which it holds are pushed with what follows, where nothing or one
+// name does. Else, and where one node alone is asked, none is looked at.
+pub fn keep_rows(
     lent: &[&[u8]; 4],
     state: &mut [usize; 3],
     list: &mut &mut [u32],
-    node: usize,
+    i: usize,
+    e: usize,
     p: usize,
+    z: usize,
     rest: usize,
-) -> bool
+) -> usize
     requires { ⌜ Asked (now lent) (now state) (now (now list)) ⌝ }
-    requires { ⌜ AskSelector (now lent) node p rest ⌝ }
-    requires { ⌜ AskKind (now lent) p 9 ⌝ }
+    requires { ⌜ AskRows (now lent) i e p z rest ⌝ }
     ensures { λ r. ⌜ Steady (now (state .entry)) (now (list .entry)) (now (state .exit)) (now (list .exit)) ⌝ }
-    ensures { λ r. ⌜ DoneKeep (now (lent .entry)) node p rest (now (state .entry)) (now (now (list .entry))) (now (state .exit)) (now (now (list .exit))) r ⌝ }
+    ensures { λ r. ⌜ DoneRows (now (lent .entry)) i e p z rest (now (state .entry)) (now (now (list .entry))) (now (state .exit)) (now (now (list .exit))) r ⌝ }
 {
+    if e < i + 2 {
+        return i;
+    }
     let plan = lent[PLAN];
-    let z = p + 3 + bytes::word16(plan, p + 1);
+    if !calls::may_call(plan, p, z, e - i) {
+        return i;
+    }
     let tail = kept::tail_of(plan, rest);
     if 1 < tail {
-        return false;
+        return i;
     }
-    let g = calls::read_call(plan, p + 3, z);
-    if !g.some {
-        return false;
-    }
-    let table = lent[TABLE];
-    let i = records::first_child(table, node) as usize;
-    let n = records::child_count(table, node) as usize;
     let root = state[ROOT];
-    let at = state[AT];
     let cap = state[CAP];
-    let next = eval_rows::keep_matched(
-        plan,
-        lent[POOL],
-        table,
-        lent[TEXT],
+    let at = state[AT];
+    let f = Filter {
         root,
-        i,
-        i + n,
-        p + 3,
+        e,
+        p,
         z,
-        g,
         tail,
         rest,
-        *list,
-        at,
         cap,
-    );
-    state[AT] = next;
-    true
+    };
+    let v = eval_rows::keep_rows(plan, lent[POOL], lent[TABLE], lent[TEXT], f, i, *list, at);
+    state[AT] = v.at;
+    if v.more {
+        return v.i;
+    }
+    e
 }

@@ -1,9 +1,9 @@
--- `rows::tested` meets its contract. Assumes nothing.
+-- `turns::tested` meets its contract. Assumes nothing.
 use borrow.Author.Needs.{needs}
-use Rattle.eval_rows.proofs.rows.tested.Statement.{statement}
-use Rattle.eval_rows.proofs.rows.tested.Tie as tie
-use Rattle.eval_rows.proofs.rows.tested.Reads as reads
-use Rattle.eval_rows.proofs.rows.tested.Lts as lts
+use Rattle.eval_rows.proofs.turns.tested.Statement.{statement}
+use Rattle.eval_rows.proofs.turns.tested.Tie as tie
+use Rattle.eval_rows.proofs.turns.tested.Reads as reads
+use Rattle.eval_rows.proofs.turns.tested.Lts as lts
 use Rattle.regex.proofs.test.Reads as test-reads
 use Rattle.regex_rooms.proofs.marks.test_within.Reads as test-within-reads
 use Rattle.regex_states.proofs.test_with.Reads as test-with-reads
