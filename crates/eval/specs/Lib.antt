@@ -9,3 +9,4 @@ pub mod Loops
 pub mod Fronts
 pub mod Alone
 pub mod Aheads
+pub mod Rows

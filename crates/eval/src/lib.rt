@@ -14,11 +14,13 @@ ghost use Rattle.eval_filters.specs.Kept.{AskTest, DoneTest};
 ghost use Rattle.eval_filters.specs.Tests.{AskRest, DoneRest};
 ghost use Rattle.eval.specs.Lent.{planOf, poolOf, tableOf, textOf};
 ghost use Rattle.eval.specs.Asks.{Begins, AskSegments, DoneSegments, Asked, Steady, AskSegment, DoneSegment, AskEnter, Entered, AskSelectors, DoneSelectors, AskDescent, DoneDescent, AskSelector, DoneSelector, AskKind, AskEach, DoneEach, DoneAhead, AskFlats, DoneFlats, DoneKeep, AskNext, DoneNext, AskQuery, DoneQuery};
+ghost use Rattle.eval.specs.Rows.{AskRows, DoneRows};
 use eval_filters::kept;
 use eval_items::Regs;
 use eval_items::leaves;
 use eval_items::plans;
 use eval_rows::calls;
+use eval_rows::rows::Filter;
 use eval_shortcuts::flats;
 use eval_shortcuts::straight;
 use eval_values::Operand;
@@ -457,59 +459,55 @@ fn keep_children(
     true
 }
 
-// The same where the filter is match or search with a text of the plan, which is read once.
-fn keep_matched(
+// The first node from i on of which the test from p up to z needs a walk, or e. Those before it for which it holds are pushed with what follows, where nothing or one
+// name does. Else, and where one node alone is asked, none is looked at.
+fn keep_rows(
     lent: &[&[u8]; 4],
     state: &mut [usize; 3],
     list: &mut &mut [u32],
-    node: usize,
+    i: usize,
+    e: usize,
     p: usize,
+    z: usize,
     rest: usize,
-) -> bool
+) -> usize
     requires { ⌜ Asked (now lent) (now state) (now (now list)) ⌝ }
-    requires { ⌜ AskSelector (now lent) node p rest ⌝ }
-    requires { ⌜ AskKind (now lent) p 9 ⌝ }
+    requires { ⌜ AskRows (now lent) i e p z rest ⌝ }
     ensures { λ r. ⌜ Steady (now (state .entry)) (now (list .entry)) (now (state .exit)) (now (list .exit)) ⌝ }
-    ensures { λ r. ⌜ DoneKeep (now (lent .entry)) node p rest (now (state .entry)) (now (now (list .entry))) (now (state .exit)) (now (now (list .exit))) r ⌝ }
+    ensures { λ r. ⌜ DoneRows (now (lent .entry)) i e p z rest (now (state .entry)) (now (now (list .entry))) (now (state .exit)) (now (now (list .exit))) r ⌝ }
 {
+    if e < i + 2 {
+        return i;
+    }
     let plan = lent[PLAN];
-    let z = p + 3 + bytes::word16(plan, p + 1);
+    if !calls::may_call(plan, p, z, e - i) {
+        return i;
+    }
     let tail = kept::tail_of(plan, rest);
     if 1 < tail {
-        return false;
+        return i;
     }
-    let g = calls::read_call(plan, p + 3, z);
-    if !g.some {
-        return false;
-    }
-    let table = lent[TABLE];
-    let i = records::first_child(table, node) as usize;
-    let n = records::child_count(table, node) as usize;
     let root = state[ROOT];
-    let at = state[AT];
     let cap = state[CAP];
-    let next = eval_rows::keep_matched(
-        plan,
-        lent[POOL],
-        table,
-        lent[TEXT],
+    let at = state[AT];
+    let f = Filter {
         root,
-        i,
-        i + n,
-        p + 3,
+        e,
+        p,
         z,
-        g,
         tail,
         rest,
-        *list,
-        at,
         cap,
-    );
-    state[AT] = next;
-    true
+    };
+    let v = eval_rows::keep_rows(plan, lent[POOL], lent[TABLE], lent[TEXT], f, i, *list, at);
+    state[AT] = v.at;
+    if v.more {
+        return v.i;
+    }
+    e
 }
 
-// The children of a node for which the filter at p holds, each with the segments at rest. A filter that is match or search alone has a way of its own.
+// The children of a node for which the filter at p holds, each with the segments at rest. Those that need no walk come first, as far as they go.
 fn eval_filter(
     lent: &[&[u8]; 4],
     state: &mut [usize; 3],
@@ -524,15 +522,13 @@ fn eval_filter(
     ensures { λ r. ⌜ Steady (now (state .entry)) (now (list .entry)) (now (state .exit)) (now (list .exit)) ⌝ }
     ensures { λ r. ⌜ DoneSelector (now (lent .entry)) node p rest (now (state .entry)) (now (now (list .entry))) (now (state .exit)) (now (now (list .exit))) ⌝ }
 {
-    if keep_matched(lent, state, list, node, p, rest) {
-        return;
-    }
     let z = p + 3 + bytes::word16(lent[PLAN], p + 1);
     let table = lent[TABLE];
     let i = records::first_child(table, node) as usize;
     let n = records::child_count(table, node) as usize;
     let e = i + n;
-    let mut j = next_kept(lent, state[ROOT], i, e, p + 3, z);
+    let k = keep_rows(lent, state, list, i, e, p + 3, z, rest);
+    let mut j = next_kept(lent, state[ROOT], k, e, p + 3, z);
     while j < e {
         evaluate_segment(lent, state, list, j, rest);
         if state[CAP] < state[AT] {
