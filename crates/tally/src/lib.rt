@@ -2,7 +2,7 @@
 // A plan is counted by itself first, in an array of counters of its own, so that a refusal leaves what was counted before as it is.
 ghost use mathlib.Core.Path.{_≡_};
 ghost use mathlib.Core.Bool.{true};
-ghost use Prim.Native.Nat.{ℕ, _≤_};
+ghost use Prim.Native.Nat.{_≤_};
 ghost use lib.ListN.{length};
 ghost use Rattle.tally_laws.specs.Items.{hasTwo, hasFour, hasEight, hasOne, bodyLength, kindsOf};
 ghost use Rattle.tally_laws.specs.Tallies.{TallyOutcome, Tallies};
