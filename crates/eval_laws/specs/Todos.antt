@@ -21,7 +21,7 @@ use Rattle.definition.specs.Forms.Query.{query}
 use Rattle.definition.specs.QueryForms.{literalRight, queryRight}
 use Rattle.definition.specs.Plans.{startKind, operatorByte, scopeKind, codeLiteral, framed, poolLiteral, poolQuery, poolTest, codeQuery, codeSegments, codeTest}
 use Rattle.definition.specs.Evaluation.{isFound, firstValue, onlyValue, literalValue, countValue, lengthValue, truth, evalQuery, evalSegments, evalTest}
-use Rattle.eval_laws.specs.Bytes.{Holds, holds-first, holds-second, holds-head, holds-tail}
+use Rattle.eval_laws.specs.Bytes.{Holds, holds-in, holds-first, holds-second, holds-head, holds-tail}
 use Rattle.eval_laws.specs.Items.{SegmentsAt, TestAt, framed-at, framed-long}
 use Rattle.eval_laws.specs.Operations.{Result, Does, Operation, Ask, Op, Held, held, table, OfKind, asked, askOf, testOps, rightKind, poolOp, codeOp, kind, opRight, joined, does, takes, result, put, resultBy, effect}
 use Rattle.eval_laws.specs.Operations.Result.{aValue, anAnswer}
@@ -53,6 +53,12 @@ comes-ends : (P L : List ℕ) (e : ℕ) (R N : Json) (want : Bool) (K : List Op)
 unfolding ComesTo
 comes-ends P L e R N want [] q k s l = let z = l .0 in omega arith
 comes-ends P L e R N want (o ∷ K) q k s l = let z = comes-ends P L e R N want K _ _ _ (l .1) in omega arith
+
+-- and lies in the plan
+comes-inside : (P L : List ℕ) (e : ℕ) (R N : Json) (want : Bool) (K : List Op) (q k : ℕ) (s : Held) → ComesTo P L e R N want K q k s → q ≤ length P → e ≤ length P
+unfolding ComesTo
+comes-inside P L e R N want [] q k s l m = let z = l .0 in omega arith
+comes-inside P L e R N want (o ∷ K) q k s l m = comes-inside P L e R N want K _ _ _ (l .1) (holds-in P q (codeOp o k) (l .0 .holds))
 
 end-by : (P L : List ℕ) (e : ℕ) (R N : Json) (want : Bool) (K : List Op) (q k : ℕ) (s : Held) → ComesTo P L e R N want K q k s → e ≤ q → s .acc ≡ want
 unfolding ComesTo
@@ -100,6 +106,9 @@ module _ (P L : List ℕ) (q e : ℕ) (R N : Json) (acc : Bool) (x y : Value) (w
 
   pub todo-in : Todo P L q e R N acc x y want → q < e → q < length P
   todo-in d l = let c = uncons d l in op-head (c .o) (c .k) P q (c .here .holds) .0
+
+  pub todo-inside : Todo P L q e R N acc x y want → q < e → e ≤ length P
+  todo-inside d l = comes-inside P L e R N want (d .K) q (d .k) (held acc (d .st)) (d .comes) (omega (arith, todo-in d l))
 
   -- ---- an item done
 

@@ -12,7 +12,6 @@ use Rattle.definition.specs.Bytes.{number, part}
 use Rattle.definition.specs.Limits.{maxPlan}
 use Rattle.definition.specs.Utf8.{isUtf8}
 use Rattle.regex_definition.specs.Scope.{Scope}
-use Rattle.definition.specs.Values.{Json}
 use Rattle.definition.specs.Forms.{Segments}
 use Rattle.definition.specs.Plans.{codeSegments, scopeKind}
 use Rattle.definition.specs.Compare.{Value}
@@ -20,9 +19,8 @@ use Rattle.definition.specs.Regexps.{regexValues}
 use Rattle.definition.specs.Tables.{nodeCount, nodeAt}
 use Rattle.definition.specs.Evaluation.{evalSegments, firstValue}
 use Rattle.basics.specs.Bools.{and-left, and-right}
-use Rattle.eval_laws.specs.Bytes.{holds-in}
 use Rattle.eval_laws.specs.Items.{SegmentsAt, segments-in}
-use Rattle.eval_laws.specs.Todos.{Todo, todo-in, todo-to, QueryAt, at-query, LiteralAt, at-literal, Matched, at-regex}
+use Rattle.eval_laws.specs.Todos.{Todo, todo-in, todo-inside, todo-to, QueryAt, at-query, LiteralAt, at-literal, Matched, at-regex}
 use Rattle.eval_items.specs.EndLaws.{past-text}
 use Rattle.eval_items.specs.LeafLaws.{done-text}
 use Rattle.eval_items.specs.Leaves.{beginsAt}
@@ -81,14 +79,15 @@ pub record AskCall (P : List ℕ) (q z : ℕ) : Type 0 where
   pub more : q < z
   pub query : getD P q 0 ≤ 2 → AskPath P (q + 1)
 
-pub left-inside : {P L : List ℕ} {q z : ℕ} {R N : Json} {acc want : Bits} → Left P L q z R N acc want → z ≤ length P
-left-inside {P} {q = q} d = let h = holds-in P q _ (d .holds) in let e = d .place in omega arith
+-- such code lies in the plan
+left-inside : {P L S X : List ℕ} {root node q z : ℕ} → AskLeft P L S X root node q z → z ≤ length P
+left-inside {P} {L} {q = q} {z = z} a = todo-inside P L q z _ _ _ _ _ _ (a .todo) (a .more)
 
 pub left-asked : {P L S X : List ℕ} {root node q z : ℕ} → AskLeft P L S X root node q z → AskCall P q z
 left-asked {P} {L} {S} {X} {root} {node} {q} {z} a =
     record {
       few = a .within .fewP;
-      inside = left-inside (a .todo);
+      inside = left-inside a;
       more = a .more;
       query = λ k. record { few = a .within .fewP; L = L; query = short-query (test-short a k) (beginsAt (getD P q 0) root node) refl };
     }
@@ -97,7 +96,7 @@ pub left-in : {P L S X : List ℕ} {root node q z : ℕ} → AskLeft P L S X roo
 left-in {P} {L} {q = q} {z = z} a = todo-in P L q z _ _ _ _ _ _ (a .todo) (a .more)
 
 pub left-near : {P L S X : List ℕ} {root node q z : ℕ} → AskLeft P L S X root node q z → z ≤ maxPlan
-left-near a = omega (arith, left-inside (a .todo), a .within .fewP)
+left-near a = omega (arith, left-inside a, a .within .fewP)
 
 pub none-read : {P : List ℕ} {q z : ℕ} {g : Call} → g .some ≡ false → g .some ≡ true → ReadAt P q z g
 none-read i e = absurd (never (sym i ∙ e))
