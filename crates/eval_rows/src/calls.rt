@@ -53,19 +53,24 @@ fn is_regex(k: u8) -> bool
     k <= SEARCH
 }
 
-// Whether a byte from p up to z is that of match or search.
+// Whether a byte from p up to z is that of match or search, with one that begins a text at the place of its last operand.
 fn mentions(plan: &[u8], p: usize, z: usize) -> bool
     requires { ⌜ (z ≤ length (now plan)) × (z ≤ maxPlan) ⌝ }
 {
-    let mut n = 0;
+    if z < 5 {
+        return false;
+    }
+    let e = z - 5;
     let mut k = p;
-    while k < z {
-        if plan[k] / 2 == MATCH / 2 {
-            n = 1;
+    while k < e {
+        if plan[k] == TEXT {
+            if is_regex(plan[k + 5]) {
+                return true;
+            }
         }
         k += 1;
     }
-    n == 1
+    false
 }
 
 // Whether a call may stand in the code from p up to z, which n nodes are asked for: a hint that is cheap beside them. For few nodes the end of the code is looked at
