@@ -2,7 +2,7 @@
 -- May says which texts may follow a tree of the rule: it rules out, say, a digit behind a number.
 use mathlib.Core.Path.{_≡_}
 use mathlib.Core.List.{List, [], _∷_}
-use mathlib.Core.Bool.{Bool, true, false}
+use mathlib.Core.Bool.{Bool, false}
 use Prim.Native.Nat.{ℕ}
 use lib.Seq.{sets}
 

@@ -19,7 +19,7 @@ use Rattle.definition.specs.Forms.{Query}
 use Rattle.definition.specs.Plans.{planOf, poolOf}
 use Rattle.definition.specs.Walk.{walk}
 use Rattle.definition.specs.Outcomes.{CompileOutcome, early, judge, compileBy, write}
-use Rattle.definition.specs.Outcomes.Reading.{refused, form}
+use Rattle.definition.specs.Outcomes.Reading.{refused}
 use Rattle.definition.specs.Walk.{Walked}
 use Rattle.definition.specs.Walk.Walked.{walked}
 use Rattle.compile_forms.specs.Fits.{early-first}
@@ -34,13 +34,14 @@ use Rattle.compile_writes.specs.Agrees.{Agreed, Formed, agrees}
 use Rattle.parser_follow.specs.Follow.{After}
 use Rattle.parser_follow.specs.Pieces.{queryFlag}
 use Rattle.parser_scan.specs.Text.{Is}
-use Rattle.parser_items.specs.Reads.{marksAt, marksOf, Start, Read}
+use Rattle.parser_items.specs.Reads.{marksAt, marksOf, Asks, Read}
 use Rattle.parser_items.specs.Laws.{after-end, join-none}
-use Rattle.parser_items.specs.declared.State.{State}
+use Rattle.parser_items.specs.declared.Cursor.{Cursor}
 use Rattle.parser_items.specs.declared.Step.{Step}
 use Rattle.parser_items.specs.declared.Step.the-variants as step
 use Rattle.compile_unique.specs.Readings.{OneReading, OneCompile, none-only, tree-only, early-only, compiles-only}
-use Rattle.compile.specs.Steps.{outcome, numberOf, Rooms, Parsed, ParsePost, whole, none, refusalOf, verdictOf}
+use Rattle.compile.specs.Outcomes.{outcome, numberOf}
+use Rattle.compile.specs.Steps.{Rooms, Parsed, ParsePost, whole, none, refusalOf, verdictOf}
 use Rattle.compile.specs.declared.Compiled.the-variants as compiled
 use Rattle.compile.specs.declared.Refusal.{Refusal}
 use Rattle.compile.specs.declared.Refusal.the-variants.{Malformed}
@@ -126,12 +127,12 @@ judge-number (walked false q) n k e = let z : _≡_ {A = ℕ} 0 1 = cc in absurd
 
 -- ---- the whole query
 
--- the state in front of the segments
-abbrev pub first : State
+-- the cursor in front of the segments
+abbrev pub first : Cursor
 first = record { at = 1; len = 0; pool = 0; marks = 0 }
 
 module _ {s P L : List ℕ} (h : Rooms s P L) where
-  pub root-start : Is s 0 0x24 true → Start 2 s P L first
+  pub root-start : Is s 0 0x24 true → Asks 2 s P L first
   root-start i = record {
     text = i .0;
     plan = omega (arith, h .plan, i .0);
@@ -155,7 +156,7 @@ module _ {s P L : List ℕ} (h : Rooms s P L) where
   pub no-segments : {P' L' : List ℕ} {i : ℕ} → Is s 0 0x24 true → ReadsNone spellSegments (After 1) (drop 1 s) → ParsePost s P P' L L' (step.Stop i)
   no-segments i n = none (λ t e. n .none (t .segments) [] (after-end (lit< tt)) (same-segments i t e))
 
-  module _ {P' L' : List ℕ} {b : State} {f : ℕ} (i : Is s 0 0x24 true) (rd : Read spellSegments (λ t. writeFrom 1 (writeSegments t)) queryFlag 1 s P P' L L' first b f) where
+  module _ {P' L' : List ℕ} {b : Cursor} {f : ℕ} (i : Is s 0 0x24 true) (rd : Read spellSegments (λ t. writeFrom 1 (writeSegments t)) queryFlag 1 s P P' L L' first b f) where
     -- something is left behind the segments
     pub some-left : {j : ℕ} → b .at < length s → ParsePost s P P' L L' (step.Stop j)
     some-left l = none (λ t e.
@@ -189,7 +190,7 @@ module _ {s P L : List ℕ} (h : Rooms s P L) where
 
 -- ---- what the marks come to
 
-module _ {s P' L' : List ℕ} {b : State} (p : Parsed s P' L' b) where
+module _ {s P' L' : List ℕ} {b : Cursor} (p : Parsed s P' L' b) where
   agreed : Agreed (walk (p .tree)) (writeQuery (p .tree) 0)
   agreed = agrees (p .tree)
 
@@ -264,10 +265,10 @@ outcome-early {s} {P} {L} w e k g = compiles-only (early-only (λ z. k (e ∙ z)
 
 -- ---- from the answer of parse
 
-pub whole-of : {s P P' L L' : List ℕ} {r : Step} {b : State} {f : ℕ} → ParsePost s P P' L L' r → r ≡ step.Next b f → Parsed s P' L' b
+pub whole-of : {s P P' L L' : List ℕ} {r : Step} {b : Cursor} {f : ℕ} → ParsePost s P P' L L' r → r ≡ step.Next b f → Parsed s P' L' b
 whole-of {s} {P} {P'} {L} {L'} h e = go (rw e at h)
   where
-    go : {b : State} {f : ℕ} → ParsePost s P P' L L' (step.Next b f) → Parsed s P' L' b
+    go : {b : Cursor} {f : ℕ} → ParsePost s P P' L L' (step.Next b f) → Parsed s P' L' b
     go (whole p) = p
 
 pub none-of : {s P P' L L' : List ℕ} {r : Step} → ParsePost s P P' L L' r → (i : ℕ) → r ≡ step.Stop i → (t : G.Query) → spell t ≡ s → ⊥
@@ -305,7 +306,7 @@ rooms-whole {P = P} {L = L} e h = subst (λ (z : List ℕ). Rooms z P L) (sym e)
 pub parse-whole : {s s' P P' L L' : List ℕ} {r : Step} → s' ≡ s → ParsePost s' P P' L L' r → ParsePost s P P' L L' r
 parse-whole {P = P} {P' = P'} {L = L} {L' = L'} {r = r} e h = subst (λ (z : List ℕ). ParsePost z P P' L L' r) e h
 
--- ---- what a state's marks come to
+-- ---- what a cursor's marks come to
 
 module _ (n : ℕ) where
   pub refused-first : n % 256 ≢ 0 → n % 256 ≡ refusalOf (marksAt n)

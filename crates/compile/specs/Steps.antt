@@ -1,4 +1,4 @@
--- What the contracts of compile say: its answer as the definition's outcome, and what its steps ask and give.
+-- What the steps of compile ask and give. Assumes nothing: these are definitions.
 use mathlib.Core.Path.{_≡_}
 use mathlib.Core.Bool.{true, cond, _&&_}
 use mathlib.Core.List.{List}
@@ -12,29 +12,9 @@ use Rattle.definition.specs.Outcomes.{CompileOutcome, write}
 use Rattle.compile_writes.specs.Effects.{Marks}
 use Rattle.compile_writes.specs.Writes.{writeQuery}
 use Rattle.parser_items.specs.Reads.{marksOf}
-use Rattle.parser_items.specs.declared.State.{State}
+use Rattle.parser_items.specs.declared.Cursor.{Cursor}
 use Rattle.parser_items.specs.declared.Step.{Step}
 use Rattle.parser_items.specs.declared.Step.the-variants as step
-use Rattle.compile.specs.declared.Compiled.{Compiled}
-use Rattle.compile.specs.declared.Compiled.the-variants as compiled
-use Rattle.compile.specs.declared.Refusal.{Refusal}
-use Rattle.compile.specs.declared.Refusal.the-variants.{TooLong, NotUtf8, TooDeep, Malformed, Mistyped, UnknownFunction, BeyondRange}
-
--- "Refusal numbers": those of a query
-abbrev pub numberOf : Refusal → ℕ
-numberOf TooLong = 1
-numberOf NotUtf8 = 2
-numberOf TooDeep = 3
-numberOf Malformed = 4
-numberOf Mistyped = 5
-numberOf UnknownFunction = 6
-numberOf BeyondRange = 8
-
--- the outcome that an answer and what both rooms hold afterwards are; "Number fields that a row doesn't name are 0"
-abbrev pub outcome : Compiled → List ℕ → List ℕ → CompileOutcome
-outcome (compiled.Written n m) P L = record { refusal = 0; planLength = n; poolLength = m; planRoom = P; poolRoom = L }
-outcome (compiled.Refused w) P L = record { refusal = numberOf w; planLength = 0; poolLength = 0; planRoom = P; poolRoom = L }
-outcome (compiled.SmallRoom n m) P L = record { refusal = 12; planLength = n; poolLength = m; planRoom = P; poolRoom = L }
 
 -- room enough for a query: 15 bytes of plan and one of pool for each byte
 pub record Rooms (s P L : List ℕ) : Type 0 where
@@ -44,8 +24,8 @@ pub record Rooms (s P L : List ℕ) : Type 0 where
   pub smallPool : length L < 65536
   pub utf8 : isUtf8 s ≡ true
 
--- a tree spells the whole query; P' and L' begin with what is written for it, the state b tells how much and the marks; and the same is written for every tree that spells it
-pub record Parsed (s P' L' : List ℕ) (b : State) : Type 0 where
+-- a tree spells the whole query; P' and L' begin with what is written for it, the cursor b tells how much and the marks; and the same is written for every tree that spells it
+pub record Parsed (s P' L' : List ℕ) (b : Cursor) : Type 0 where
   pub tree : G.Query
   pub spells : spell tree ≡ s
   pub only : (t' : G.Query) → spell t' ≡ s → writeQuery t' 0 ≡ writeQuery tree 0
@@ -56,14 +36,14 @@ pub record Parsed (s P' L' : List ℕ) (b : State) : Type 0 where
   pub marks : marksOf b ≡ writeQuery tree 0 .marks
 
 pub data ParsePost (s P P' L L' : List ℕ) : Step → Type 0 where
-  whole : {b : State} {f : ℕ} → Parsed s P' L' b → ParsePost s P P' L L' (step.Next b f)
+  whole : {b : Cursor} {f : ℕ} → Parsed s P' L' b → ParsePost s P P' L L' (step.Next b f)
   none : {i : ℕ} → ((t : G.Query) → spell t ≡ s → ⊥) → ParsePost s P P' L L' (step.Stop i)
 
 -- the refusal that marks come to, 0 for none
 abbrev pub refusalOf : Marks → ℕ
 refusalOf m = cond (eqb (m .verdict) 0) (cond (m .beyond) 8 0) (m .verdict)
 
-abbrev pub verdictOf : State → ℕ
+abbrev pub verdictOf : Cursor → ℕ
 verdictOf b = refusalOf (marksOf b)
 
 -- the first n bytes of the plan's room and the first m of the pool's, written where both fit

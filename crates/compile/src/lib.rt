@@ -5,7 +5,7 @@ pub mod rooms;
 
 ghost use mathlib.Core.Path.{_≡_};
 ghost use Rattle.definition.specs.Outcomes.{CompileOutcome, Compiles};
-ghost use Rattle.compile.specs.Steps.{outcome};
+ghost use Rattle.compile.specs.Outcomes.{outcome};
 use numbers::refusal_of;
 use rooms::BRIEF;
 use rooms::NO_BYTE;

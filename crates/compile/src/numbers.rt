@@ -2,7 +2,7 @@
 use crate::Refusal;
 ghost use mathlib.Core.Path.{_≡_};
 ghost use Prim.Native.Nat.{_<_};
-ghost use Rattle.compile.specs.Steps.{numberOf};
+ghost use Rattle.compile.specs.Outcomes.{numberOf};
 
 // The refusal that has a number.
 pub fn refusal_of(number: u8) -> Refusal

@@ -4,7 +4,7 @@ use crate::Refusal;
 use crate::numbers::refusal_of;
 use parser::query as parse_query;
 use parser_items::BEYOND;
-use parser_items::State;
+use parser_items::Cursor;
 use parser_items::Step;
 use parser_scan::is;
 use plan_format::kinds::ROOT as FROM_ROOT;
@@ -12,13 +12,12 @@ use text::brackets::too_deep;
 use text::encoding::is_utf8;
 use text::parts::copy_part;
 ghost use mathlib.Core.Path.{_≡_};
-ghost use mathlib.Core.Bool.{true};
-ghost use mathlib.Core.List.{List};
-ghost use Prim.Native.Nat.{ℕ, _+_, _*_, _≤_, _<_};
+ghost use Prim.Native.Nat.{_≤_, _<_};
 ghost use lib.ListN.{length};
 ghost use Rattle.definition.specs.Outcomes.{early};
 ghost use Rattle.compile_unique.specs.Readings.{OneCompile};
-ghost use Rattle.compile.specs.Steps.{outcome, Rooms, ParsePost, verdictOf, Delivers};
+ghost use Rattle.compile.specs.Outcomes.{outcome};
+ghost use Rattle.compile.specs.Steps.{Rooms, ParsePost, verdictOf, Delivers};
 
 const MAX_QUERY: usize = 4096;
 
@@ -76,7 +75,7 @@ pub fn early_refusal(query: &[u8]) -> u8
     0
 }
 
-// jsonpath-query = root-identifier segments, from the first byte to the last; the state behind it, or the place where reading stopped.
+// jsonpath-query = root-identifier segments, from the first byte to the last; the cursor behind it, or the place where reading stopped.
 pub fn parse(s: &[u8], plan: &mut [u8], pool: &mut [u8]) -> Step
     requires { ⌜ Rooms (now s) (now plan) (now pool) ⌝ }
     ensures { λ r. ⌜ ParsePost (now (s .entry)) (now (plan .entry)) (now (plan .exit)) (now (pool .entry)) (now (pool .exit)) r ⌝ }
@@ -84,7 +83,7 @@ pub fn parse(s: &[u8], plan: &mut [u8], pool: &mut [u8]) -> Step
     if !is(s, 0, ROOT) {
         return Step::Stop(0);
     }
-    let st = State {
+    let st = Cursor {
         at: 1,
         len: 0,
         pool: 0,
@@ -102,7 +101,7 @@ pub fn parse(s: &[u8], plan: &mut [u8], pool: &mut [u8]) -> Step
 }
 
 // "then the first of 4, 5, 6 in the Rust's walk", then 8; 0 for none.
-pub fn verdict(st: State) -> u8
+pub fn verdict(st: Cursor) -> u8
     ensures { λ r. ⌜ r ≡ verdictOf st ⌝ }
 {
     let marks = st.marks;

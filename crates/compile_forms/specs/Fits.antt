@@ -71,7 +71,7 @@ early-shallow s e = early-last (ltb maxQuery (length s)) (isUtf8 s) (tooDeep s) 
 -- ---- the plan and the pool are what the writer writes
 
 -- the plan and the pool of q are those of an effect
-pub record Written (q : Query) (e : Effect) : Type 0 where
+pub record EffectOf (q : Query) (e : Effect) : Type 0 where
   pub plan : planOf q ≡ e .plan
   pub pool : poolOf q ≡ e .pool
 
@@ -80,25 +80,25 @@ form-only : {p q : Query} {x : Reading} → x ≡ form p → x ≡ form q → p 
 form-only h k = cc
 
 -- what the writer's law says of its form holds of q
-formed-written : {w : Walked Query} {e : Effect} (q : Query) → judge w ≡ form q → Formed w e → Written q e
+formed-written : {w : Walked Query} {e : Effect} (q : Query) → judge w ≡ form q → Formed w e → EffectOf q e
 formed-written q h f =
     let g : f .query ≡ q = form-only (f .is) h in
     record { plan = ap planOf (sym g) ∙ f .plan; pool = ap poolOf (sym g) ∙ f .pool }
 
 -- A form is left only where nothing is refused and nothing reported.
-agreed-written : {w : Walked Query} {e : Effect} (q : Query) → judge w ≡ form q → Agreed w e → Written q e
+agreed-written : {w : Walked Query} {e : Effect} (q : Query) → judge w ≡ form q → Agreed w e → EffectOf q e
 agreed-written {w} {e} q h a = by-verdict (e .marks .verdict) refl
   where
-    by-beyond : (b : Bool) → e .marks .beyond ≡ b → e .marks .verdict ≡ 0 → Written q e
+    by-beyond : (b : Bool) → e .marks .beyond ≡ b → e .marks .verdict ≡ 0 → EffectOf q e
     by-beyond true k v = absurd (not-refused (sym (a .beyond v k) ∙ h))
     by-beyond false k v = formed-written q h (a .forms v k)
 
-    by-verdict : (n : ℕ) → e .marks .verdict ≡ n → Written q e
+    by-verdict : (n : ℕ) → e .marks .verdict ≡ n → EffectOf q e
     by-verdict zero v = by-beyond (e .marks .beyond) refl v
     by-verdict (suc n) v = absurd (not-refused (sym (a .refuses (omega (arith, v))) ∙ h))
 
 -- so the plan and the pool of what compiles are what is written for its tree
-pub compiled-written : {s : List ℕ} {q : Query} (c : Compiled s q) → Written q (writeQuery (c .tree) 0)
+pub compiled-written : {s : List ℕ} {q : Query} (c : Compiled s q) → EffectOf q (writeQuery (c .tree) 0)
 compiled-written {q} c = agreed-written q (c .judged) (agrees (c .tree))
 
 -- ---- the lengths

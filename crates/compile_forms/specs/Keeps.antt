@@ -9,7 +9,6 @@ use Rattle.definition.specs.Limits.{maxNesting}
 use Rattle.definition.specs.Brackets.{tooDeep}
 use Rattle.definition.specs.Grammar as G
 use Rattle.definition.specs.Grammar.{spell}
-use Rattle.definition.specs.Forms as F
 use Rattle.definition.specs.Forms.{Query}
 use Rattle.definition.specs.QueryForms.{startsAtRoot, queryRight, nesting, isForm}
 use Rattle.definition.specs.Walk.{Walked, walk, walkSegments}

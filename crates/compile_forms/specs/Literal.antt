@@ -1,5 +1,5 @@
 -- The literals of a query are right where they have a form: whole numbers in their ranges, names and texts in UTF-8, floats finite and of 64 bits.
-use Prim.Native.Nat.{ℕ, zero, suc, _+_, _-_, _*_, _/_, _%_, _^_, _≤_, _<_}
+use Prim.Native.Nat.{ℕ, zero, suc, _+_, _-_, _*_, _^_, _≤_, _<_}
 use native.Mathlib.Omega.{arith}
 use mathlib.Core.Path.{_≡_, refl, sym, _∙_, subst}
 use mathlib.Core.Logic.{_⊎_, inl, inr, ⊎-elim}
@@ -10,7 +10,7 @@ use lib.IntN.{ℤ, pos, negℤ}
 use lib.Ieee.{binary64, round}
 use lib.Ieee.Bits.{toBits-lt}
 use lib.Ieee.Fits.{round-fits}
-use borrow.Author.Tests.{ltb-true, ltb-false, leb-false, eqb-true, eqb-false, lt-ltb}
+use borrow.Author.Tests.{ltb-true, ltb-false, leb-false, eqb-true, lt-ltb}
 use Rattle.definition.specs.Bytes.{every, within}
 use Rattle.definition.specs.Utf8.{isUtf8, isUtf8From, encodeAll, isScalar}
 use Rattle.definition.specs.Lexical.{Name, Hex4, Escape, Char, Quote, Text, Number, Fraction, Exponent, isHex, isDigit, isShort, isHigh, isLow, hexValue, hex4Value, nameBytes, ownByte, otherByte}
@@ -102,7 +102,7 @@ char-utf8 q otherQuote r = utf8-ascii (otherByte q) r (other-ascii q)
 char-utf8 q ownQuote r = utf8-ascii (ownByte q) r (own-ascii q)
 char-utf8 q (escape e) r = utf8-encode (escapeValue e) r (escape-scalar e)
 
-nothing-utf8 : isUtf8 [] ≡ true
+pub nothing-utf8 : isUtf8 [] ≡ true
 unfolding isUtf8 isUtf8From
 nothing-utf8 = refl
 

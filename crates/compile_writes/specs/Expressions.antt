@@ -24,7 +24,7 @@ use Rattle.compile_writes.specs.Sorts.Sort.{valueSort, logicalSort}
 use Rattle.compile_writes.specs.Writes.{testTail, notTail, writeNot, callBytes}
 use Rattle.compile_writes.specs.Laws.{translated, item, first-stands, seq-assoc, mark-passes, item-item, translated-bytes, verdict-verdict, seq-no-verdict, no-verdict-seq}
 use Rattle.compile_writes.specs.Agreement.{Agrees, fits, then, after, mapped, frames, before, behind}
-use Rattle.compile_writes.specs.Agreement.Agrees.{refuses, writes}
+use Rattle.compile_writes.specs.Agreement.Agrees.{refuses}
 use Rattle.compile_writes.specs.Codes.{codeExpression, poolExpression, sortExpression, codeOperand, poolOperand, sortOperand, codeOperands, poolOperands, sortsOperands, writeExpression, writeOperand, writeOperands, writeForm, one-operand, two-operands, test-code, test-pool, test-item, not-query-code, not-test-code}
 
 -- a writer that agrees with a walk to an expression of the sort s

@@ -14,7 +14,7 @@ use Rattle.definition.specs.Slices.{indexPlaces, slicePlaces}
 use Rattle.definition.specs.Values.{Json, idOf, many, lookup, children, elements, members, descend}
 use Rattle.definition.specs.Compare.{Value, nodeValue, floatFraction, compareValues}
 use Rattle.definition.specs.Compare.Value.{nothing}
-use Rattle.definition.specs.Forms.{Literal, Start, Query, Segments, Selectors, Selector, Test, Argument, Function}
+use Rattle.definition.specs.Forms.{Literal, Query, Segments, Selectors, Selector, Test, Argument, Function}
 use Rattle.definition.specs.Forms.Start.{root, current}
 use Rattle.definition.specs.Forms.Query.{query}
 use Rattle.definition.specs.Forms.Segments.{end, child, descendant}

@@ -9,7 +9,7 @@ use lib.ListN.{length}
 use Rattle.definition.specs.Limits.{maxInt, literalLimit, minExponent, maxExponent}
 use Rattle.definition.specs.Utf8.{encode}
 use Rattle.definition.specs.Tables.{isFinite}
-use Rattle.definition.specs.Lexical.{Natural, Digits, Int, Whole, Fraction, Sign, Exponent, Number, Escape, Char, Quote, Text, hex4Value, ownByte, otherByte}
+use Rattle.definition.specs.Lexical.{Natural, Digits, Int, Whole, Fraction, Exponent, Number, Escape, Char, Quote, Text, hex4Value, ownByte, otherByte}
 use Rattle.definition.specs.Lexical.Int.{zeroInt, plainInt, minusInt}
 use Rattle.definition.specs.Lexical.Whole.{intWhole, minusZero}
 use Rattle.definition.specs.Lexical.Fraction.{noFraction, fraction}

@@ -1,5 +1,5 @@
 -- Queries that no tree of the grammar spells, so that they are refused 4: shown by going through the trees, byte by byte.
-use Prim.Native.Nat.{ℕ, _<_, _+_, _*_}
+use Prim.Native.Nat.{ℕ}
 use mathlib.Core.Path.{_≡_, refl, sym, ap, _∙_}
 use mathlib.Core.List.{List, [], _∷_, _++_, append-assoc}
 use mathlib.Core.Bool.{Bool, true, false, _||_, true≢false}

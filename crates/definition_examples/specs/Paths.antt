@@ -1,7 +1,7 @@
 -- Paths worked out: of the sample table's nodes, of keys with each kind of escape, and what the operation leaves in its room.
 use Prim.Native.Nat.{ℕ}
 use mathlib.Core.Path.{_≡_, refl}
-use mathlib.Core.List.{List, [], _∷_, _++_}
+use mathlib.Core.List.{List, [], _∷_}
 use mathlib.Core.Bool.{Bool, true, _&&_}
 use lib.Dec.{eqb}
 use Rattle.definition.specs.Bytes.{sameBytes}

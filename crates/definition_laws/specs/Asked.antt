@@ -4,7 +4,7 @@ use Prim.Native.Nat.{ℕ}
 use mathlib.Core.Logic.{_↔_}
 use mathlib.Core.Path.{_≡_, refl, ap, subst}
 use mathlib.Core.List.{List, [], _∷_}
-use mathlib.Core.Bool.{Bool, true, false, _&&_, false≢true}
+use mathlib.Core.Bool.{Bool, true, false, false≢true}
 use Rattle.definition.specs.Lexical.{Number, Slice, nameBytes, functionBytes}
 use Rattle.definition.specs.Literals.{Numeral, numeral}
 use Rattle.definition.specs.Grammar as G
@@ -37,8 +37,8 @@ use Rattle.definition.specs.Forms.Test.{compare, regex, both, either}
 use Rattle.definition.specs.QueryForms.{isForm}
 use Rattle.definition.specs.Selecting.{Reading, judge}
 use Rattle.definition.specs.Selecting.Reading.{form}
-use Rattle.definition.specs.Walk.{Walked, Expression, Operand, Named, fine, named, operatorForm, asTest, negated, compared, asNodes, asValue, only, asRegex, call, walkInt, walkBound, walkStep, walkSlice, walkNumeral, walkLiteral, walkSingularSegment, walkSingularSegments, walkSingular, walkSegments, walkSegment, walkBracketed, walkSelectors, walkSelector, walkOr, walkMoreOr, walkAnd, walkMoreAnd, walkBasic, walkParen, walkTest, walkFilterQuery, walkComparable, walkFunction, walkArguments, walkMoreArguments, walkArgument, walk}
-use Rattle.definition.specs.Walk.Walked.{refused, walked}
+use Rattle.definition.specs.Walk.{Walked, Expression, Operand, Named, named, operatorForm, asTest, negated, compared, asNodes, asValue, only, asRegex, call, walkInt, walkBound, walkStep, walkSlice, walkNumeral, walkLiteral, walkSingularSegment, walkSingularSegments, walkSingular, walkSegments, walkSegment, walkBracketed, walkSelectors, walkSelector, walkOr, walkMoreOr, walkAnd, walkMoreAnd, walkBasic, walkParen, walkTest, walkFilterQuery, walkComparable, walkFunction, walkArguments, walkMoreArguments, walkArgument, walk}
+use Rattle.definition.specs.Walk.Walked.{refused}
 use Rattle.definition.specs.Walk.Expression.{nodes, valued, logical}
 use Rattle.definition.specs.Walk.Operand.{constant, expression}
 use Rattle.definition.specs.Walk.Named.{count, valueName, match, search, unknown}

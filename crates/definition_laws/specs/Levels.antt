@@ -10,7 +10,7 @@ use Rattle.definition.specs.Values.Kids.{more}
 use Rattle.definition.specs.Tables.{nodeCount, depthAt, firstChild, childCount, keyBytes, checkTable, row, valueBy, nodeAt, tree}
 use Rattle.definition.specs.Tables.Checked.{accepted}
 use Rattle.table_laws.specs.Accepted.{Accepted, accepted-gives}
-use Rattle.table_laws.specs.Rows.{node-value}
+use Rattle.table_laws.specs.Nodes.{kids, unrolled}
 
 -- the tree of `treeAt`, with any value where no level is left
 pub treeOver : (ℕ → Json) → ℕ → List ℕ → List ℕ → ℕ → Json
@@ -29,14 +29,14 @@ same-row g h key j (suc n) e =
 
 -- with as many levels as are left below a node's depth, or more, its value is the node's
 enough : (z : ℕ → Json) (T X : List ℕ) → Accepted T X → (f i : ℕ) → i < nodeCount T → suc maxDepth ≤ depthAt T i + f → treeOver z f T X i ≡ nodeAt T X i
-unfolding treeOver
+unfolding treeOver kids
 enough z T X a zero i h l = let d = a .depths i h in absurd (omega arith)
 enough z T X a (suc f) i h l =
     ap (valueBy T X i) (same-row (treeOver z f T X) (nodeAt T X) (keyBytes T X) (firstChild T i) (childCount T i) (λ k m.
     let d = a .deeper i h k m in
     let b = a .inside i h in
     enough z T X a f (firstChild T i + k) (omega arith) (omega arith)))
-    ∙ sym (node-value T X a i h)
+    ∙ sym (unrolled T X a i h)
 
 -- The tree of an accepted table is the same with 64 levels or more, whatever stands where no level is left.
 pub levels-enough : (z : ℕ → Json) (T X : List ℕ) → checkTable T X ≡ accepted → (f : ℕ) → 64 ≤ f → treeOver z f T X 0 ≡ tree T X

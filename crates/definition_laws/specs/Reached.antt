@@ -10,7 +10,7 @@ use lib.Dec.{leb}
 use lib.IntN.{ℤ}
 use Rattle.definition.specs.Limits.{maxNesting}
 use Rattle.definition.specs.Bytes.{sameBytes}
-use Rattle.definition.specs.Lexical.{Blanks, FunctionName, Int, Number, Bound, Step, Slice, functionBytes}
+use Rattle.definition.specs.Lexical.{FunctionName, Int, Number, Bound, Step, Slice, functionBytes}
 use Rattle.definition.specs.Lexical.Bound.{noBound, bound}
 use Rattle.definition.specs.Lexical.Step.{noStep, step}
 use Rattle.definition.specs.Literals.{inRange, Numeral, numeral}
@@ -61,6 +61,7 @@ use Rattle.definition.specs.Walk.Operand.{constant, expression}
 use Rattle.definition_laws.specs.Written.{text-written, int-written, integer-written}
 use Rattle.basics.specs.Bools.{and-left as left, and-right as right}
 use Rattle.compile_writes.specs.Expressions.{also-nothing as quiet}
+use Rattle.compile_writes.specs.Singular.{noBlanks}
 
 -- ---- walks that report nothing
 
@@ -70,9 +71,6 @@ unfolding next
 then {x = x} f e = ap (λ m. next m f) e ∙ quiet (f x)
 
 -- ---- spellings
-
-abbrev noBlank : Blanks
-noBlank = record { bytes = []; good = refl }
 
 abbrev countName : FunctionName
 countName = record { first = 0x63; more = 0x6F ∷ 0x75 ∷ 0x6E ∷ 0x74 ∷ []; isFirst = refl; areMore = refl }
@@ -111,12 +109,12 @@ int-tree z h = let w = int-written z in (w .0, rw (w .1, h) refl)
 bound-tree : (z : Option ℤ) → boundRight z ≡ true → (b : Bound) × (walkBound b ≡ fine z)
 unfolding walkBound boundRight
 bound-tree none h = (noBound, refl)
-bound-tree (some z) h = let w = int-tree z h in (bound (w .0) noBlank, then (λ z. fine (some z)) (w .1))
+bound-tree (some z) h = let w = int-tree z h in (bound (w .0) noBlanks, then (λ z. fine (some z)) (w .1))
 
 step-tree : (z : Option ℤ) → boundRight z ≡ true → (b : Step) × (walkStep b ≡ fine z)
 unfolding walkStep boundRight
 step-tree none h = (noStep, refl)
-step-tree (some z) h = let w = int-tree z h in (step noBlank (w .0), then (λ z. fine (some z)) (w .1))
+step-tree (some z) h = let w = int-tree z h in (step noBlanks (w .0), then (λ z. fine (some z)) (w .1))
 
 slice-tree : (a b c : Option ℤ) → boundRight a ≡ true → boundRight b ≡ true → boundRight c ≡ true → (s : Slice) × (walkSlice s ≡ fine (slice a b c))
 unfolding walkSlice
@@ -124,7 +122,7 @@ slice-tree a b c h k l =
     let x = bound-tree a h in
     let y = bound-tree b k in
     let z = step-tree c l in
-    (record { start = x .0; blanks = noBlank; stop = y .0; by = z .0 }, then _ (x .1) ∙ then _ (y .1) ∙ then _ (z .1))
+    (record { start = x .0; blanks = noBlanks; stop = y .0; by = z .0 }, then _ (x .1) ∙ then _ (y .1) ∙ then _ (z .1))
 
 -- ---- what the walk makes of a test, and of an argument
 
@@ -199,7 +197,7 @@ singular-segments end h k = (noSingular, refl)
 singular-segments (child (one s) q) h k =
     let x = singular-segment s (left (isSingularSelector s) (isSingularSegments q) h) (left (selectorRight s) (segmentsRight q) k) in
     let y = singular-segments q (right (isSingularSelector s) (isSingularSegments q) h) (right (selectorRight s) (segmentsRight q) k) in
-    (moreSingular noBlank (x .0) (y .0), then _ (x .1) ∙ then _ (y .1))
+    (moreSingular noBlanks (x .0) (y .0), then _ (x .1) ∙ then _ (y .1))
 singular-segments (child (and s ss) q) h k = absurd (false≢true h)
 singular-segments (descendant ss q) h k = absurd (false≢true h)
 
@@ -277,25 +275,25 @@ module _ (can : ℕ → Bool) where
       segments-tree (child ss q) h w =
           let x = bracketed-tree ss (left (selectorsRight ss) (segmentsRight q) h) (left (canSelectors ss) (canSegments q) w) in
           let y = segments-tree q (right (selectorsRight ss) (segmentsRight q) h) (right (canSelectors ss) (canSegments q) w) in
-          (moreSegments noBlank (childBrackets (x .0)) (y .0), then _ (then (λ s. fine (child s)) (x .1)) ∙ then _ (y .1))
+          (moreSegments noBlanks (childBrackets (x .0)) (y .0), then _ (then (λ s. fine (child s)) (x .1)) ∙ then _ (y .1))
       segments-tree (descendant ss q) h w =
           let x = bracketed-tree ss (left (selectorsRight ss) (segmentsRight q) h) (left (canSelectors ss) (canSegments q) w) in
           let y = segments-tree q (right (selectorsRight ss) (segmentsRight q) h) (right (canSelectors ss) (canSegments q) w) in
-          (moreSegments noBlank (descendantBrackets (x .0)) (y .0), then _ (then (λ s. fine (descendant s)) (x .1)) ∙ then _ (y .1))
+          (moreSegments noBlanks (descendantBrackets (x .0)) (y .0), then _ (then (λ s. fine (descendant s)) (x .1)) ∙ then _ (y .1))
 
       bracketed-tree : (ss : F.Selectors) → selectorsRight ss ≡ true → canSelectors ss ≡ true → (x : G.Bracketed) × (walkBracketed x ≡ fine ss)
-      bracketed-tree (one s) h w = let x = selector-tree s h w in (bracketed noBlank (x .0) noSelector noBlank, then _ (x .1))
+      bracketed-tree (one s) h w = let x = selector-tree s h w in (bracketed noBlanks (x .0) noSelector noBlanks, then _ (x .1))
       bracketed-tree (and s ss) h w =
           let x = selector-tree s (left (selectorRight s) (selectorsRight ss) h) (left (canSelector s) (canSelectors ss) w) in
           let y = selectors-tree ss (right (selectorRight s) (selectorsRight ss) h) (right (canSelector s) (canSelectors ss) w) in
-          (bracketed noBlank (x .0) (y .0) noBlank, then _ (x .1) ∙ y .1 s)
+          (bracketed noBlanks (x .0) (y .0) noBlanks, then _ (x .1) ∙ y .1 s)
 
       selectors-tree : (ss : F.Selectors) → selectorsRight ss ≡ true → canSelectors ss ≡ true → (x : G.Selectors) × ((s : F.Selector) → walkSelectors x s ≡ fine (and s ss))
-      selectors-tree (one t) h w = let x = selector-tree t h w in (moreSelectors noBlank noBlank (x .0) noSelector, λ s. then _ (x .1) ∙ then _ refl)
+      selectors-tree (one t) h w = let x = selector-tree t h w in (moreSelectors noBlanks noBlanks (x .0) noSelector, λ s. then _ (x .1) ∙ then _ refl)
       selectors-tree (and t ss) h w =
           let x = selector-tree t (left (selectorRight t) (selectorsRight ss) h) (left (canSelector t) (canSelectors ss) w) in
           let y = selectors-tree ss (right (selectorRight t) (selectorsRight ss) h) (right (canSelector t) (canSelectors ss) w) in
-          (moreSelectors noBlank noBlank (x .0) (y .0), λ s. then _ (x .1) ∙ then _ (y .1 t))
+          (moreSelectors noBlanks noBlanks (x .0) (y .0), λ s. then _ (x .1) ∙ then _ (y .1 t))
 
       selector-tree : (s : F.Selector) → selectorRight s ≡ true → canSelector s ≡ true → (x : G.Selector) × (walkSelector x ≡ fine s)
       selector-tree (name s) h w = let x = text-written s h in (nameSelector (x .0), ap (λ (b : List ℕ). fine (name b)) (x .1))
@@ -307,32 +305,32 @@ module _ (can : ℕ → Bool) where
       selector-tree wildcard h w = (wildcardSelector, refl)
       selector-tree (filter t) h w =
           let x = alone t (basic-tree t h w) in
-          (filterSelector noBlank (x .0), then _ (x .1) ∙ ap (λ (u : F.Test). fine (filter u)) (told-test t))
+          (filterSelector noBlanks (x .0), then _ (x .1) ∙ ap (λ (u : F.Test). fine (filter u)) (told-test t))
 
       basic-tree : (t : F.Test) → testRight t ≡ true → canTest t ≡ true → (x : G.Basic) × (walkBasic x ≡ fine (told t))
       basic-tree (exists q) h w = let x = query-tree q h w in (testBasic (queryTest (x .0)), then _ (x .1))
       basic-tree (compare p a b) h w =
           let x = comparable-tree a (left (argumentRight a) (argumentRight b) h) (left (canArgument a) (canArgument b) w) in
           let y = comparable-tree b (right (argumentRight a) (argumentRight b) h) (right (canArgument a) (canArgument b) w) in
-          (comparison (x .0) noBlank (operatorTree p) noBlank (y .0), then _ (x .1) ∙ then _ (y .1) ∙ then _ (x .2) ∙ then _ (y .2) ∙ ap (λ (k : F.Operator). fine (logical (compare k a b))) (operator-back p))
+          (comparison (x .0) noBlanks (operatorTree p) noBlanks (y .0), then _ (x .1) ∙ then _ (y .1) ∙ then _ (x .2) ∙ then _ (y .2) ∙ ap (λ (k : F.Operator). fine (logical (compare k a b))) (operator-back p))
       basic-tree (regex c a b) h w =
           let x = argument-tree a (left (argumentRight a) (argumentRight b) h) (left (canArgument a) (canArgument b) w) in
           let y = argument-tree b (right (argumentRight a) (argumentRight b) h) (right (canArgument a) (canArgument b) w) in
-          (testBasic (functionTest (function (scopeName c) noBlank (arguments (x .0) (moreArguments noBlank noBlank (y .0) noMore)) noBlank)), then _ (then _ (x .1) ∙ then _ (then _ (y .1) ∙ then _ refl)) ∙ scope-call c (operandOf a) (operandOf b) ∙ then _ (x .2) ∙ then _ (y .2))
+          (testBasic (functionTest (function (scopeName c) noBlanks (arguments (x .0) (moreArguments noBlanks noBlanks (y .0) noMore)) noBlanks)), then _ (then _ (x .1) ∙ then _ (then _ (y .1) ∙ then _ refl)) ∙ scope-call c (operandOf a) (operandOf b) ∙ then _ (x .2) ∙ then _ (y .2))
       basic-tree (not t) h w =
           let x = alone t (basic-tree t h w) in
-          (notParen noBlank (paren noBlank (x .0) noBlank), then _ (x .1) ∙ told-not t)
+          (notParen noBlanks (paren noBlanks (x .0) noBlanks), then _ (x .1) ∙ told-not t)
       basic-tree (notValue f) h w = absurd (false≢true w)
       basic-tree (both a b) h w =
           let x = basic-tree a (left (testRight a) (testRight b) h) (left (canTest a) (canTest b) w) in
           let y = basic-tree b (right (testRight a) (testRight b) h) (right (canTest a) (canTest b) w) in (
-            parenBasic (paren noBlank (logicalOr (logicalAnd (x .0) (moreAnd noBlank noBlank (y .0) noAnd)) noOr) noBlank),
+            parenBasic (paren noBlanks (logicalOr (logicalAnd (x .0) (moreAnd noBlanks noBlanks (y .0) noAnd)) noOr) noBlanks),
             then _ (then _ (x .1) ∙ then _ (told-compared a) ∙ then _ (y .1) ∙ then _ (told-compared b)) ∙ rw (told-test a, told-test b) refl,
           )
       basic-tree (either a b) h w =
           let x = basic-tree a (left (testRight a) (testRight b) h) (left (canTest a) (canTest b) w) in
           let y = basic-tree b (right (testRight a) (testRight b) h) (right (canTest a) (canTest b) w) in (
-            parenBasic (paren noBlank (logicalOr (logicalAnd (x .0) noAnd) (moreOr noBlank noBlank (logicalAnd (y .0) noAnd) noOr)) noBlank),
+            parenBasic (paren noBlanks (logicalOr (logicalAnd (x .0) noAnd) (moreOr noBlanks noBlanks (logicalAnd (y .0) noAnd) noOr)) noBlanks),
             then _ (then _ (x .1) ∙ then _ (told-compared a)) ∙ then _ (then _ (y .1) ∙ then _ (told-compared b)) ∙ rw (told-test a, told-test b) refl,
           )
 
@@ -359,13 +357,13 @@ module _ (can : ℕ → Bool) where
       function-tree : (f : F.Function) → functionRight f ≡ true → canFunction f ≡ true → (x : G.Function) × (walkFunction x ≡ fine (valued f))
       function-tree (countOf q) h w =
           let x = query-tree q h w in
-          (function countName noBlank (arguments (queryArgument (x .0)) noMore) noBlank, then _ (then _ (then _ (x .1)) ∙ then _ refl) ∙ then _ refl)
+          (function countName noBlanks (arguments (queryArgument (x .0)) noMore) noBlanks, then _ (then _ (then _ (x .1)) ∙ then _ refl) ∙ then _ refl)
       function-tree (lengthOf a) h w =
           let x = argument-tree a h w in
-          (function lengthName noBlank (arguments (x .0) noMore) noBlank, then _ (then _ (x .1) ∙ then _ refl) ∙ then _ (x .2))
+          (function lengthName noBlanks (arguments (x .0) noMore) noBlanks, then _ (then _ (x .1) ∙ then _ refl) ∙ then _ (x .2))
       function-tree (valueOf q) h w =
           let x = query-tree q h w in
-          (function valueWord noBlank (arguments (queryArgument (x .0)) noMore) noBlank, then _ (then _ (then _ (x .1)) ∙ then _ refl) ∙ then _ refl)
+          (function valueWord noBlanks (arguments (queryArgument (x .0)) noMore) noBlanks, then _ (then _ (then _ (x .1)) ∙ then _ refl) ∙ then _ refl)
 
     -- Every query form that a query can write is the form of some tree.
     pub form-reached : (q : F.Query) → isForm q ≡ true → canQuery q ≡ true → (t : G.Query) × (judge (walk t) ≡ form q)

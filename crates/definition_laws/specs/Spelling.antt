@@ -1,7 +1,7 @@
 -- What a tree of the grammar spells is UTF-8, and no query is empty: so a text that is refused 2 is in no tree's way.
 use mathlib.Core.Path.{_≡_, refl, ap, _∙_}
 use mathlib.Core.Bool.{Bool, true, _||_}
-use mathlib.Core.Logic.{_⊎_, ⊎-elim}
+use mathlib.Core.Logic.{⊎-elim}
 use mathlib.Core.List.{List, [], _∷_, _++_, append-assoc}
 use Prim.Native.Nat.{ℕ, _<_}
 use native.Mathlib.Omega.{arith}
@@ -9,7 +9,7 @@ use borrow.Author.Tests.{eqb-true}
 use lib.Dec.{eqb, lit<}
 use lib.ListN.{length}
 use Rattle.definition.specs.Bytes.{every, within}
-use Rattle.definition.specs.Utf8.{isUtf8, isUtf8From, encode, encodeAll}
+use Rattle.definition.specs.Utf8.{isUtf8, encode, encodeAll}
 use Rattle.definition.specs.Lexical.{Quote}
 use Rattle.definition.specs.Lexical.{isBlank, isDigit, isLcalpha, isFunctionChar, isHex, isE, isShort, ownByte, otherByte}
 use Rattle.definition.specs.Lexical.{spellBlanks, spellName, spellFunctionName, spellNatural, spellDigits, spellInt, spellWhole, spellFraction, spellSign, spellExponent, spellNumber, spellHex4, spellEscape, spellChar, spellChars, spellText, spellBound, spellStep, spellSlice}
@@ -52,6 +52,7 @@ use Rattle.utf8_laws.specs.Texts.{name-scalars as chars, other-ascii, own-ascii
 use Rattle.utf8_laws.specs.Bytes.{inside-high}
 use Rattle.utf8_laws.specs.Encode.{utf8-ascii, utf8-encode, utf8-encodeAll}
 use Rattle.utf8_laws.specs.Names.{name-scalar, unescaped-scalar, first-char}
+use Rattle.compile_forms.specs.Literal.{nothing-utf8}
 
 -- ---- classes of ASCII bytes
 
@@ -300,10 +301,6 @@ mutual
   argument (functionArgument f) r = call f r
 
 -- ---- the query
-
-nothing-utf8 : isUtf8 [] ≡ true
-unfolding isUtf8 isUtf8From
-nothing-utf8 = refl
 
 -- what a query spells is UTF-8
 pub spelling-utf8 : (q : G.Query) → isUtf8 (spell q) ≡ true

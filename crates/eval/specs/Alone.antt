@@ -17,9 +17,9 @@ use Rattle.eval_front.specs.Visits.{Query, Head}
 use Rattle.eval_front.specs.Fronts.{Single, single}
 use Rattle.eval_front.specs.Heads.{head-read}
 use Rattle.eval_front.specs.Stands.{segments-at}
-use Rattle.eval.specs.Lent.{planOf, poolOf}
-use Rattle.eval.specs.Asks.{AskEnter, Entered, Steady, AskSelector, DoneSelector, Selects}
-use Rattle.eval.specs.Steady.{gives-as}
+use Rattle.eval_asks.specs.Lent.{planOf, poolOf}
+use Rattle.eval_asks.specs.Asks.{AskEnter, Entered, Steady, AskSelector, DoneSelector, Selects}
+use Rattle.eval_asks.specs.Steady.{gives-as}
 
 -- four bytes at least are there where a segment stands
 pub query-bound : {P L : List ℕ} {pc : ℕ} → length P ≤ maxPlan → (x : Query P L pc) → (getD P pc 0 ≡ 0x0A → ⊥) → pc + 4 ≤ length P

@@ -21,7 +21,7 @@ use Rattle.eval_values.specs.declared.Operand.the-variants.{Nothing, Null, Int}
 use Rattle.eval_items.specs.Leaves.{capFor}
 use Rattle.eval_items.specs.OpLaws.{regs}
 use Rattle.eval_items.specs.declared.Regs.{Regs}
-use Rattle.eval.specs.Asks.{isFunction, OfFunction, OfFirst, AskAnswer, DoneAnswer}
+use Rattle.eval_asks.specs.Asks.{isFunction, OfFunction, OfFirst, AskAnswer, DoneAnswer}
 
 -- ---- caps by what is asked
 

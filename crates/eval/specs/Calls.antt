@@ -29,11 +29,9 @@ use Rattle.eval_front.specs.Overs.{over-step, over-end, over-full, over-passed}
 use Rattle.eval_front.specs.Stands.{Standing, descendant-byte, standing-of, fore, final, some-alone, standing-in}
 use Rattle.eval_front.specs.Spans.{below-all}
 use Rattle.eval_front.specs.declared.Reached.{Reached}
-use Rattle.eval_shortcuts.specs.Flats.{AskStart, DoneStart}
-use Rattle.eval_shortcuts.specs.declared.flats.Flat.{Flat}
-use Rattle.eval.specs.Lent.{planOf, poolOf, tableOf, textOf, rootOf, capOf, atOf}
-use Rattle.eval.specs.Asks.{Asked, Steady, Gives, AskSegment, DoneSegment, AskSelectors, DoneSelectors, Parted, AskDescent, DoneDescent, Descends, descent, AskFlats, DoneFlats, AskSelector, DoneSelector}
-use Rattle.eval.specs.Steady.{wrote-at, gives-wrote, gives-none, gives-as, Going, going-start, going-on, going-step, going-end, going-full, going-last}
+use Rattle.eval_asks.specs.Lent.{planOf, poolOf, tableOf, textOf, rootOf, capOf, atOf}
+use Rattle.eval_asks.specs.Asks.{Asked, Steady, Gives, AskSegment, DoneSegment, AskSelectors, DoneSelectors, Parted, AskDescent, DoneDescent, Descends, descent, AskFlats, DoneFlats, AskSelector, DoneSelector}
+use Rattle.eval_asks.specs.Steady.{wrote-at, gives-wrote, gives-none, gives-as, Going, going-start, going-on, going-step, going-end, going-full, going-last}
 
 -- the parts of the segment at pc
 abbrev parted-at : {P L : List ℕ} {pc : ℕ} → length P ≤ maxPlan → Query P L pc → (getD P pc 0 ≡ 0x0A → ⊥) → Parted P L pc
@@ -121,6 +119,16 @@ descent-selectors {v} {node} {pc} q =
       going = λ z. omega (arith, descendant-byte (planOf v) (poolOf v) pc (x .k) (x .ss) (x .q) (x .at));
     }
 
+-- the query ends behind a node
+module _ {v : List (RefT (List ℕ))} {s l : List ℕ} {m rest : ℕ} (a : Asked v s l) (q : AskSegment v m rest) where
+  pub here-push : AskPush (length l) (atOf s) m (capOf s)
+  here-push = record { room = a .room; wide = a .wide; small = a .small; number = omega (arith, q .node-in, a .given .tab .size .few) }
+
+  pub here-ends : getD (planOf v) rest 0 ≡ 0x0A → (l′ : List ℕ) (n : ℕ) → st (capOf s) l′ n ≡ push m (st (capOf s) l (atOf s)) → DoneSegment v m rest s l (set s 2 n) l′
+  here-ends z l′ n p =
+      gives-wrote _ s l l′ n a
+      (λ x. p ∙ segment-end (tableOf v) (textOf v) (a .given .tab) (x .f) _ m (q .node-in) _ (is-end (planOf v) rest (x .k) (x .f) (x .at .holds) z))
+
 -- its selectors and what follows them are those of its parts
 module _ {P L : List ℕ} {pc : ℕ} (few : length P ≤ maxPlan) (x : Descends P L pc) where
   abbrev parted-of : Parted P L pc
@@ -146,44 +154,22 @@ module _ {v : List (RefT (List ℕ))} {s l : List ℕ} {i e pc : ℕ} (a : Asked
             ∙ sym (over-full (x .q) _ (below (x .ss) _) (tableOf v) (textOf v) i e C l (atOf s) (omega (arith, c)) (omega (arith, c, a .room)) (omega (arith, c, a .wide)));
       }
 
+  -- those before the next list or map select nothing
   module _ (q : AskFlats v i e pc) {j : ℕ} (c : DoneContainer (tableOf v) i e j) where
-    pub flats-asked : AskStart (planOf v) (poolOf v) (tableOf v) (textOf v) j e pc (length l) (atOf s) (capOf s)
-    flats-asked =
+    pub flats-asked : AskFlats v j e pc
+    flats-asked = record { upto = c .high (q .upto); range = λ h. q .range (omega (arith, c .low)); descends = q .descends }
+
+    pub flats-done : {s′ l′ : List ℕ} {r : ℕ} → DoneFlats v j e pc s l s′ l′ r → DoneFlats v i e pc s l s′ l′ r
+    flats-done d =
         record {
-          given = a .given;
-          range = λ h. q .range (omega (arith, c .low));
-          ss = q .descends .ss;
-          q = q .descends .q;
-          k = q .descends .k;
-          stands = q .descends .at;
-          list = record { room = a .room; wide = a .wide; small = a .small };
+          low = omega (arith, c .low, d .low);
+          high = d .high;
+          room = d .room;
+          goes = λ x R C r k. d .goes x R C r k ∙ over-passed (x .q) _ (x .ss) (tableOf v) (textOf v) (a .given .tab) i j e _ (c .low) (c .high (q .upto)) (q .range) (c .passed);
         }
 
-    module _ {l′ : List ℕ} {f : Flat} (d : DoneStart (planOf v) (poolOf v) (tableOf v) (textOf v) j e pc (capOf s) l (atOf s) l′ f) where
-      flats-high : f .i ≤ e
-      flats-high = by (ltb j (f .i)) refl
-        where
-          by : (b : Bits) → ltb j (f .i) ≡ b → f .i ≤ e
-          by true z = d .passes .high (ltb-true j (f .i) z)
-          by false z = omega (arith, ltb-false j (f .i) z, c .high (q .upto))
-
-      flats-goes : (x : Descends (planOf v) (poolOf v) pc) → descent v pc (f .i) e x (rootOf s) (st (capOf s) l′ (f .at)) ≡ descent v pc i e x (rootOf s) (st (capOf s) l (atOf s))
-      flats-goes x =
-          d .again (x .ss) (x .q) (x .k) (x .at) _
-          ∙ over-passed (x .q) _ (x .ss) (tableOf v) (textOf v) (a .given .tab) i j e _ (c .low) (c .high (q .upto)) (q .range) (c .passed)
-
-      pub flats-done : DoneFlats v i e pc s l (set s 2 (f .at)) l′ (f .i)
-      flats-done =
-          let w = wrote-at a (f .at) in
-          record {
-            low = omega (arith, c .low, d .passes .low);
-            high = flats-high;
-            room = omega (arith, d .passes .room);
-            goes = λ x R C r k.
-                subst (λ (R : ℕ). descent v pc (f .i) e x R (st C l′ (atOf (set s 2 (f .at)))) ≡ descent v pc i e x R (st C l (atOf s))) r
-                (subst (λ (C : ℕ). descent v pc (f .i) e x (rootOf s) (st C l′ (atOf (set s 2 (f .at)))) ≡ descent v pc i e x (rootOf s) (st C l (atOf s))) k
-                (ap (λ (n : ℕ). descent v pc (f .i) e x (rootOf s) (st (capOf s) l′ n)) w ∙ flats-goes x));
-          }
+    pub flats-scalars : DoneFlats v i e pc s l s l j
+    flats-scalars = flats-done (record { low = omega arith; high = c .high (q .upto); room = a .room; goes = λ x R C r k. refl })
 
 -- the children that are left
 pub record InDescent (v : List (RefT (List ℕ))) (pc e j₀ : ℕ) (s₀ : List ℕ) (l₀ : RefT (List ℕ)) (s : List ℕ) (l : RefT (List ℕ)) (j : ℕ) : Type 0 where

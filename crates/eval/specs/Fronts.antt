@@ -12,8 +12,7 @@ use Rattle.eval_laws.specs.Steps.{segment-end}
 use Rattle.eval_laws.specs.Items.{is-end, segments-in}
 use Rattle.eval_front.specs.Visits.{AskPush, AskReach, DoneReach}
 use Rattle.eval_front.specs.declared.Reached.{Reached}
-use Rattle.eval_shortcuts.specs.Straights.{AskLast, AskStraight}
-use Rattle.eval.specs.Asks.{Begins, AskSegments, DoneSegments}
+use Rattle.eval_asks.specs.Asks.{Begins, AskSegments, DoneSegments}
 
 -- ---- the front of a query
 
@@ -38,22 +37,3 @@ module _ {P L S X : List ℕ} {root node len at cap pc : ℕ} (a : Begins P L S 
 
   pub front-push : AskPush len at (v .node) cap
   front-push = record { room = a .room; wide = a .wide; small = a .small; number = omega (arith, d .node-in, a .tab .size .few) }
-
-  -- a segment follows
-  module _ (n : getD P (v .pc) 0 ≡ 0x0A → ⊥) where
-    pub front-last : AskLast P (v .pc)
-    front-last = let w = d .front (q .f) (q .k) (q .at) in record { few = a .fewP; L = L; fewL = a .fewL; query = record { f = w .g; k = w .j; at = w .at }; going = n }
-
--- ---- a slice at the end of the query
-
-module _ {P L S X : List ℕ} {root node len at cap pc : ℕ} (a : Begins P L S X root node len at cap) (q : AskSegments P L pc) {v : Reached} (d : DoneReach P L S X node pc v) (n : getD P (v .pc) 0 ≡ 0x0A → ⊥) where
-  pub front-slice : AskStraight P L S X (v .node) (v .pc) len at cap
-  front-slice =
-      let w = d .front (q .f) (q .k) (q .at) in
-      record {
-        given = record { fewP = a .fewP; fewL = a .fewL; tab = a .tab };
-        node-in = d .node-in;
-        query = record { f = w .g; k = w .j; at = w .at };
-        going = n;
-        list = record { room = a .room; wide = a .wide; small = a .small };
-      }

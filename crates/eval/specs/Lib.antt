@@ -1,8 +1,4 @@
-pub mod Lent
-pub mod Asks
-pub mod Steady
 pub mod Calls
-pub mod Kinds
 pub mod Answers
 pub mod Queries
 pub mod Loops

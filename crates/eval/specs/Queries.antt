@@ -2,8 +2,7 @@
 use Prim.Native.Nat.{ℕ, _+_, _≤_, _<_}
 use mathlib.Core.Path.{_≡_, refl, ap, _∙_, subst}
 use mathlib.Core.List.{List, [], _∷_}
-use mathlib.Core.Bool.{Bool as Bits, true, false, cond}
-use lib.Dec.{eqb}
+use mathlib.Core.Bool.{Bool as Bits, true}
 use lib.ListN.{length, getD}
 use native.Mathlib.Omega.{arith}
 use Rattle.definition.specs.Limits.{maxInt}
@@ -16,7 +15,8 @@ use Rattle.eval_laws.specs.States.{State, st, emit}
 use Rattle.eval_laws.specs.Segments.{ids}
 use Rattle.eval_laws.specs.Emits.{go}
 use Rattle.eval_laws.specs.Items.{SegmentsAt}
-use Rattle.eval_laws.specs.Founds.{Found, found-at}
+use Rattle.eval_laws.specs.Operations.{askOf}
+use Rattle.eval_laws.specs.Founds.{Found, cap-most, found-at}
 use Rattle.eval_laws.specs.Todos.{QueryAt, todo-in, at-query}
 use Rattle.eval_values.specs.Means.{meaning}
 use Rattle.eval_items.specs.Leaves.{Doing, beginsAt, capFor}
@@ -24,17 +24,12 @@ use Rattle.eval_items.specs.declared.Regs.{Regs}
 use Rattle.eval_front.specs.Visits.{DoneReach}
 use Rattle.eval_front.specs.declared.Reached.{Reached}
 use Rattle.eval_filters.specs.Queries.{Past, begins-root, begins-node}
-use Rattle.eval.specs.Asks.{AskQuery, DoneQuery, DoneAnswer}
+use Rattle.eval_asks.specs.Asks.{AskQuery, DoneQuery, DoneAnswer}
 
 -- ---- the cap of a query
 
-cap-by : (a b : Bits) → cond a 9007199254740990 (cond b 1 0) ≤ 9007199254740990
-cap-by true b = omega arith
-cap-by false true = omega arith
-cap-by false false = omega arith
-
 pub cap-small : (cap m : ℕ) → cap ≡ capFor m → cap + 1 ≤ maxInt
-cap-small cap m e = let w = cap-by (eqb m 0x19) (eqb m 0x1B) in omega arith
+cap-small cap m e = let w = cap-most (askOf m) in omega arith
 
 -- ---- the query that stands there
 

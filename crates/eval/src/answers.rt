@@ -6,7 +6,7 @@ use plan_format::kinds::COUNT;
 use plan_format::kinds::TEST;
 use plan_format::kinds::VALUE;
 ghost use mathlib.Core.Path.{_≡_};
-ghost use Rattle.eval.specs.Asks.{isFunction, AskNodes, OfFunction, OfFirst, AskAnswer, DoneAnswer};
+ghost use Rattle.eval_asks.specs.Asks.{isFunction, AskNodes, OfFunction, OfFirst, AskAnswer, DoneAnswer};
 
 // Whether the byte behind a query is that of a function of its nodes.
 fn is_function(mode: u8) -> bool

@@ -3,25 +3,28 @@
 // in a filter has one place, for its first node.
 //
 // What is lent, the numbers of the evaluation and the list stand behind one reference each, so that a call hands on few words and one that comes last takes the place
-// of its caller's frame.
+// of its caller's frame. What is faster than the general way stands in `eval_shortcuts`, whose functions do what is asked or leave it.
 //
 //   answers    what is asked of a query in a filter's code
+//   descents   the next child that a descent goes to
 ghost use Prim.Native.Nat.{_<_};
 ghost use lib.ListN.{length};
 ghost use Rattle.definition.specs.Tables.{nodeCount};
 ghost use Rattle.eval_filters.specs.Queries.{Within};
-ghost use Rattle.eval_filters.specs.Keeps.{TailAt};
 ghost use Rattle.eval_filters.specs.Kept.{AskTest, DoneTest};
 ghost use Rattle.eval_filters.specs.Tests.{AskRest, DoneRest};
-ghost use Rattle.eval.specs.Lent.{planOf, poolOf, tableOf, textOf};
-ghost use Rattle.eval.specs.Asks.{Begins, AskSegments, DoneSegments, Asked, Steady, AskSegment, DoneSegment, AskEnter, Entered, AskSelectors, DoneSelectors, AskDescent, DoneDescent, AskSelector, DoneSelector, AskKind, AskEach, DoneEach, DoneAhead, AskFlats, DoneFlats, DoneKeep, AskNext, DoneNext, AskQuery, DoneQuery};
-use eval_filters::kept;
+ghost use Rattle.eval_asks.specs.Lent.{planOf, poolOf, tableOf, textOf};
+ghost use Rattle.eval_asks.specs.Asks.{Begins, AskSegments, DoneSegments, Asked, Steady, AskSegment, DoneSegment, AskEnter, Entered, AskSelectors, DoneSelectors, AskDescent, DoneDescent, AskSelector, DoneSelector, AskKind, AskEach, DoneEach, AskNext, DoneNext, AskQuery, DoneQuery};
+use eval_asks::AT;
+use eval_asks::CAP;
+use eval_asks::PLAN;
+use eval_asks::POOL;
+use eval_asks::ROOT;
+use eval_asks::TABLE;
+use eval_asks::TEXT;
 use eval_items::Regs;
 use eval_items::leaves;
 use eval_items::plans;
-use eval_rows::calls;
-use eval_shortcuts::flats;
-use eval_shortcuts::straight;
 use eval_values::Operand;
 use eval_values::members::Member;
 use plan_format::heads::FILTER_HEAD;
@@ -37,25 +40,9 @@ use table::records;
 use text::bytes;
 
 mod answers;
+mod descents;
 
-// The places of what is lent.
-const PLAN: usize = 0;
-
-const POOL: usize = 1;
-
-const TABLE: usize = 2;
-
-const TEXT: usize = 3;
-
-// The places of the evaluation's numbers: the node that `$` stands for, how many nodes are counted, and the next place of the list.
-const ROOT: usize = 0;
-
-const CAP: usize = 1;
-
-const AT: usize = 2;
-
-// From one node, what the segments at pc select: the next place of the list. Where names and indices lead to the end of the query, or to a slice at its end, no
-// further call is needed.
+// From one node, what the segments at pc select: the next place of the list. Where names and indices lead to the end of the query, no further call is needed.
 pub fn evaluate<'a>(
     plan: &'a [u8],
     pool: &'a [u8],
@@ -80,9 +67,6 @@ pub fn evaluate<'a>(
     let q = r.pc;
     if plan[q] == END {
         return eval_front::push(list, at, m, cap);
-    }
-    if straight::is_last_slice(plan, q) {
-        return straight::push_slice(plan, pool, table, text, m, q, list, at, cap);
     }
     let lent = [plan, pool, table, text];
     let mut state = [root, cap, at];
@@ -113,7 +97,7 @@ fn first(lent: &[&[u8]; 4], state: &mut [usize; 3], list: &mut &mut [u32], node:
     let p = pc + 3;
     if head == FILTER_HEAD {
         let rest = p + 3 + bytes::word16(plan, p + 1);
-        if !keep_children(lent, state, list, node, p, rest) {
+        if !eval_shortcuts::keep_children(lent, state, list, node, p, rest) {
             eval_filter(lent, state, list, node, p, rest);
         }
         return;
@@ -126,46 +110,11 @@ fn first(lent: &[&[u8]; 4], state: &mut [usize; 3], list: &mut &mut [u32], node:
         let table = lent[TABLE];
         let i = records::first_child(table, node) as usize;
         let n = records::child_count(table, node) as usize;
-        let j = ahead(lent, state, list, i, i + n, pc + 4);
+        let j = eval_shortcuts::ahead(lent, state, list, i, i + n, pc + 4);
         each_child(lent, state, list, j, i + n, pc + 4);
         return;
     }
     evaluate_segment(lent, state, list, node, pc);
-}
-
-// The first node from i on that needs a call with the segments at rest, or e. What names and indices up to the end lead to from those before it is pushed.
-fn ahead(
-    lent: &[&[u8]; 4],
-    state: &mut [usize; 3],
-    list: &mut &mut [u32],
-    i: usize,
-    e: usize,
-    rest: usize,
-) -> usize
-    requires { ⌜ Asked (now lent) (now state) (now (now list)) ⌝ }
-    requires { ⌜ AskEach (now lent) i e rest ⌝ }
-    ensures { λ r. ⌜ Steady (now (state .entry)) (now (list .entry)) (now (state .exit)) (now (list .exit)) ⌝ }
-    ensures { λ r. ⌜ DoneAhead (now (lent .entry)) i e rest (now (state .entry)) (now (now (list .entry))) (now (state .exit)) (now (now (list .exit))) r ⌝ }
-{
-    let plan = lent[PLAN];
-    if !straight::leads(plan, rest) {
-        return i;
-    }
-    let at = state[AT];
-    let r = straight::push_along(
-        plan,
-        lent[POOL],
-        lent[TABLE],
-        lent[TEXT],
-        i,
-        e,
-        rest,
-        *list,
-        at,
-        state[CAP],
-    );
-    state[AT] = r.at;
-    r.i
 }
 
 // One node with the segments at pc.
@@ -199,6 +148,10 @@ fn evaluate_segment(
         apply_selectors(lent, state, list, m, q);
         return;
     }
+    if eval_shortcuts::has_flats(lent, q) {
+        descend_flats(lent, state, list, m, q);
+        return;
+    }
     recursive_descent(lent, state, list, m, q);
 }
 
@@ -220,49 +173,36 @@ fn recursive_descent(
     let first = records::first_child(table, node) as usize;
     let count = records::child_count(table, node) as usize;
     let e = first + count;
-    let mut j = skip_flats(lent, state, list, first, e, pc);
+    let mut j = descents::skip_scalars(lent, state, list, first, e, pc);
     while j < e {
         recursive_descent(lent, state, list, j, pc);
-        j = skip_flats(lent, state, list, j + 1, e, pc);
+        j = descents::skip_scalars(lent, state, list, j + 1, e, pc);
     }
 }
 
-// The first node from i on that has a list or a map among its children, or e. What the descendant segment at pc selects of those before it is pushed. Once the cap is
-// passed none is left.
-fn skip_flats(
+// The same where `pass_flats` may pass some of the children.
+fn descend_flats(
     lent: &[&[u8]; 4],
     state: &mut [usize; 3],
     list: &mut &mut [u32],
-    i: usize,
-    e: usize,
+    node: usize,
     pc: usize,
-) -> usize
+)
     requires { ⌜ Asked (now lent) (now state) (now (now list)) ⌝ }
-    requires { ⌜ AskFlats (now lent) i e pc ⌝ }
+    requires { ⌜ AskDescent (now lent) node pc ⌝ }
     ensures { λ r. ⌜ Steady (now (state .entry)) (now (list .entry)) (now (state .exit)) (now (list .exit)) ⌝ }
-    ensures { λ r. ⌜ DoneFlats (now (lent .entry)) i e pc (now (state .entry)) (now (now (list .entry))) (now (state .exit)) (now (now (list .exit))) r ⌝ }
+    ensures { λ r. ⌜ DoneDescent (now (lent .entry)) node pc (now (state .entry)) (now (now (list .entry))) (now (state .exit)) (now (now (list .exit))) ⌝ }
 {
-    let cap = state[CAP];
-    let at = state[AT];
-    if cap < at {
-        return e;
-    }
+    apply_selectors(lent, state, list, node, pc);
     let table = lent[TABLE];
-    let j = eval_front::next_container(table, i, e);
-    let f = flats::flat_start(
-        lent[PLAN],
-        lent[POOL],
-        table,
-        lent[TEXT],
-        j,
-        e,
-        pc,
-        *list,
-        at,
-        cap,
-    );
-    state[AT] = f.at;
-    f.i
+    let first = records::first_child(table, node) as usize;
+    let count = records::child_count(table, node) as usize;
+    let e = first + count;
+    let mut j = descents::skip_flats(lent, state, list, first, e, pc);
+    while j < e {
+        descend_flats(lent, state, list, j, pc);
+        j = descents::skip_flats(lent, state, list, j + 1, e, pc);
+    }
 }
 
 // The selectors of the segment at pc on a node, one after the other.
@@ -314,6 +254,12 @@ fn apply_selector(
         let Member::At(m) = found else {
             return;
         };
+        if plan[rest] == END {
+            let at = state[AT];
+            let next = eval_front::push(*list, at, m, state[CAP]);
+            state[AT] = next;
+            return;
+        }
         evaluate_segment(lent, state, list, m, rest);
         return;
     }
@@ -328,7 +274,7 @@ fn apply_selector(
         each_child(lent, state, list, i, i + n, rest);
         return;
     }
-    if !keep_children(lent, state, list, node, p, rest) {
+    if !eval_shortcuts::keep_children(lent, state, list, node, p, rest) {
         eval_filter(lent, state, list, node, p, rest);
     }
 }
@@ -411,106 +357,7 @@ fn each_child(
     }
 }
 
-// The children of a node for which the filter at p holds, each with the segments at rest, where the filter is read once: whether it is.
-fn keep_children(
-    lent: &[&[u8]; 4],
-    state: &mut [usize; 3],
-    list: &mut &mut [u32],
-    node: usize,
-    p: usize,
-    rest: usize,
-) -> bool
-    requires { ⌜ Asked (now lent) (now state) (now (now list)) ⌝ }
-    requires { ⌜ AskSelector (now lent) node p rest ⌝ }
-    requires { ⌜ AskKind (now lent) p 9 ⌝ }
-    ensures { λ r. ⌜ Steady (now (state .entry)) (now (list .entry)) (now (state .exit)) (now (list .exit)) ⌝ }
-    ensures { λ r. ⌜ DoneKeep (now (lent .entry)) node p rest (now (state .entry)) (now (now (list .entry))) (now (state .exit)) (now (now (list .exit))) r ⌝ }
-{
-    let plan = lent[PLAN];
-    let z = p + 3 + bytes::word16(plan, p + 1);
-    let g = kept::read_form(plan, p + 3, z, rest);
-    if g.way == 0 {
-        return keep_matched(lent, state, list, node, p, rest, g.tail);
-    }
-    let table = lent[TABLE];
-    let i = records::first_child(table, node) as usize;
-    let n = records::child_count(table, node) as usize;
-    let root = state[ROOT];
-    let at = state[AT];
-    let cap = state[CAP];
-    let next = kept::keep(
-        plan,
-        lent[POOL],
-        table,
-        lent[TEXT],
-        root,
-        i,
-        i + n,
-        p + 3,
-        z,
-        g,
-        rest,
-        *list,
-        at,
-        cap,
-    );
-    state[AT] = next;
-    true
-}
-
-// The same where the filter is match or search with a text of the plan, which is read once. What follows is told by its number.
-fn keep_matched(
-    lent: &[&[u8]; 4],
-    state: &mut [usize; 3],
-    list: &mut &mut [u32],
-    node: usize,
-    p: usize,
-    rest: usize,
-    tail: usize,
-) -> bool
-    requires { ⌜ Asked (now lent) (now state) (now (now list)) ⌝ }
-    requires { ⌜ AskSelector (now lent) node p rest ⌝ }
-    requires { ⌜ AskKind (now lent) p 9 × TailAt (planOf (now lent)) rest tail ⌝ }
-    ensures { λ r. ⌜ Steady (now (state .entry)) (now (list .entry)) (now (state .exit)) (now (list .exit)) ⌝ }
-    ensures { λ r. ⌜ DoneKeep (now (lent .entry)) node p rest (now (state .entry)) (now (now (list .entry))) (now (state .exit)) (now (now (list .exit))) r ⌝ }
-{
-    if 1 < tail {
-        return false;
-    }
-    let plan = lent[PLAN];
-    let z = p + 3 + bytes::word16(plan, p + 1);
-    let g = calls::read_call(plan, p + 3, z);
-    if !g.some {
-        return false;
-    }
-    let table = lent[TABLE];
-    let i = records::first_child(table, node) as usize;
-    let n = records::child_count(table, node) as usize;
-    let root = state[ROOT];
-    let at = state[AT];
-    let cap = state[CAP];
-    let next = eval_rows::keep_matched(
-        plan,
-        lent[POOL],
-        table,
-        lent[TEXT],
-        root,
-        i,
-        i + n,
-        p + 3,
-        z,
-        g,
-        tail,
-        rest,
-        *list,
-        at,
-        cap,
-    );
-    state[AT] = next;
-    true
-}
-
-// The children of a node for which the filter at p holds, each with the segments at rest.
+// The children of a node for which the filter at p holds, each with the segments at rest. A filter that is match or search alone has a way of its own.
 fn eval_filter(
     lent: &[&[u8]; 4],
     state: &mut [usize; 3],
@@ -530,7 +377,8 @@ fn eval_filter(
     let i = records::first_child(table, node) as usize;
     let n = records::child_count(table, node) as usize;
     let e = i + n;
-    let mut j = next_kept(lent, state[ROOT], i, e, p + 3, z);
+    let k = eval_shortcuts::keep_rows(lent, state, list, i, e, p + 3, z, rest);
+    let mut j = next_kept(lent, state[ROOT], k, e, p + 3, z);
     while j < e {
         evaluate_segment(lent, state, list, j, rest);
         if state[CAP] < state[AT] {

@@ -1,10 +1,11 @@
--- A range of nodes with a test that is read once: what stands in the plan, what the functions ask and give, and that what a test of one member says, what two such
--- tests with `&&` or `||` between them say, and what the number of children says is what the whole test says. P is the plan, L the pool, S the table, X the text.
+-- A range of nodes with a test that is read once: what stands in the plan, what the functions ask and give, and that what a test of one member or its negation says,
+-- what two such tests with `&&` or `||` between them say, and what the number of children says is what the whole test says. P is the plan, L the pool, S the table, X
+-- the text.
 -- Assumes nothing.
 use Prim.Native.Nat.{ℕ, _+_, _≤_, _<_}
 use mathlib.Core.Path.{_≡_, refl, sym, ap, _∙_, subst}
 use mathlib.Core.List.{List, [], _∷_}
-use mathlib.Core.Bool.{Bool as Bits, true, false, _&&_}
+use mathlib.Core.Bool.{Bool as Bits, true, false, not, _&&_}
 use lib.Dec.{leb}
 use lib.IntN.{ℤ, pos}
 use lib.ListN.{length, getD}
@@ -36,14 +37,13 @@ use Rattle.eval_front.specs.Turns.{visit-lost, visit-end}
 use Rattle.eval_front.specs.declared.Visited.{Visited}
 use Rattle.eval_front.specs.declared.Stop.{Stop}
 use Rattle.eval_filters.specs.Queries.{Within, begins-node}
-use Rattle.eval_filters.specs.Tests.{Left, AskShort, DoneShort, AskLogic, DoneLogic, logic-and-enter, logic-and-skip, logic-or-enter, logic-or-skip, Star, AskCount, DoneCount, count-done, AskCounting, AskCounted, counting-counted, counting-done, counted-value, counted-done, short-query}
+use Rattle.eval_filters.specs.Tests.{Left, AskShort, DoneShort, AskLogic, DoneLogic, logic-not, logic-and-enter, logic-and-skip, logic-or-enter, logic-or-skip, Star, AskCount, DoneCount, count-done, AskCounting, AskCounted, counting-counted, counting-done, counted-value, counted-done, short-query}
 use Rattle.eval_filters.specs.Kept.{Tested, AskTest, DoneTest, AskKept, DoneKept, InKept}
 use Rattle.eval_filters.specs.Atoms.{AskCode, AtomAt, AgainstAt, NameAt, tells, start-here, name-lost, name-reached, name-one}
 use Rattle.eval_filters.specs.declared.Told.{Told}
 use Rattle.eval_filters.specs.declared.atoms.Atom.{Atom}
 use Rattle.eval_filters.specs.declared.kept.Pair.{Pair}
-use Rattle.eval_filters.specs.declared.kept.Counts.{Counts}
-use Rattle.eval_filters.specs.declared.kept.Form.{Form}
+use Rattle.eval_filters.specs.declared.counts.Counts.{Counts}
 
 -- ---- what follows a test
 
@@ -100,11 +100,16 @@ pub record JoinedAt (P : List ℕ) (q z join : ℕ) (u : Atom) : Type 0 where
   pub right : AtomAt P (q + 3) z u
   pub next : u .next ≡ z
 
--- the test from p up to z: one test of a member, and where join is not 0 another
+-- an operator that joins two tests: it is there, and is not `!`
+abbrev pub Joins : ℕ → Type 0
+Joins join = (join ≡ 0 → ⊥) × (join ≡ 0x15 → ⊥)
+
+-- the test from p up to z: one test of a member, its negation, or with another
 pub record PairAt (P : List ℕ) (p z : ℕ) (t : Atom) (join : ℕ) (u : Atom) : Type 0 where
   pub left : AtomAt P p z t
   pub alone : join ≡ 0 → t .next ≡ z
-  pub joined : (join ≡ 0 → ⊥) → JoinedAt P (t .next) z join u
+  pub negated : join ≡ 0x15 → (getD P (t .next) 0 ≡ 0x15) × (t .next + 1 ≡ z)
+  pub joined : Joins join → JoinedAt P (t .next) z join u
 
 module _ {P L S X : List ℕ} {root node p z : ℕ} (w : Within P L S X root node) where
   -- at the beginning of a test
@@ -117,14 +122,23 @@ module _ {P L S X : List ℕ} {root node p z : ℕ} (w : Within P L S X root nod
   pub pair-asked : {t u : Atom} {join : ℕ} → AskTest P L p z → PairAt P p z t join u → AskShort P L S X root node p z
   pair-asked a g = let m = g .left .more in let c = g .left .current in first-asked a (omega arith) (omega arith)
 
-  pub pair-room : {t u : Atom} {join : ℕ} → PairAt P p z t join u → (join ≡ 0 → ⊥) → t .next + 3 < maxPlan
+  pub pair-room : {t u : Atom} {join : ℕ} → PairAt P p z t join u → Joins join → t .next + 3 < maxPlan
   pair-room g o = let h = w .fewP in omega (arith, g .joined o .right .room)
 
   -- a test that is the whole
   pub tested : (r : Bits) (n : ℕ) → DoneShort P L S X root node p z (tells r n) → n ≡ z → DoneTest P L S X root node p z r
   tested r n d e x k h = todo-end P L n z _ _ r _ _ _ (d .goes refl false _ (starts x k h)) (omega arith)
 
-  module _ {t u : Atom} {join : ℕ} (g : PairAt P p z t join u) (b : Bits) (d : DoneShort P L S X root node p z (tells b (t .next))) (o : join ≡ 0 → ⊥) where
+  -- the negation of a test
+  pub not-told : {t u : Atom} {join : ℕ} (g : PairAt P p z t join u) (b : Bits) → DoneShort P L S X root node p z (tells b (t .next)) → join ≡ 0x15 → (r : Bits) → r ≡ not b → DoneTest P L S X root node p z r
+  not-told {t} g b d j r i x k h =
+      let y = g .negated j in
+      let y1 = y .1 in
+      let f = d .goes refl false _ (starts x k h) in
+      let l = logic-not (record { few = w .fewP; L = L; e = z; R = _; N = _; want = _; todo = f; more = omega arith; low = omega (arith, y .0); high = omega (arith, y .0) }) (y .0) in
+      i ∙ todo-end P L (t .next + 1) z _ _ (not b) _ _ _ (l .goes L z _ _ _ f (omega arith)) (omega arith)
+
+  module _ {t u : Atom} {join : ℕ} (g : PairAt P p z t join u) (b : Bits) (d : DoneShort P L S X root node p z (tells b (t .next))) (o : Joins join) where
     here : JoinedAt P (t .next) z join u
     here = g .joined o
 
@@ -255,6 +269,9 @@ module _ {P L S X : List ℕ} {root i e p z rest cap : ℕ} {l : List ℕ} {at :
       }
 
 -- the next node of the loop
+pub kept-within : {P L S X : List ℕ} {root i e p z rest at cap : ℕ} {l₀ : List ℕ} {a₀ : ℕ} {l : List ℕ} {a j : ℕ} → AskKept P L S X root i e rest (length l₀) at cap → InKept P L S X root i e p z rest cap l₀ a₀ l a j → j < e → Within P L S X root j
+kept-within s i u = let b = i .low in record { fewP = s .given .fewP; fewL = s .given .fewL; tab = s .given .tab; root-in = s .root-in; node-in = omega (arith, s .range (omega arith)) }
+
 pub kept-visit : {P L S X : List ℕ} {root i e p z rest at cap : ℕ} {l₀ : List ℕ} {a₀ : ℕ} {l : List ℕ} {a j : ℕ} → AskKept P L S X root i e rest (length l₀) at cap → InKept P L S X root i e p z rest cap l₀ a₀ l a j → j < e → AskVisit P L S X j rest (length l) a cap
 kept-visit s i u = let b = i .low in record { given = s .given; node-in = omega (arith, s .range (omega arith)); query = s .query; room = i .room; wide = omega (arith, i .same, s .wide); small = s .small }
 
@@ -295,7 +312,8 @@ DonePair P p z r = r .some ≡ true → PairAt P p z (r .left) (r .join) (r .rig
 pub record JoinedTo (P : List ℕ) (left : Atom) (q z : ℕ) (r : Pair) : Type 0 where
   pub same : r .left ≡ left
   pub other : r .join ≡ 0 → ⊥
-  pub joined : JoinedAt P q z (r .join) (r .right)
+  pub negated : r .join ≡ 0x15 → (getD P q 0 ≡ 0x15) × (q + 1 ≡ z)
+  pub joined : Joins (r .join) → JoinedAt P q z (r .join) (r .right)
 
 abbrev pub DoneJoined : List ℕ → Atom → ℕ → ℕ → Pair → Type 0
 DoneJoined P left q z r = r .some ≡ true → JoinedTo P left q z r
@@ -307,11 +325,12 @@ pair-joined {P} {p} {z} {left} {r} a d e =
     record {
       left = subst (λ (t : Atom). AtomAt P p z t) (sym (y .same)) a;
       alone = λ i. absurd (y .other i);
-      joined = λ i. subst (λ (t : Atom). JoinedAt P (t .next) z (r .join) (r .right)) (sym (y .same)) (y .joined);
+      negated = λ i. subst (λ (t : Atom). (getD P (t .next) 0 ≡ 0x15) × (t .next + 1 ≡ z)) (sym (y .same)) (y .negated i);
+      joined = λ i. subst (λ (t : Atom). JoinedAt P (t .next) z (r .join) (r .right)) (sym (y .same)) (y .joined i);
     }
 
 pub pair-alone : {P : List ℕ} {p z : ℕ} {left right : Atom} {b : Bits} → AtomAt P p z left → (b ≡ true → left .next ≡ z) → DonePair P p z (record { left = left; join = 0; right = right; some = b })
-pair-alone a d e = record { left = a; alone = λ i. d e; joined = λ i. absurd (i refl) }
+pair-alone a d e = record { left = a; alone = λ i. d e; negated = λ i. absurd (omega arith); joined = λ i. absurd (i .0 refl) }
 
 abbrev pub DoneCounts : List ℕ → ℕ → ℕ → Counts → Type 0
 DoneCounts P p z r = r .some ≡ true → CountsAt P p z (r .op)
@@ -329,14 +348,3 @@ counts-at {P} {p} {z} {op} {next} a h b c i d e r =
       against = subst (λ (n : ℕ). AgainstAt P (p + 1 + 6) z op n) e d;
       room = r;
     }
-
-pub record FormAt (P : List ℕ) (p z rest : ℕ) (g : Form) : Type 0 where
-  pub pair : g .way ≡ 1 → PairAt P p z (g .left) (g .op) (g .right)
-  pub tail : TailAt P rest (g .tail)
-  pub near : g .way ≡ 1 → g .tail ≤ 1
-  pub counts : g .way ≡ 2 → CountsAt P p z (g .op)
-  pub ends : g .way ≡ 2 → getD P rest 0 ≡ 0x0A
-  pub ways : g .way ≤ 2
-
-pub members-way : (w : ℕ) → w ≤ 2 → (w ≡ 0 → ⊥) → (w ≡ 2 → ⊥) → w ≡ 1
-members-way w h n m = omega arith

@@ -21,7 +21,7 @@ use Rattle.definition.specs.Compare.{Value, Fraction, nodeValue, compareValues,
 use Rattle.definition.specs.Evaluation.{literalValue}
 use Rattle.table_laws.specs.Accepted.{Accepted}
 use Rattle.eval_laws.specs.Bytes.{Holds}
-use Rattle.eval_laws.specs.Nodes.{Kind, kind-of}
+use Rattle.table_laws.specs.Nodes.{Kind, kind-of}
 use Rattle.eval_values.specs.Alike.{Compares}
 use Rattle.eval_values.specs.Same.{says-eq, says-ne}
 use Rattle.eval_values.specs.Means.{meaning, OfNode}

@@ -7,4 +7,6 @@ pub mod Values
 pub mod Kept
 pub mod Atoms
 pub mod Keeps
+pub mod Itself
+pub mod Ways
 pub mod Scalars

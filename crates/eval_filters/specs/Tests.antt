@@ -29,7 +29,7 @@ use Rattle.eval_laws.specs.Bytes.{Holds}
 use Rattle.eval_laws.specs.States.{State, st, emit, emit-next}
 use Rattle.eval_laws.specs.Segments.{ids}
 use Rattle.eval_laws.specs.Emits.{go}
-use Rattle.eval_laws.specs.Nodes.{nodes, length-nodes}
+use Rattle.table_laws.specs.Nodes.{nodes, length-nodes}
 use Rattle.eval_laws.specs.Ranges.{range-of, select-wildcard}
 use Rattle.eval_laws.specs.Steps.{segment-child}
 use Rattle.eval_laws.specs.Items.{SegmentsAt, Parts, parts, Last, last, segments-in, is-wildcard, is-end, end-long}

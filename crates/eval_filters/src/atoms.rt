@@ -121,7 +121,7 @@ fn not_behind() -> Behind
 }
 
 // The form of a comparison with a literal of kind k by an operator.
-fn form_of(k: u8, op: u8) -> u8
+pub fn form_of(k: u8, op: u8) -> u8
     ensures { λ r. ⌜ r ≡ formOf k op ⌝ }
 {
     if k == INTEGER {
@@ -214,7 +214,7 @@ fn named(
 }
 
 // The value of node m and the literal at q, by an operator, as the form of the comparison says.
-fn compare_form(
+pub fn compare_form(
     plan: &[u8],
     pool: &[u8],
     table: &[u8],

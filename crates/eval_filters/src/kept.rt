@@ -1,17 +1,17 @@
-// The nodes of a range for which a test holds: a test of one member, or of two with `&&` or `||` between them, where nothing or one name follows, and the number of
-// all children compared with an integer, where nothing follows. Such a test is read from the plan once, and needs no registers.
+// The nodes of a range for which a test holds: a test of one member, with `!` or without, or of two with `&&` or `||` between them, where nothing or one name follows;
+// the number of all children compared with an integer, and a node itself compared with a literal, where nothing follows. Such a test is read from the plan once, and
+// needs no registers.
 use crate::atoms;
 use crate::atoms::Atom;
 use crate::atoms::Held;
+use crate::counts;
+use crate::itself;
 use eval_items::leaves;
 use eval_values::members;
 use eval_values::members::Member;
-use plan_format::heads::WILDCARD_HEAD;
 use plan_format::kinds::AND;
-use plan_format::kinds::COUNT;
-use plan_format::kinds::CURRENT;
 use plan_format::kinds::END;
-use plan_format::kinds::INTEGER;
+use plan_format::kinds::NOT;
 use plan_format::kinds::OR;
 use table::records;
 use text::bytes;
@@ -25,24 +25,21 @@ ghost use Rattle.eval_front.specs.Visits.{AskVisit};
 ghost use Rattle.eval_filters.specs.Queries.{Within};
 ghost use Rattle.eval_filters.specs.Atoms.{AskCode};
 ghost use Rattle.eval_filters.specs.Kept.{AskTest, DoneTest, AskKept};
-ghost use Rattle.eval_filters.specs.Keeps.{AskTail, TailAt, DonePushed, PairAt, DonePair, DoneJoined, joinKind, CountsAt, DoneCounts, FormAt, DoneRange};
+ghost use Rattle.eval_filters.specs.Keeps.{AskTail, TailAt, DonePushed, PairAt, DonePair, DoneJoined, joinKind, DoneRange};
+ghost use Rattle.eval_filters.specs.Ways.{FormAt};
 
 // The ways of a filter that is read once.
 const MEMBERS: u8 = 1;
 
 const COUNTED: u8 = 2;
 
-// A test of one member and, where join is `&&` or `||`, another; `some` is false where there is no such test.
+const ITSELF: u8 = 3;
+
+// A test of one member and, where join is `&&` or `||`, another; where it is `!`, the negation of the first. `some` is false where there is no such test.
 pub struct Pair {
     pub left: Atom,
     pub join: u8,
     pub right: Atom,
-    pub some: bool,
-}
-
-// The operator between the number of children and an integer; `some` is false where there is no such test.
-pub struct Counts {
-    pub op: u8,
     pub some: bool,
 }
 
@@ -53,7 +50,7 @@ pub struct Pushed {
 }
 
 // What follows a test: 0 for nothing, 1 for one name at the end of the query, 2 for everything else.
-fn tail_of(plan: &[u8], rest: usize) -> usize
+pub fn tail_of(plan: &[u8], rest: usize) -> usize
     requires { ⌜ AskTail (now plan) rest ⌝ }
     ensures { λ r. ⌜ TailAt (now (plan .entry)) rest r ⌝ }
 {
@@ -153,6 +150,12 @@ fn passes(
             near: there,
         };
     }
+    if join == NOT {
+        return Held {
+            acc: !b,
+            near: there,
+        };
+    }
     if join == AND {
         if b {
             let d = atoms::holds_next(plan, pool, table, text, root, node, q + 3, z, u);
@@ -227,101 +230,6 @@ fn keep_pair(
     a
 }
 
-// Whether the number of children of a node stands so to the integer behind p.
-fn count_passes(
-    plan: &[u8],
-    pool: &[u8],
-    table: &[u8],
-    text: &[u8],
-    root: usize,
-    node: usize,
-    p: usize,
-    z: usize,
-    op: u8,
-) -> bool
-    requires { ⌜ Within (now plan) (now pool) (now table) (now text) root node ⌝ }
-    requires { ⌜ AskTest (now plan) (now pool) p z ⌝ }
-    requires { ⌜ CountsAt (now plan) p z op ⌝ }
-    ensures { λ r. ⌜ DoneTest (now (plan .entry)) (now (pool .entry)) (now (table .entry)) (now (text .entry)) root node p z r ⌝ }
-{
-    let n = records::child_count(table, node) as i64;
-    let b = bytes::int64(plan, p + 1 + 6 + 1);
-    crate::compare_ints(op, n, b)
-}
-
-// The nodes from i up to e for which that test holds, where nothing follows.
-fn keep_counts(
-    plan: &[u8],
-    pool: &[u8],
-    table: &[u8],
-    text: &[u8],
-    root: usize,
-    i: usize,
-    e: usize,
-    p: usize,
-    z: usize,
-    op: u8,
-    rest: usize,
-    list: &mut [u32],
-    at: usize,
-    cap: usize,
-) -> usize
-    requires { ⌜ AskKept (now plan) (now pool) (now table) (now text) root i e rest (length (now list)) at cap ⌝ }
-    requires { ⌜ AskTest (now plan) (now pool) p z ⌝ }
-    requires { ⌜ CountsAt (now plan) p z op × (getD (now plan) rest 0 ≡ 0x0A) ⌝ }
-    ensures { λ r. ⌜ DoneRange (now (plan .entry)) (now (pool .entry)) (now (table .entry)) (now (text .entry)) root i e p z rest cap (now (list .entry)) at (now (list .exit)) r ⌝ }
-{
-    let mut a = at;
-    let mut j = i;
-    while j < e {
-        if cap < a {
-            return a;
-        }
-        if count_passes(plan, pool, table, text, root, j, p, z, op) {
-            a = eval_front::push(list, a, j, cap);
-            j += 1;
-        } else {
-            j += 1;
-        }
-    }
-    a
-}
-
-// The operator of a test of the number of children from p up to z.
-fn read_counts(plan: &[u8], p: usize, z: usize) -> Counts
-    requires { ⌜ AskCode (now plan) p z ⌝ }
-    ensures { λ r. ⌜ DoneCounts (now (plan .entry)) p z r ⌝ }
-{
-    if z < p + 11 {
-        return Counts { op: 0, some: false };
-    }
-    if plan[p] != CURRENT {
-        return Counts { op: 0, some: false };
-    }
-    let c = p + 1;
-    if bytes::word32(plan, c) != WILDCARD_HEAD {
-        return Counts { op: 0, some: false };
-    }
-    if plan[c + 4] != END {
-        return Counts { op: 0, some: false };
-    }
-    if plan[c + 5] != COUNT {
-        return Counts { op: 0, some: false };
-    }
-    if plan[c + 6] != INTEGER {
-        return Counts { op: 0, some: false };
-    }
-    let b = atoms::behind_literal(plan, c + 6, z);
-    if !b.some {
-        return Counts { op: 0, some: false };
-    }
-    let op = b.op;
-    Counts {
-        op,
-        some: b.next == z,
-    }
-}
-
 // The test from p up to z of one member, or of two.
 fn read_pair(plan: &[u8], p: usize, z: usize) -> Pair
     requires { ⌜ AskCode (now plan) p z ⌝ }
@@ -354,6 +262,14 @@ fn read_joined(plan: &[u8], left: Atom, q: usize, z: usize) -> Pair
     ensures { λ r. ⌜ DoneJoined (now (plan .entry)) left q z r ⌝ }
 {
     let join = plan[q];
+    if join == NOT {
+        return Pair {
+            left,
+            join,
+            right: left,
+            some: q + 1 == z,
+        };
+    }
     if !is_join(join) {
         return Pair {
             left,
@@ -406,14 +322,55 @@ fn is_join(k: u8) -> bool
     k <= OR
 }
 
-// A filter that is read once: way 1 for tests of members with the operator between them, 2 for the number of children with the operator behind it, 0 for every
-// other; and what follows.
+// A filter that is read once: way 1 for tests of members with the operator between them, 2 for the number of children and 3 for a node itself with the operator and
+// the form of the comparison, 0 for every other; and what follows.
 pub struct Form {
     pub way: u8,
     pub op: u8,
+    pub form: u8,
     pub left: Atom,
     pub right: Atom,
     pub tail: usize,
+}
+
+// The filter from p up to z, at the end of its query, where it tests no member.
+fn read_alone(plan: &[u8], p: usize, z: usize, rest: usize, g: Pair) -> Form
+    requires { ⌜ AskCode (now plan) p z ⌝ }
+    requires { ⌜ getD (now plan) rest 0 ≡ 0x0A ⌝ }
+    ensures { λ r. ⌜ FormAt (now (plan .entry)) p z rest r ⌝ }
+{
+    let left = g.left;
+    let right = g.right;
+    let v = itself::read_itself(plan, p, z);
+    if v.some {
+        return Form {
+            way: ITSELF,
+            op: v.op,
+            form: v.form,
+            left,
+            right,
+            tail: 0,
+        };
+    }
+    let c = counts::read_counts(plan, p, z);
+    if c.some {
+        return Form {
+            way: COUNTED,
+            op: c.op,
+            form: 0,
+            left,
+            right,
+            tail: 0,
+        };
+    }
+    Form {
+        way: 0,
+        op: 0,
+        form: 0,
+        left,
+        right,
+        tail: 0,
+    }
 }
 
 // The filter from p up to z with what follows at rest.
@@ -424,34 +381,19 @@ pub fn read_form(plan: &[u8], p: usize, z: usize, rest: usize) -> Form
 {
     let tail = tail_of(plan, rest);
     let g = read_pair(plan, p, z);
+    if tail == 0 {
+        if !g.some {
+            return read_alone(plan, p, z, rest, g);
+        }
+    }
     let left = g.left;
     let right = g.right;
-    let join = g.join;
-    if 1 < tail {
-        return Form {
-            way: 0,
-            op: 0,
-            left,
-            right,
-            tail,
-        };
-    }
-    if g.some {
-        return Form {
-            way: MEMBERS,
-            op: join,
-            left,
-            right,
-            tail,
-        };
-    }
-    let c = read_counts(plan, p, z);
-    let op = c.op;
-    if tail == 0 {
-        if c.some {
+    if tail <= 1 {
+        if g.some {
             return Form {
-                way: COUNTED,
-                op,
+                way: MEMBERS,
+                op: g.join,
+                form: 0,
                 left,
                 right,
                 tail,
@@ -461,6 +403,7 @@ pub fn read_form(plan: &[u8], p: usize, z: usize, rest: usize) -> Form
     Form {
         way: 0,
         op: 0,
+        form: 0,
         left,
         right,
         tail,
@@ -492,7 +435,7 @@ pub fn keep(
     let way = g.way;
     let op = g.op;
     if way == COUNTED {
-        return keep_counts(
+        return counts::keep_counts(
             plan,
             pool,
             table,
@@ -502,6 +445,26 @@ pub fn keep(
             e,
             p,
             z,
+            op,
+            rest,
+            list,
+            at,
+            cap,
+        );
+    }
+    if way == ITSELF {
+        let form = g.form;
+        return itself::keep_itself(
+            plan,
+            pool,
+            table,
+            text,
+            root,
+            i,
+            e,
+            p,
+            z,
+            form,
             op,
             rest,
             list,

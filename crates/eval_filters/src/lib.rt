@@ -6,6 +6,8 @@
 //   pairs      two queries of names and indices, compared with each other
 //   values     comparisons of other values
 //   atoms      a test of one member, read from the plan once
+//   counts     the number of children, read so
+//   itself     a node itself and a literal, read so
 //   kept       the nodes of a range that a filter keeps whose test is read once
 use eval_items::leaves;
 use eval_items::plans;
@@ -45,6 +47,8 @@ ghost use Rattle.eval_filters.specs.Values.{AskLeft};
 ghost use Rattle.eval_filters.specs.Tests.{literalKind, logicKind, AskNode, DoneNode, AskAgainst, DoneAgainst, DonePlain, AskChildren, DoneChildren, AskCount, DoneCount, AskCounted, DoneCounted, AskCounting, AskShort, DoneShort, AskLogic, DoneLogic};
 
 pub mod atoms;
+pub mod counts;
+pub mod itself;
 pub mod kept;
 pub mod kinds;
 pub mod pairs;

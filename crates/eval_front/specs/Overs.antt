@@ -14,7 +14,8 @@ use Rattle.definition.specs.Tables.{nodeCount, nodeAt, kindAt, kindList, firstC
 use Rattle.definition.specs.Evaluation.{flat, keep, pick, found, evalSelectors, evalSelector, evalTest}
 use Rattle.table_laws.specs.Accepted.{Accepted}
 use Rattle.eval_laws.specs.States.{State, st, push, emit}
-use Rattle.eval_laws.specs.Nodes.{count-scalar, nodes-none, children-nodes, elements-none, members-none, descend-children}
+use Rattle.table_laws.specs.Nodes.{count-scalar, nodes-none, children-nodes, elements-none, members-none}
+use Rattle.eval_laws.specs.Segments.{descend-children}
 use Rattle.eval_laws.specs.Emits.{go, go-nil, go-full, go-end}
 use Rattle.eval_laws.specs.Ranges.{pick-nothing}
 use Rattle.eval_laws.specs.Steps.{one-of, below, step-done, end-done, full-done}

@@ -31,7 +31,7 @@ use Rattle.slices.specs.declared.Place.the-variants as place
 use Rattle.slices.specs.Laws.{at-means, nothing-means, index-at}
 use Rattle.eval_laws.specs.Bytes.{Holds, holds-in, holds-head, holds-tail, number-at, signed-at}
 use Rattle.eval_laws.specs.Items.{SelectorAt, pooled-at, Named, is-name, Indexed, is-index}
-use Rattle.eval_laws.specs.Nodes.{nodes, kids, nodes-one, length-nodes, elements-none, members-map, members-none}
+use Rattle.table_laws.specs.Nodes.{nodes, kids, nodes-one, length-nodes, elements-none, members-map, members-none}
 use Rattle.eval_laws.specs.Ranges.{Range, range-of, kids-at, child-at, range-in, elements-at, pick-nothing}
 use Rattle.eval_values.specs.Means.{meaning, Fine}
 use Rattle.eval_values.specs.Floats.{bits-finite}

@@ -20,6 +20,7 @@ use Rattle.slices.specs.Walks.{Selects, Inside, walked}
 use Rattle.slices.specs.declared.Walk.{Walk}
 use Rattle.eval_laws.specs.Bytes.{Holds}
 use Rattle.eval_laws.specs.Items.{SelectorAt}
+use Rattle.eval_laws.specs.Operations.{asked, askOf}
 use Rattle.eval_laws.specs.Todos.{Todo}
 use Rattle.eval_values.specs.Means.{meaning, Fine, Pair}
 use Rattle.eval_values.specs.declared.Operand.{Operand}
@@ -125,6 +126,6 @@ pub record DoneOp (P L S X : List ℕ) (s r : Regs) : Type 0 where
 abbrev pub beginsAt : ℕ → ℕ → ℕ → ℕ
 beginsAt k root node = cond (eqb k 1) root node
 
--- the cap of a walk by what is asked of the query: a walk counts one more than its cap, and `count` stops at maxInt
+-- the cap of a walk by the byte that asks something of the query
 abbrev pub capFor : ℕ → ℕ
-capFor m = cond (eqb m 0x19) 9007199254740990 (cond (eqb m 0x1B) 1 0)
+capFor m = asked (askOf m) .cap

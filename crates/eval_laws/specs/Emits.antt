@@ -12,7 +12,7 @@ use Rattle.definition.specs.Evaluation.{evalSegments}
 use Rattle.table_laws.specs.Accepted.{Accepted}
 use Rattle.eval_laws.specs.States.{State, st, push, emit, emit-append, emit-full, emit-bound, emit-length}
 use Rattle.eval_laws.specs.Segments.{ids, segments-nil, segments-append, ids-append}
-use Rattle.eval_laws.specs.Nodes.{id-node}
+use Rattle.table_laws.specs.Nodes.{id-node}
 
 -- what is emitted for the nodes ns, each with the rest q of a query, where `$` is r
 unfoldable pub go : Segments → Json → List Json → State → State

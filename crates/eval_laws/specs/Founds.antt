@@ -2,13 +2,13 @@
 use Prim.Native.Nat.{ℕ, zero, suc, _+_, _-_, _≤_, _<_, min}
 use mathlib.Core.Path.{_≡_, refl, sym, ap, _∙_, subst}
 use mathlib.Core.List.{List, [], _∷_, _++_}
-use mathlib.Core.Bool.{Bool, true, false}
+use mathlib.Core.Bool.{Bool, true, false, cond}
 use lib.ListN.{length, getD, set, length-set, length-map}
 use lib.Seq.{set-out}
-use lib.Dec.{ltb}
+use lib.Dec.{eqb, ltb}
 use lib.IntN.{pos}
 use native.Mathlib.Omega.{arith}
-use borrow.Author.Tests.{lt-ltb, le-ltb}
+use borrow.Author.Tests.{ne-eqb, lt-ltb, le-ltb}
 use Rattle.definition.specs.Limits.{maxInt}
 use Rattle.definition.specs.Values.{Json, idOf}
 use Rattle.definition.specs.Tables.{nodeAt, nodeCount}
@@ -16,10 +16,27 @@ use Rattle.definition.specs.Forms.{Segments}
 use Rattle.definition.specs.Compare.{Value, nodeValue}
 use Rattle.definition.specs.Evaluation.{isFound, firstValue, onlyValue, countValue, evalSegments}
 use Rattle.table_laws.specs.Accepted.{Accepted}
+use Rattle.eval_laws.specs.Operations.{Ask, asked, askOf}
+use Rattle.eval_laws.specs.Operations.Ask.{forTest, forCount, forValue, forFirst}
 use Rattle.eval_laws.specs.States.{State, st, push, emit, emit-next}
 use Rattle.eval_laws.specs.Segments.{ids}
 use Rattle.eval_laws.specs.Emits.{go}
 use Rattle.eval_laws.specs.Within.{In, AllIn, all-segments, node-in}
+
+-- what is counted for what is asked is within the integers
+pub cap-most : (m : Ask) → asked m .cap + 1 ≤ maxInt
+cap-most forTest = omega arith
+cap-most forCount = omega arith
+cap-most forValue = omega arith
+cap-most forFirst = omega arith
+
+-- one node is enough, but for `count` and `value`
+pub cap-other : (b : ℕ) → (b ≡ 0x19 → ⊥) → (b ≡ 0x1B → ⊥) → asked (askOf b) .cap ≡ 0
+cap-other b n m = go (eqb b 0x18)
+  where
+    go : (t : Bool) → asked (cond t forTest (cond (eqb b 0x19) forCount (cond (eqb b 0x1B) forValue forFirst))) .cap ≡ 0
+    go true = refl
+    go false = rw (ne-eqb b 0x19 n, ne-eqb b 0x1B m)
 
 -- Of the nodes ns, counted up to one more than the cap: how many, and the number of the first.
 pub record Found (T X : List ℕ) (ns : List Json) (cap count first : ℕ) : Type 0 where

@@ -1,5 +1,4 @@
 pub mod States
-pub mod Nodes
 pub mod Segments
 pub mod Emits
 pub mod Steps
@@ -8,5 +7,8 @@ pub mod Ranges
 pub mod Bytes
 pub mod Items
 pub mod Operations
+pub mod ComesTo
+pub mod Kinds
+pub mod Registers
 pub mod Todos
 pub mod Founds

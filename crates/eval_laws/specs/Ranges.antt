@@ -16,7 +16,7 @@ use Rattle.definition.specs.Forms.Selector.{name, index, slice, wildcard, filte
 use Rattle.definition.specs.Evaluation.{flat, keep, pick, found, evalSelectors, evalSelector, evalTest}
 use Rattle.table_laws.specs.Accepted.{Accepted}
 use Rattle.eval_laws.specs.States.{State, st}
-use Rattle.eval_laws.specs.Nodes.{nodes, kids, kidsAt, nodes-none, nodes-one, length-nodes, children-nodes, child-in, elements-list, elements-none, members-map, members-none, lookup-none}
+use Rattle.table_laws.specs.Nodes.{nodes, kids, kidsAt, nodes-none, nodes-one, length-nodes, children-nodes, child-in, elements-list, elements-none, members-map, members-none, lookup-none}
 use Rattle.eval_laws.specs.Emits.{go, go-nil, go-append, go-full}
 use Rattle.eval_laws.specs.Steps.{span, below, span-below}
 

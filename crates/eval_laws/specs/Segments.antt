@@ -2,7 +2,8 @@
 use Prim.Native.Nat.{ℕ}
 use mathlib.Core.Path.{_≡_, refl, sym, ap, _∙_}
 use mathlib.Core.List.{List, [], _∷_, _++_, map, append-nil, append-assoc}
-use Rattle.definition.specs.Values.{Json, idOf, descend}
+use Rattle.definition.specs.Values.{Json, Kids, idOf, toList, children, descend, descendAll}
+use Rattle.definition.specs.Values.Kids.{nil, more}
 use Rattle.definition.specs.Forms.{Segments, Selectors}
 use Rattle.definition.specs.Forms.Segments.{end, child, descendant}
 use Rattle.definition.specs.Evaluation.{flat, evalSegments, evalSelectors}
@@ -48,3 +49,20 @@ segments-child ss q r n = rw append-nil
 pub segments-descendant : (ss : Selectors) (q : Segments) (r n : Json) → evalSegments (descendant ss q) r (n ∷ []) ≡ evalSegments q r (flat (λ m. evalSelectors ss r m) (descend n))
 unfolding evalSegments flat
 segments-descendant ss q r n = rw append-nil
+
+-- ---- descent: the node, then each child's descent
+
+descend-all : (ks : Kids) → descendAll ks ≡ flat descend (toList ks)
+unfolding descend flat toList
+descend-all nil = refl
+descend-all (more k j ks) = ap (λ (l : List Json). descend j ++ l) (descend-all ks)
+
+pub descend-children : (n : Json) → descend n ≡ n ∷ flat descend (children n)
+unfolding descend children flat
+descend-children (Json.null i) = refl
+descend-children (Json.boolean i b) = refl
+descend-children (Json.integer i z) = refl
+descend-children (Json.float i x) = refl
+descend-children (Json.text i s) = refl
+descend-children (Json.list i ks) = ap (λ (l : List Json). Json.list i ks ∷ l) (descend-all ks)
+descend-children (Json.map i ks) = ap (λ (l : List Json). Json.map i ks ∷ l) (descend-all ks)

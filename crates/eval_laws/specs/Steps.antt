@@ -18,8 +18,8 @@ use Rattle.definition.specs.Forms.Selector.{name, index, slice, wildcard, filte
 use Rattle.definition.specs.Evaluation.{flat, keep, pick, found, evalSegments, evalSelectors, evalSelector, evalTest}
 use Rattle.table_laws.specs.Accepted.{Accepted}
 use Rattle.eval_laws.specs.States.{State, st, push}
-use Rattle.eval_laws.specs.Segments.{flat-append, flat-flat, segments-child, segments-descendant}
-use Rattle.eval_laws.specs.Nodes.{nodes, kids, kidsAt, nodes-more, nodes-none, nodes-one, length-nodes, children-nodes, child-in, elements-list, elements-none, members-map, members-none, descend-children, lookup-none}
+use Rattle.eval_laws.specs.Segments.{flat-append, flat-flat, segments-child, segments-descendant, descend-children}
+use Rattle.table_laws.specs.Nodes.{nodes, kids, kidsAt, nodes-more, nodes-none, nodes-one, length-nodes, children-nodes, child-in, elements-list, elements-none, members-map, members-none, lookup-none}
 use Rattle.eval_laws.specs.Emits.{go, go-nil, go-append, go-full, go-bound, go-length, go-end}
 
 -- what is emitted for the nodes that h gives of each of c nodes from j on

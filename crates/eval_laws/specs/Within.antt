@@ -17,7 +17,7 @@ use Rattle.definition.specs.Forms.Selectors.{one, and}
 use Rattle.definition.specs.Forms.Selector.{name, index, slice, wildcard, filter}
 use Rattle.definition.specs.Evaluation.{flat, keep, pick, found, evalSegments, evalSelectors, evalSelector, evalTest}
 use Rattle.table_laws.specs.Accepted.{Accepted}
-use Rattle.eval_laws.specs.Nodes.{nodes, children-nodes, child-in, id-node}
+use Rattle.table_laws.specs.Nodes.{nodes, children-nodes, child-in, id-node}
 
 -- j is a node of the table, the one that its number says
 pub record In (T X : List ℕ) (j : Json) : Type 0 where

@@ -1,2 +1,2 @@
-// Laws of evaluation that the runner's proofs cite: emission into places, nodes and their rows, loops over children, and the bytes of a plan.
+// Laws of evaluation that the proofs of evaluation cite: emission into places, loops over children, the bytes of a plan, and a filter's code as operations on a stack of values.
 // This crate has no code: see specs/.

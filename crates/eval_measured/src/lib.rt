@@ -1,7 +1,7 @@
 // The walk of a run alone, behind both checks, so that bench/peers.sh can time it as the other engines are timed. It asks what the checks give; an engine links
 // `exports`, whose operations ask nothing, and has no part of this.
 ghost use lib.ListN.{length};
-ghost use Rattle.eval.specs.Asks.{Begins, AskSegments, DoneSegments};
+ghost use Rattle.eval_asks.specs.Asks.{Begins, AskSegments, DoneSegments};
 
 // What the segments of a plan select from the root of a table, into a list: the number of nodes, or one more than the cap.
 #[no_mangle]

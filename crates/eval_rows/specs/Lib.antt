@@ -1,3 +1,5 @@
 pub mod Paths
 pub mod Calls
+pub mod Known
+pub mod Turns
 pub mod Rows

@@ -1,4 +1,4 @@
-// A filter that is match or search, or the negation of one, with a query of names and indices from `@` and a text of the plan.
+// A call of match or search in a filter's code, with a query of names and indices and a text of the plan.
 use crate::paths;
 use plan_format::kinds::CURRENT;
 use plan_format::kinds::MATCH;
@@ -8,29 +8,37 @@ use plan_format::kinds::TEXT;
 use text::bytes;
 ghost use mathlib.Core.Path.{_≡_};
 ghost use mathlib.Core.Bool.{true, false};
-ghost use Prim.Native.Nat.{_+_, _≤_};
-ghost use Rattle.eval_rows.specs.Calls.{AskCall, CallAt, CallTo, regexKind};
+ghost use Prim.Native.Nat.{_≤_, _<_};
+ghost use lib.ListN.{length};
+ghost use Rattle.definition.specs.Limits.{maxPlan};
+ghost use Rattle.eval_rows.specs.Calls.{AskCall, ReadAt, regexKind};
 
-// The place where the query ends, the expression's place in the pool, and the kind of the call; `some` is false where there is no such filter.
+// A place that is in no plan.
+const NOWHERE: usize = 65536;
+
+// For so many nodes the whole code of a filter is looked at.
+const MANY: usize = 16;
+
+// The places of the call and of its query's end, the expression's place in the pool, and the kind of the call; `some` is false where there is no such call.
 pub struct Call {
+    pub at: usize,
     pub end: usize,
     pub start: usize,
     pub size: usize,
     pub kind: u8,
-    pub negated: bool,
     pub some: bool,
 }
 
-// No such filter.
-fn no_call() -> Call
-    ensures { λ r. ⌜ r .some ≡ false ⌝ }
+// No such call.
+pub fn no_call() -> Call
+    ensures { λ r. ⌜ (r .some ≡ false) × (maxPlan < r .at) ⌝ }
 {
     Call {
+        at: NOWHERE,
         end: 0,
         start: 0,
         size: 0,
         kind: 0,
-        negated: false,
         some: false,
     }
 }
@@ -45,48 +53,76 @@ fn is_regex(k: u8) -> bool
     k <= SEARCH
 }
 
-// The call from p up to y. Its last byte is looked at first, so that other filters pay little.
-fn call_to(plan: &[u8], p: usize, y: usize, negated: bool) -> Call
-    requires { ⌜ AskCall (now plan) p y × (p + 7 ≤ y) ⌝ }
-    ensures { λ r. ⌜ (r .some ≡ true → CallTo (now (plan .entry)) p y «negated» r) ⌝ }
+// Whether a byte from p up to z is that of match or search, with one that begins a text at the place of its last operand.
+fn mentions(plan: &[u8], p: usize, z: usize) -> bool
+    requires { ⌜ (z ≤ length (now plan)) × (z ≤ maxPlan) ⌝ }
 {
-    let kind = plan[y - 1];
-    if !is_regex(kind) {
+    if z < 5 {
+        return false;
+    }
+    let e = z - 5;
+    let mut k = p;
+    while k < e {
+        if plan[k] == TEXT {
+            if is_regex(plan[k + 5]) {
+                return true;
+            }
+        }
+        k += 1;
+    }
+    false
+}
+
+// Whether a call may stand in the code from p up to z, which n nodes are asked for: a hint that is cheap beside them. For few nodes the end of the code is looked at
+// alone.
+pub fn may_call(plan: &[u8], p: usize, z: usize, n: usize) -> bool
+    requires { ⌜ (z ≤ length (now plan)) × (z ≤ maxPlan) ⌝ }
+{
+    if z < 8 {
+        return false;
+    }
+    let k = plan[z - 1];
+    if is_regex(k) {
+        return true;
+    }
+    if MANY <= n {
+        return mentions(plan, p, z);
+    }
+    if k != NOT {
+        return false;
+    }
+    is_regex(plan[z - 2])
+}
+
+// The call at q, in code that ends at z.
+pub fn read_call(plan: &[u8], q: usize, z: usize) -> Call
+    requires { ⌜ AskCall (now plan) q z ⌝ }
+    ensures { λ r. ⌜ (r .some ≡ true → ReadAt (now (plan .entry)) q z r) ⌝ }
+{
+    if z < q + 8 {
         return no_call();
     }
-    if plan[y - 6] != TEXT {
+    if CURRENT < plan[q] {
         return no_call();
     }
-    if plan[p] != CURRENT {
-        return no_call();
-    }
-    let d = paths::read_path(plan, p + 1);
+    let d = paths::read_path(plan, q + 1);
+    let end = d.at;
     if !d.some {
         return no_call();
     }
-    let end = d.at;
-    let start = bytes::word16(plan, y - 5);
-    let size = bytes::word16(plan, y - 3);
-    Call {
-        end,
-        start,
-        size,
-        kind,
-        negated,
-        some: end == y - 7,
-    }
-}
-
-// The filter from p up to z.
-pub fn read_call(plan: &[u8], p: usize, z: usize) -> Call
-    requires { ⌜ AskCall (now plan) p z ⌝ }
-    ensures { λ r. ⌜ (r .some ≡ true → CallAt (now (plan .entry)) p z r) ⌝ }
-{
-    if z < p + 8 {
+    if z - 7 < end {
         return no_call();
     }
-    if plan[z - 1] == NOT {
-        return call_to(plan, p, z - 1, true);
+    let kind = plan[end + 6];
+    if plan[end + 1] != TEXT {
+        return no_call();
     }
-    call_to(plan, p, z, false)
+    Call {
+        at: q,
+        end,
+        start: bytes::word16(plan, end + 2),
+        size: bytes::word16(plan, end + 4),
+        kind,
+        some: is_regex(kind),
+    }
 }

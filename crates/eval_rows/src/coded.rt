@@ -1,20 +1,19 @@
 // Such a filter whose expression is known: by its code, by its states too, or as one outside the part. Each has rooms of its own, for the reason that the crate has.
 use crate::calls::Call;
 use crate::rows;
-use crate::rows::OUTSIDE;
-use crate::rows::READ;
-use crate::rows::STATES;
+use crate::rows::Filter;
+use crate::rows::Passed;
+use crate::turns::OUTSIDE;
+use crate::turns::READ;
+use crate::turns::STATES;
 use regex_marks::weigh;
 use regex_states::prepare;
-ghost use mathlib.Core.Path.{_≡_};
-ghost use Prim.Native.Nat.{_+_, _*_, _≤_};
 ghost use lib.ListN.{length};
 ghost use Rattle.definition.specs.Bytes.{part};
-ghost use Rattle.eval_filters.specs.Kept.{AskTest, AskKept};
-ghost use Rattle.eval_filters.specs.Keeps.{TailAt, DoneRange};
 ghost use Rattle.regex_rooms.specs.Rooms.{scopeFor};
-ghost use Rattle.eval_rows.specs.Calls.{CallAt};
-ghost use Rattle.eval_rows.specs.Rows.{Ready, Outside};
+ghost use Rattle.eval_rows.specs.Calls.{CallAt, Spelled};
+ghost use Rattle.eval_rows.specs.Known.{Ready, Outside};
+ghost use Rattle.eval_rows.specs.Rows.{AskRows, DoneRows};
 
 // Rooms for marks, as in `regex_rooms`.
 const FEW: usize = 4096;
@@ -33,69 +32,39 @@ const ENOUGH: usize = 8;
 // A byte that is no kind of a plan's item.
 const NO_KIND: u8 = 255;
 
-// The nodes from i up to e that the filter keeps, with what follows, by the code of its expression.
+// The nodes from i on that the filter keeps, with what follows, by the code of its expression.
 fn with_few(
     plan: &[u8],
     pool: &[u8],
     table: &[u8],
     text: &[u8],
-    root: usize,
+    f: Filter,
     i: usize,
-    e: usize,
-    p: usize,
-    z: usize,
     g: Call,
-    tail: usize,
-    rest: usize,
     code: &[u32],
     list: &mut [u32],
     at: usize,
-    cap: usize,
     again: u8,
-) -> usize
-    requires { ⌜ AskKept (now plan) (now pool) (now table) (now text) root i e rest (length (now list)) at cap ⌝ }
-    requires { ⌜ AskTest (now plan) (now pool) p z × CallAt (now plan) p z g ⌝ }
-    requires { ⌜ TailAt (now plan) rest tail × (tail ≤ 1) ⌝ }
+) -> Passed
+    requires { ⌜ AskRows (now plan) (now pool) (now table) (now text) f i (length (now list)) at ⌝ }
+    requires { ⌜ CallAt (now plan) (f .z) g × Spelled (now pool) g ⌝ }
     requires { ⌜ Ready (scopeFor (g .kind)) (part (now pool) (g .start) (g .size)) (now code) 2 ⌝ }
-    ensures { λ r. ⌜ DoneRange (now (plan .entry)) (now (pool .entry)) (now (table .entry)) (now (text .entry)) root i e p z rest cap (now (list .entry)) at (now (list .exit)) r ⌝ }
+    ensures { λ r. ⌜ DoneRows (now (plan .entry)) (now (pool .entry)) (now (table .entry)) (now (text .entry)) f i (now (list .entry)) at (now (list .exit)) r ⌝ }
 {
     if 0 < again {
-        return with_few(
-            plan,
-            pool,
-            table,
-            text,
-            root,
-            i,
-            e,
-            p,
-            z,
-            g,
-            tail,
-            rest,
-            code,
-            list,
-            at,
-            cap,
-            again - 1,
-        );
+        return with_few(plan, pool, table, text, f, i, g, code, list, at, again - 1);
     }
     let mut edges = [0u8; 1];
     let mut sets = [0u8; 1];
     let mut marks = [0u8; FEW];
-    let v = rows::keep(
+    rows::keep(
         plan,
         pool,
         table,
         text,
-        root,
+        f,
         i,
-        e,
-        p,
-        z,
         g,
-        tail,
-        rest,
         READ,
         code,
         &mut edges,
@@ -103,9 +72,7 @@ fn with_few(
         &mut marks,
         list,
         at,
-        cap,
-    );
-    v.at
+    )
 }
 
 // The same by the states of the expression, which are kept from node to node.
@@ -114,64 +81,34 @@ fn with_states(
     pool: &[u8],
     table: &[u8],
     text: &[u8],
-    root: usize,
+    f: Filter,
     i: usize,
-    e: usize,
-    p: usize,
-    z: usize,
     g: Call,
-    tail: usize,
-    rest: usize,
     code: &[u32],
     list: &mut [u32],
     at: usize,
-    cap: usize,
     again: u8,
-) -> usize
-    requires { ⌜ AskKept (now plan) (now pool) (now table) (now text) root i e rest (length (now list)) at cap ⌝ }
-    requires { ⌜ AskTest (now plan) (now pool) p z × CallAt (now plan) p z g ⌝ }
-    requires { ⌜ TailAt (now plan) rest tail × (tail ≤ 1) ⌝ }
+) -> Passed
+    requires { ⌜ AskRows (now plan) (now pool) (now table) (now text) f i (length (now list)) at ⌝ }
+    requires { ⌜ CallAt (now plan) (f .z) g × Spelled (now pool) g ⌝ }
     requires { ⌜ Ready (scopeFor (g .kind)) (part (now pool) (g .start) (g .size)) (now code) 3 ⌝ }
-    ensures { λ r. ⌜ DoneRange (now (plan .entry)) (now (pool .entry)) (now (table .entry)) (now (text .entry)) root i e p z rest cap (now (list .entry)) at (now (list .exit)) r ⌝ }
+    ensures { λ r. ⌜ DoneRows (now (plan .entry)) (now (pool .entry)) (now (table .entry)) (now (text .entry)) f i (now (list .entry)) at (now (list .exit)) r ⌝ }
 {
     if 0 < again {
-        return with_states(
-            plan,
-            pool,
-            table,
-            text,
-            root,
-            i,
-            e,
-            p,
-            z,
-            g,
-            tail,
-            rest,
-            code,
-            list,
-            at,
-            cap,
-            again - 1,
-        );
+        return with_states(plan, pool, table, text, f, i, g, code, list, at, again - 1);
     }
     let mut edges = [0u8; STATE_ROOM];
     let mut sets = [0u8; STATE_ROOM];
     let mut marks = [0u8; STATE_MARKS];
     prepare(code, &mut edges, &mut sets);
-    let v = rows::keep(
+    rows::keep(
         plan,
         pool,
         table,
         text,
-        root,
+        f,
         i,
-        e,
-        p,
-        z,
         g,
-        tail,
-        rest,
         STATES,
         code,
         &mut edges,
@@ -179,9 +116,7 @@ fn with_states(
         &mut marks,
         list,
         at,
-        cap,
-    );
-    v.at
+    )
 }
 
 // The same where the code has more marks than are kept for all texts: each text is tested in rooms of its own.
@@ -190,63 +125,33 @@ fn with_most(
     pool: &[u8],
     table: &[u8],
     text: &[u8],
-    root: usize,
+    f: Filter,
     i: usize,
-    e: usize,
-    p: usize,
-    z: usize,
     g: Call,
-    tail: usize,
-    rest: usize,
     code: &[u32],
     list: &mut [u32],
     at: usize,
-    cap: usize,
     again: u8,
-) -> usize
-    requires { ⌜ AskKept (now plan) (now pool) (now table) (now text) root i e rest (length (now list)) at cap ⌝ }
-    requires { ⌜ AskTest (now plan) (now pool) p z × CallAt (now plan) p z g ⌝ }
-    requires { ⌜ TailAt (now plan) rest tail × (tail ≤ 1) ⌝ }
+) -> Passed
+    requires { ⌜ AskRows (now plan) (now pool) (now table) (now text) f i (length (now list)) at ⌝ }
+    requires { ⌜ CallAt (now plan) (f .z) g × Spelled (now pool) g ⌝ }
     requires { ⌜ Ready (scopeFor (g .kind)) (part (now pool) (g .start) (g .size)) (now code) 2 ⌝ }
-    ensures { λ r. ⌜ DoneRange (now (plan .entry)) (now (pool .entry)) (now (table .entry)) (now (text .entry)) root i e p z rest cap (now (list .entry)) at (now (list .exit)) r ⌝ }
+    ensures { λ r. ⌜ DoneRows (now (plan .entry)) (now (pool .entry)) (now (table .entry)) (now (text .entry)) f i (now (list .entry)) at (now (list .exit)) r ⌝ }
 {
     if 0 < again {
-        return with_most(
-            plan,
-            pool,
-            table,
-            text,
-            root,
-            i,
-            e,
-            p,
-            z,
-            g,
-            tail,
-            rest,
-            code,
-            list,
-            at,
-            cap,
-            again - 1,
-        );
+        return with_most(plan, pool, table, text, f, i, g, code, list, at, again - 1);
     }
     let mut edges = [0u8; 1];
     let mut sets = [0u8; 1];
     let mut marks = [0u8; NONE];
-    let v = rows::keep(
+    rows::keep(
         plan,
         pool,
         table,
         text,
-        root,
+        f,
         i,
-        e,
-        p,
-        z,
         g,
-        tail,
-        rest,
         READ,
         code,
         &mut edges,
@@ -254,9 +159,7 @@ fn with_most(
         &mut marks,
         list,
         at,
-        cap,
-    );
-    v.at
+    )
 }
 
 // Whether an expression of n marks has states for the nodes from i up to e.
@@ -276,89 +179,28 @@ pub fn by_code(
     pool: &[u8],
     table: &[u8],
     text: &[u8],
-    root: usize,
+    f: Filter,
     i: usize,
-    e: usize,
-    p: usize,
-    z: usize,
     g: Call,
-    tail: usize,
-    rest: usize,
     code: &[u32],
     list: &mut [u32],
     at: usize,
-    cap: usize,
-) -> usize
-    requires { ⌜ AskKept (now plan) (now pool) (now table) (now text) root i e rest (length (now list)) at cap ⌝ }
-    requires { ⌜ AskTest (now plan) (now pool) p z × CallAt (now plan) p z g ⌝ }
-    requires { ⌜ TailAt (now plan) rest tail × (tail ≤ 1) ⌝ }
+) -> Passed
+    requires { ⌜ AskRows (now plan) (now pool) (now table) (now text) f i (length (now list)) at ⌝ }
+    requires { ⌜ CallAt (now plan) (f .z) g × Spelled (now pool) g ⌝ }
     requires { ⌜ Ready (scopeFor (g .kind)) (part (now pool) (g .start) (g .size)) (now code) 2 ⌝ }
-    ensures { λ r. ⌜ DoneRange (now (plan .entry)) (now (pool .entry)) (now (table .entry)) (now (text .entry)) root i e p z rest cap (now (list .entry)) at (now (list .exit)) r ⌝ }
+    ensures { λ r. ⌜ DoneRows (now (plan .entry)) (now (pool .entry)) (now (table .entry)) (now (text .entry)) f i (now (list .entry)) at (now (list .exit)) r ⌝ }
 {
     // 0 for both kinds; but LLVM cannot tell.
     let again = g.kind / NO_KIND;
     let w = weigh(code, 0, FEW);
-    if has_states(w.size, i, e) {
-        return with_states(
-            plan,
-            pool,
-            table,
-            text,
-            root,
-            i,
-            e,
-            p,
-            z,
-            g,
-            tail,
-            rest,
-            code,
-            list,
-            at,
-            cap,
-            again,
-        );
+    if has_states(w.size, i, f.e) {
+        return with_states(plan, pool, table, text, f, i, g, code, list, at, again);
     }
     if w.size <= FEW {
-        return with_few(
-            plan,
-            pool,
-            table,
-            text,
-            root,
-            i,
-            e,
-            p,
-            z,
-            g,
-            tail,
-            rest,
-            code,
-            list,
-            at,
-            cap,
-            again,
-        );
+        return with_few(plan, pool, table, text, f, i, g, code, list, at, again);
     }
-    with_most(
-        plan,
-        pool,
-        table,
-        text,
-        root,
-        i,
-        e,
-        p,
-        z,
-        g,
-        tail,
-        rest,
-        code,
-        list,
-        at,
-        cap,
-        again,
-    )
+    with_most(plan, pool, table, text, f, i, g, code, list, at, again)
 }
 
 // The same where the expression is outside the part.
@@ -367,41 +209,29 @@ pub fn outside(
     pool: &[u8],
     table: &[u8],
     text: &[u8],
-    root: usize,
+    f: Filter,
     i: usize,
-    e: usize,
-    p: usize,
-    z: usize,
     g: Call,
-    tail: usize,
-    rest: usize,
     list: &mut [u32],
     at: usize,
-    cap: usize,
-) -> usize
-    requires { ⌜ AskKept (now plan) (now pool) (now table) (now text) root i e rest (length (now list)) at cap ⌝ }
-    requires { ⌜ AskTest (now plan) (now pool) p z × CallAt (now plan) p z g ⌝ }
-    requires { ⌜ TailAt (now plan) rest tail × (tail ≤ 1) ⌝ }
+) -> Passed
+    requires { ⌜ AskRows (now plan) (now pool) (now table) (now text) f i (length (now list)) at ⌝ }
+    requires { ⌜ CallAt (now plan) (f .z) g × Spelled (now pool) g ⌝ }
     requires { ⌜ Outside (scopeFor (g .kind)) (part (now pool) (g .start) (g .size)) ⌝ }
-    ensures { λ r. ⌜ DoneRange (now (plan .entry)) (now (pool .entry)) (now (table .entry)) (now (text .entry)) root i e p z rest cap (now (list .entry)) at (now (list .exit)) r ⌝ }
+    ensures { λ r. ⌜ DoneRows (now (plan .entry)) (now (pool .entry)) (now (table .entry)) (now (text .entry)) f i (now (list .entry)) at (now (list .exit)) r ⌝ }
 {
     let code = [0u32; 1];
     let mut edges = [0u8; 1];
     let mut sets = [0u8; 1];
     let mut marks = [0u8; 1];
-    let v = rows::keep(
+    rows::keep(
         plan,
         pool,
         table,
         text,
-        root,
+        f,
         i,
-        e,
-        p,
-        z,
         g,
-        tail,
-        rest,
         OUTSIDE,
         &code,
         &mut edges,
@@ -409,7 +239,5 @@ pub fn outside(
         &mut marks,
         list,
         at,
-        cap,
-    );
-    v.at
+    )
 }

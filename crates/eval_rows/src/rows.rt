@@ -1,128 +1,41 @@
-// One node of a range with such a filter, and all of them in turn.
+// One node of a range with a whole filter, and all of them in turn.
 use crate::calls::Call;
-use crate::paths;
+use crate::turns;
 use eval_filters::kept;
-use regex::test;
-use regex_rooms::marks::test_within;
-use regex_states::test_with;
-use table::records;
-use table::records::KIND_TEXT;
-ghost use mathlib.Core.Path.{_≡_};
-ghost use Prim.Native.Nat.{_+_, _≤_};
 ghost use lib.ListN.{length};
-ghost use Rattle.definition.specs.Bytes.{part};
 ghost use Rattle.eval_filters.specs.Queries.{Within};
-ghost use Rattle.eval_filters.specs.Kept.{AskTest, AskKept};
-ghost use Rattle.eval_filters.specs.Keeps.{TailAt};
-ghost use Rattle.regex.specs.Tested.{Tested};
-ghost use Rattle.regex_rooms.specs.Rooms.{scopeFor};
-ghost use Rattle.eval_rows.specs.Calls.{CallAt, flip};
-ghost use Rattle.eval_rows.specs.Rows.{TextOf, Ready, Held, DoneAnswer, DoneRows};
+ghost use Rattle.eval_filters.specs.Kept.{AskTest};
+ghost use Rattle.eval_rows.specs.Known.{Knows, Held};
+ghost use Rattle.eval_rows.specs.Rows.{DoneAnswer, AskRows, DoneRows};
 
-// What is known of the expression: nothing yet, that it is outside the part, its code, or the code with rooms that are ready for its states.
-pub const UNREAD: u8 = 0;
-
-pub const OUTSIDE: u8 = 1;
-
-pub const READ: u8 = 2;
-
-pub const STATES: u8 = 3;
-
-// A text's place; `some` is false where there is none.
-pub struct Spot {
-    pub start: usize,
-    pub size: usize,
-    pub some: bool,
+// What a filter is asked with: the node that `$` stands for, the end of the range, its code from p up to z, what follows by its number and its place, and how many
+// nodes are counted.
+pub struct Filter {
+    pub root: usize,
+    pub e: usize,
+    pub p: usize,
+    pub z: usize,
+    pub tail: usize,
+    pub rest: usize,
+    pub cap: usize,
 }
 
-// What the filter says of a node; `some` is false where the expression must be read for it.
+// What the filter says of a node; `some` is false where the test at q is not told.
 pub struct Answer {
     pub acc: bool,
+    pub q: usize,
     pub some: bool,
 }
 
-// The first node of a range that is left, and the next place of the list of nodes.
+// The next place of the list of nodes; where `more`, node i is left with those behind it, since the test at q is not told of it.
 pub struct Passed {
     pub i: usize,
     pub at: usize,
+    pub q: usize,
+    pub more: bool,
 }
 
-// A test's answer, or its negation.
-fn flipped(negated: bool, b: bool) -> bool
-    ensures { λ r. ⌜ r ≡ flip «negated» «b» ⌝ }
-{
-    if negated {
-        return !b;
-    }
-    b
-}
-
-// The text that the query finds from a node.
-fn text_of(
-    plan: &[u8],
-    pool: &[u8],
-    table: &[u8],
-    text: &[u8],
-    root: usize,
-    node: usize,
-    p: usize,
-    z: usize,
-    g: Call,
-) -> Spot
-    requires { ⌜ Within (now plan) (now pool) (now table) (now text) root node ⌝ }
-    requires { ⌜ AskTest (now plan) (now pool) p z × CallAt (now plan) p z g ⌝ }
-    ensures { λ r. ⌜ TextOf (now (plan .entry)) (now (pool .entry)) (now (table .entry)) (now (text .entry)) node p r ⌝ }
-{
-    let r = paths::follow(plan, pool, table, text, node, p + 1, g.end);
-    let m = r.node;
-    if !r.some {
-        return Spot {
-            start: 0,
-            size: 0,
-            some: false,
-        };
-    }
-    if records::kind(table, m) != KIND_TEXT {
-        return Spot {
-            start: 0,
-            size: 0,
-            some: false,
-        };
-    }
-    let start = records::text_start(table, m) as usize;
-    let size = records::text_length(table, m) as usize;
-    Spot {
-        start,
-        size,
-        some: true,
-    }
-}
-
-// Whether a text has the expression that the code is of: by its states where the rooms are ready for them; in rooms of its own where no marks are lent, since then the
-// code has too many. The marks are room.
-fn tested(
-    kind: u8,
-    known: u8,
-    code: &[u32],
-    text: &[u8],
-    edges: &mut [u8],
-    sets: &mut [u8],
-    marks: &mut [u8],
-) -> bool
-    requires { ⌜ Held (now code) (now edges) (now sets) known ⌝ }
-    ensures { λ r. ⌜ Tested (now (code .entry)) (now (text .entry)) r ⌝ }
-    ensures { λ r. ⌜ Held (now (code .entry)) (now (edges .exit)) (now (sets .exit)) known ⌝ }
-{
-    if known == STATES {
-        return test_with(code, text, edges, sets, marks);
-    }
-    if marks.len() == 0 {
-        return test_within(kind, code, text);
-    }
-    test(code, text, marks)
-}
-
-// What the filter says of a node, by what is known of its expression. The other rooms are those of `tested`.
+// What the filter from p up to z says of a node, by what is known of the expression of its call. The other rooms are those of `turns`.
 fn asked(
     plan: &[u8],
     pool: &[u8],
@@ -139,55 +52,56 @@ fn asked(
     sets: &mut [u8],
     marks: &mut [u8],
 ) -> Answer
-    requires { ⌜ Within (now plan) (now pool) (now table) (now text) root node ⌝ }
-    requires { ⌜ AskTest (now plan) (now pool) p z × CallAt (now plan) p z g ⌝ }
-    requires { ⌜ Ready (scopeFor (g .kind)) (part (now pool) (g .start) (g .size)) (now code) known × Held (now code) (now edges) (now sets) known ⌝ }
-    ensures { λ r. ⌜ DoneAnswer (now (plan .entry)) (now (pool .entry)) (now (table .entry)) (now (text .entry)) root node p z known r ⌝ }
+    requires { ⌜ Within (now plan) (now pool) (now table) (now text) root node × AskTest (now plan) (now pool) p z ⌝ }
+    requires { ⌜ Knows (now plan) (now pool) (now code) z g known × Held (now code) (now edges) (now sets) known ⌝ }
+    ensures { λ r. ⌜ DoneAnswer (now (plan .entry)) (now (pool .entry)) (now (table .entry)) (now (text .entry)) root node p z r ⌝ }
     ensures { λ r. ⌜ Held (now (code .entry)) (now (edges .exit)) (now (sets .exit)) known ⌝ }
 {
-    let s = text_of(plan, pool, table, text, root, node, p, z, g);
-    let negated = g.negated;
-    if !s.some {
-        return Answer {
-            acc: negated,
-            some: true,
-        };
+    let mut acc = false;
+    let mut q = p;
+    while q < z {
+        if q == g.at {
+            acc = turns::called(
+                plan,
+                pool,
+                table,
+                text,
+                root,
+                node,
+                z,
+                g,
+                known,
+                code,
+                edges,
+                sets,
+                marks,
+            );
+            q = g.end + 7;
+        } else {
+            let t = turns::told(plan, pool, table, text, root, node, acc, q, z, known);
+            if !t.some {
+                return Answer {
+                    acc: false,
+                    q,
+                    some: false,
+                };
+            }
+            acc = t.acc;
+            q = t.q;
+        }
     }
-    if known == UNREAD {
-        return Answer {
-            acc: false,
-            some: false,
-        };
-    }
-    if known == OUTSIDE {
-        return Answer {
-            acc: negated,
-            some: true,
-        };
-    }
-    let a = s.start;
-    let n = s.size;
-    let b = tested(g.kind, known, code, &text[a..a + n], edges, sets, marks);
-    Answer {
-        acc: flipped(negated, b),
-        some: true,
-    }
+    Answer { acc, q, some: true }
 }
 
-// The nodes from i up to e that the filter keeps, with what follows, up to the first for which the expression must be read.
+// The nodes from i on that the filter keeps, with what follows, up to the first of which a test is not told.
 pub fn keep(
     plan: &[u8],
     pool: &[u8],
     table: &[u8],
     text: &[u8],
-    root: usize,
+    f: Filter,
     i: usize,
-    e: usize,
-    p: usize,
-    z: usize,
     g: Call,
-    tail: usize,
-    rest: usize,
     known: u8,
     code: &[u32],
     edges: &mut [u8],
@@ -195,20 +109,29 @@ pub fn keep(
     marks: &mut [u8],
     list: &mut [u32],
     at: usize,
-    cap: usize,
 ) -> Passed
-    requires { ⌜ AskKept (now plan) (now pool) (now table) (now text) root i e rest (length (now list)) at cap ⌝ }
-    requires { ⌜ AskTest (now plan) (now pool) p z × CallAt (now plan) p z g ⌝ }
-    requires { ⌜ TailAt (now plan) rest tail × (tail ≤ 1) ⌝ }
-    requires { ⌜ Ready (scopeFor (g .kind)) (part (now pool) (g .start) (g .size)) (now code) known × Held (now code) (now edges) (now sets) known ⌝ }
-    ensures { λ r. ⌜ DoneRows (now (plan .entry)) (now (pool .entry)) (now (table .entry)) (now (text .entry)) root i e p z rest cap (now (list .entry)) at (now (list .exit)) known r ⌝ }
+    requires { ⌜ AskRows (now plan) (now pool) (now table) (now text) f i (length (now list)) at ⌝ }
+    requires { ⌜ Knows (now plan) (now pool) (now code) (f .z) g known × Held (now code) (now edges) (now sets) known ⌝ }
+    ensures { λ r. ⌜ DoneRows (now (plan .entry)) (now (pool .entry)) (now (table .entry)) (now (text .entry)) f i (now (list .entry)) at (now (list .exit)) r ⌝ }
 {
+    let root = f.root;
+    let e = f.e;
+    let p = f.p;
+    let z = f.z;
+    let cap = f.cap;
+    let tail = f.tail;
+    let rest = f.rest;
     let mut a = at;
     let mut j = i;
     let mut near = 0;
     while j < e {
         if cap < a {
-            return Passed { i: j, at: a };
+            return Passed {
+                i: j,
+                at: a,
+                q: p,
+                more: false,
+            };
         }
         let b = asked(
             plan,
@@ -227,7 +150,12 @@ pub fn keep(
             marks,
         );
         if !b.some {
-            return Passed { i: j, at: a };
+            return Passed {
+                i: j,
+                at: a,
+                q: b.q,
+                more: true,
+            };
         }
         if b.acc {
             let v = kept::push_tail(plan, pool, table, text, tail, j, rest, near, list, a, cap);
@@ -238,5 +166,10 @@ pub fn keep(
             j += 1;
         }
     }
-    Passed { i: j, at: a }
+    Passed {
+        i: j,
+        at: a,
+        q: p,
+        more: false,
+    }
 }

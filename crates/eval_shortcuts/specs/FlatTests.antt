@@ -22,7 +22,7 @@ use Rattle.text.specs.Words.{Word}
 use Rattle.eval_laws.specs.Bytes.{holds-in}
 use Rattle.eval_laws.specs.States.{State, st}
 use Rattle.eval_laws.specs.Emits.{go}
-use Rattle.eval_laws.specs.Nodes.{count-scalar}
+use Rattle.table_laws.specs.Nodes.{count-scalar}
 use Rattle.eval_laws.specs.Steps.{below, kept, kept-out, span-kept}
 use Rattle.eval_laws.specs.Ranges.{Range, range-in, select-filter}
 use Rattle.eval_laws.specs.Items.{SegmentsAt, Parts, last, is-filter}

@@ -1,5 +1,6 @@
 pub mod Flats
 pub mod FlatLaws
 pub mod FlatTests
-pub mod Straights
 pub mod Alongs
+pub mod Entries
+pub mod Rows

@@ -158,7 +158,7 @@ fn flat_each(
 }
 
 // Whether the descendant segment at pc is the last of its query and has one selector, a name, an index or a wildcard.
-fn is_plain(plan: &[u8], pc: usize) -> bool
+pub fn is_plain(plan: &[u8], pc: usize) -> bool
     requires { ⌜ AskPlain (now plan) pc ⌝ }
     ensures { λ r. ⌜ DonePlain (now (plan .entry)) pc r ⌝ }
 {
@@ -178,7 +178,7 @@ fn is_plain(plan: &[u8], pc: usize) -> bool
 }
 
 // Whether the descendant segment at pc has one selector, a filter that is one test of a member.
-fn asks_member(plan: &[u8], pc: usize) -> bool
+pub fn asks_member(plan: &[u8], pc: usize) -> bool
     requires { ⌜ AskMember (now plan) pc ⌝ }
     ensures { λ r. ⌜ DoneMember (now (plan .entry)) pc r ⌝ }
 {

@@ -1,7 +1,201 @@
-// Shortcuts of evaluation, each with the contract of what it stands for: nodes with nothing below their children under a descendant segment, a slice at the end
-// of a query, and a range of nodes with names and indices up to the end.
+// The shortcuts of evaluation, and the one way by which they enter it. Each function takes a query or a filter that it knows and gives the whole answer, with the
+// contract of what it stands for; else it leaves everything as it was, and says so: false, or the node that it was given. `has_flats` says only which way is the faster
+// one. Evaluation knows no other shortcut, and is proved without them (docs/DECISIONS.md, 271).
 //
 //   flats     nodes with nothing below their children under a descendant segment of one selector
-//   straight  a child segment of one slice at the end of a query; a range of nodes with names and indices up to the end
+//   straight  a range of nodes with names and indices up to the end
+//
+// Filters that are read once stand in `eval_filters`, those with match or search of a text of the plan in `eval_rows`.
+ghost use Rattle.eval_front.specs.Visits.{Given};
+ghost use Rattle.eval_asks.specs.Lent.{planOf, poolOf, tableOf, textOf};
+ghost use Rattle.eval_asks.specs.Asks.{Asked, Steady, AskEach, DoneAhead, Descends, AskFlats, DoneFlats, AskSelector, AskKind, DoneKeep};
+ghost use Rattle.eval_asks.specs.Rows.{AskRows, DoneRows};
+use eval_asks::AT;
+use eval_asks::CAP;
+use eval_asks::PLAN;
+use eval_asks::POOL;
+use eval_asks::ROOT;
+use eval_asks::TABLE;
+use eval_asks::TEXT;
+use eval_filters::kept;
+use eval_rows::calls;
+use eval_rows::rows::Filter;
+use table::records;
+use text::bytes;
+
 pub mod flats;
 pub mod straight;
+
+// The first node from i on that needs a call with the segments at rest, or i. What names and indices up to the end lead to from those before it is pushed.
+pub fn ahead(
+    lent: &[&[u8]; 4],
+    state: &mut [usize; 3],
+    list: &mut &mut [u32],
+    i: usize,
+    e: usize,
+    rest: usize,
+) -> usize
+    requires { ⌜ Asked (now lent) (now state) (now (now list)) ⌝ }
+    requires { ⌜ AskEach (now lent) i e rest ⌝ }
+    ensures { λ r. ⌜ Steady (now (state .entry)) (now (list .entry)) (now (state .exit)) (now (list .exit)) ⌝ }
+    ensures { λ r. ⌜ DoneAhead (now (lent .entry)) i e rest (now (state .entry)) (now (now (list .entry))) (now (state .exit)) (now (now (list .exit))) r ⌝ }
+{
+    let plan = lent[PLAN];
+    if !straight::leads(plan, rest) {
+        return i;
+    }
+    let at = state[AT];
+    let r = straight::push_along(
+        plan,
+        lent[POOL],
+        lent[TABLE],
+        lent[TEXT],
+        i,
+        e,
+        rest,
+        *list,
+        at,
+        state[CAP],
+    );
+    state[AT] = r.at;
+    r.i
+}
+
+// Whether `pass_flats` may pass a node with the descendant segment at pc. It only says which way is the faster one.
+pub fn has_flats(lent: &[&[u8]; 4], pc: usize) -> bool
+    requires { ⌜ Given (planOf (now lent)) (poolOf (now lent)) (tableOf (now lent)) (textOf (now lent)) ⌝ }
+    requires { ⌜ Descends (planOf (now lent)) (poolOf (now lent)) pc ⌝ }
+{
+    let plan = lent[PLAN];
+    if flats::is_plain(plan, pc) {
+        return true;
+    }
+    flats::asks_member(plan, pc)
+}
+
+// The first node from i on whose descent needs a call, or i. What the descendant segment at pc selects of those before it is pushed.
+pub fn pass_flats(
+    lent: &[&[u8]; 4],
+    state: &mut [usize; 3],
+    list: &mut &mut [u32],
+    i: usize,
+    e: usize,
+    pc: usize,
+) -> usize
+    requires { ⌜ Asked (now lent) (now state) (now (now list)) ⌝ }
+    requires { ⌜ AskFlats (now lent) i e pc ⌝ }
+    ensures { λ r. ⌜ Steady (now (state .entry)) (now (list .entry)) (now (state .exit)) (now (list .exit)) ⌝ }
+    ensures { λ r. ⌜ DoneFlats (now (lent .entry)) i e pc (now (state .entry)) (now (now (list .entry))) (now (state .exit)) (now (now (list .exit))) r ⌝ }
+{
+    let at = state[AT];
+    let cap = state[CAP];
+    let f = flats::flat_start(
+        lent[PLAN],
+        lent[POOL],
+        lent[TABLE],
+        lent[TEXT],
+        i,
+        e,
+        pc,
+        *list,
+        at,
+        cap,
+    );
+    state[AT] = f.at;
+    f.i
+}
+
+// The children of a node for which the filter at p holds, each with the segments at rest, where the filter is read once: whether it is.
+pub fn keep_children(
+    lent: &[&[u8]; 4],
+    state: &mut [usize; 3],
+    list: &mut &mut [u32],
+    node: usize,
+    p: usize,
+    rest: usize,
+) -> bool
+    requires { ⌜ Asked (now lent) (now state) (now (now list)) ⌝ }
+    requires { ⌜ AskSelector (now lent) node p rest ⌝ }
+    requires { ⌜ AskKind (now lent) p 9 ⌝ }
+    ensures { λ r. ⌜ Steady (now (state .entry)) (now (list .entry)) (now (state .exit)) (now (list .exit)) ⌝ }
+    ensures { λ r. ⌜ DoneKeep (now (lent .entry)) node p rest (now (state .entry)) (now (now (list .entry))) (now (state .exit)) (now (now (list .exit))) r ⌝ }
+{
+    let plan = lent[PLAN];
+    let z = p + 3 + bytes::word16(plan, p + 1);
+    let g = kept::read_form(plan, p + 3, z, rest);
+    if g.way == 0 {
+        return false;
+    }
+    let table = lent[TABLE];
+    let i = records::first_child(table, node) as usize;
+    let n = records::child_count(table, node) as usize;
+    let root = state[ROOT];
+    let at = state[AT];
+    let cap = state[CAP];
+    let next = kept::keep(
+        plan,
+        lent[POOL],
+        table,
+        lent[TEXT],
+        root,
+        i,
+        i + n,
+        p + 3,
+        z,
+        g,
+        rest,
+        *list,
+        at,
+        cap,
+    );
+    state[AT] = next;
+    true
+}
+
+// The first node from i on of which the test from p up to z needs a walk, or e. Those before it for which it holds are pushed with what follows, where nothing or one
+// name does. Else, and where one node alone is asked, none is looked at.
+pub fn keep_rows(
+    lent: &[&[u8]; 4],
+    state: &mut [usize; 3],
+    list: &mut &mut [u32],
+    i: usize,
+    e: usize,
+    p: usize,
+    z: usize,
+    rest: usize,
+) -> usize
+    requires { ⌜ Asked (now lent) (now state) (now (now list)) ⌝ }
+    requires { ⌜ AskRows (now lent) i e p z rest ⌝ }
+    ensures { λ r. ⌜ Steady (now (state .entry)) (now (list .entry)) (now (state .exit)) (now (list .exit)) ⌝ }
+    ensures { λ r. ⌜ DoneRows (now (lent .entry)) i e p z rest (now (state .entry)) (now (now (list .entry))) (now (state .exit)) (now (now (list .exit))) r ⌝ }
+{
+    if e < i + 2 {
+        return i;
+    }
+    let plan = lent[PLAN];
+    if !calls::may_call(plan, p, z, e - i) {
+        return i;
+    }
+    let tail = kept::tail_of(plan, rest);
+    if 1 < tail {
+        return i;
+    }
+    let root = state[ROOT];
+    let cap = state[CAP];
+    let at = state[AT];
+    let f = Filter {
+        root,
+        e,
+        p,
+        z,
+        tail,
+        rest,
+        cap,
+    };
+    let v = eval_rows::keep_rows(plan, lent[POOL], lent[TABLE], lent[TEXT], f, i, *list, at);
+    state[AT] = v.at;
+    if v.more {
+        return v.i;
+    }
+    e
+}

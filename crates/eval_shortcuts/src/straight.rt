@@ -1,8 +1,6 @@
-// A child segment of one slice at the end of a query: its places are pushed. A range of nodes with names and indices behind it: what they lead to is pushed.
-use eval_items::leaves;
+// A range of nodes with names and indices behind it: what they lead to is pushed.
 use plan_format::heads::INDEX_HEAD;
 use plan_format::heads::NAME_HEAD;
-use plan_format::heads::SLICE_HEAD;
 use plan_format::kinds::END;
 use table::records;
 use text::bytes;
@@ -10,45 +8,11 @@ ghost use Prim.Native.Nat.{_≤_};
 ghost use lib.ListN.{length};
 ghost use Rattle.definition.specs.Limits.{maxPlan};
 ghost use Rattle.eval_shortcuts.specs.Alongs.{AskAlong, DoneAlong};
-ghost use Rattle.eval_shortcuts.specs.Straights.{AskLast, DoneLast, LastSlice, AskStraight, DoneSlice};
 
 // The first node of a range that is left, and the next place of the list of nodes.
 pub struct Passed {
     pub i: usize,
     pub at: usize,
-}
-
-// Whether the segment at pc is a child segment of one slice and the query ends behind it.
-pub fn is_last_slice(plan: &[u8], pc: usize) -> bool
-    requires { ⌜ AskLast (now plan) pc ⌝ }
-    ensures { λ r. ⌜ DoneLast (now (plan .entry)) pc r ⌝ }
-{
-    if bytes::word32(plan, pc) != SLICE_HEAD {
-        return false;
-    }
-    plan[pc + 29] == END
-}
-
-// The nodes that such a segment selects of a node.
-pub fn push_slice(
-    plan: &[u8],
-    pool: &[u8],
-    table: &[u8],
-    text: &[u8],
-    node: usize,
-    pc: usize,
-    list: &mut [u32],
-    at: usize,
-    cap: usize,
-) -> usize
-    requires { ⌜ AskStraight (now plan) (now pool) (now table) (now text) node pc (length (now list)) at cap ⌝ }
-    requires { ⌜ LastSlice (now plan) pc ⌝ }
-    ensures { λ r. ⌜ DoneSlice (now (plan .entry)) (now (pool .entry)) (now (table .entry)) (now (text .entry)) node pc cap (now (list .entry)) at (now (list .exit)) r ⌝ }
-{
-    let w = leaves::slice_at(plan, table, pc + 3, node);
-    let first = records::first_child(table, node) as usize;
-    let v = eval_front::placed(table, first, w);
-    eval_front::push_places(list, v, at, cap)
 }
 
 // Whether names and indices, one at least, lead from rest to the last byte of the plan. It only says which way is the faster one.

@@ -6,7 +6,7 @@ use mathlib.Core.Bool.{Bool, false}
 use native.Mathlib.Omega.{arith}
 use Rattle.definition.specs.Tables.{nodeCount, kindAt, kindMap, lowWord, childCount, depthAt, keyBytes}
 use Rattle.table_laws.specs.Accepted.{Accepted}
-use Rattle.eval_laws.specs.Nodes.{kids, kidsAt}
+use Rattle.table_laws.specs.Nodes.{kids, kidsAt}
 use Rattle.eval_laws.specs.Ranges.{Range, range-of, range-in, child-at, kids-at}
 use Rattle.eval_values.specs.Alike.{Both, AskMember, sameAt, memberAt}
 use Rattle.eval_values.specs.Members.{Looked}

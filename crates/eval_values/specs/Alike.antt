@@ -10,7 +10,7 @@ use Rattle.definition.specs.Forms.{Operator}
 use Rattle.definition.specs.Plans.{operatorByte}
 use Rattle.definition.specs.Compare.{Value, nodeValue, same, isSome, sameNode, sameElements, sameMembers, compareValues}
 use Rattle.definition.specs.Tables.{nodeCount, nodeAt, kindAt, kindList, kindMap, keyStart, keyLength, keyBytes}
-use Rattle.eval_laws.specs.Nodes.{kidsAt}
+use Rattle.table_laws.specs.Nodes.{kidsAt}
 
 -- whether the values of two nodes are equal
 abbrev pub sameAt : List ℕ → List ℕ → ℕ → ℕ → Bool

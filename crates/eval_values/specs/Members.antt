@@ -10,7 +10,7 @@ use mathlib.Core.Option.{Option, none, some}
 use lib.ListN.{length}
 use Rattle.definition.specs.Values.{Json, lookup}
 use Rattle.definition.specs.Tables.{nodeCount, nodeAt, keyStart, keyLength}
-use Rattle.eval_laws.specs.Nodes.{kids, lookup-first, lookup-next, lookup-none}
+use Rattle.table_laws.specs.Nodes.{kids, lookup-first, lookup-next, lookup-none}
 use Rattle.eval_values.specs.declared.members.Member.{Member}
 use Rattle.eval_values.specs.declared.members.Member.the-variants.{At, Nothing}
 

@@ -16,7 +16,7 @@ use Rattle.definition.specs.Forms.Operator.{eq, ne, lt, le, gt, ge}
 use Rattle.definition.specs.Plans.{operatorByte}
 use Rattle.table_laws.specs.Accepted.{Accepted}
 use Rattle.table_laws.specs.Rights.{good-inside}
-use Rattle.eval_laws.specs.Nodes.{kids, kidsAt, many-kids}
+use Rattle.table_laws.specs.Nodes.{kids, kidsAt, many-kids}
 use Rattle.eval_laws.specs.Ranges.{Range, kids-at, child-at}
 use Rattle.eval_values.specs.declared.Operand.{Operand}
 use Rattle.eval_values.specs.declared.Operand.the-variants.{Nothing, Null, Bool, Int, Float, Pool, Text, Node}

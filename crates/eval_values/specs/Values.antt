@@ -17,7 +17,7 @@ use Rattle.definition.specs.Evaluation.{truth, lengthOfValue}
 use Rattle.definition_bytes.specs.Same.{part-length}
 use Rattle.table_laws.specs.Accepted.{Accepted}
 use Rattle.table_laws.specs.Rights.{good-inside, good-utf8}
-use Rattle.eval_laws.specs.Nodes.{kidsAt, unrolled, kind-of, Kind, many-kids, by-null, by-false, by-true, by-integer, by-float, by-text, by-list, by-map}
+use Rattle.table_laws.specs.Nodes.{kidsAt, unrolled, kind-of, Kind, many-kids, by-null, by-false, by-true, by-integer, by-float, by-text, by-list, by-map}
 use Rattle.eval_values.specs.declared.Operand.{Operand}
 use Rattle.eval_values.specs.declared.Operand.the-variants.{Nothing, Null, Bool, Int, Float, Pool, Text, Node}
 use Rattle.eval_values.specs.declared.ranks.Rank.{Rank}

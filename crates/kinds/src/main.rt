@@ -5,7 +5,7 @@
 ghost use mathlib.Core.Path.{_≡_};
 ghost use Prim.Native.Nat.{_≤_};
 ghost use lib.ListN.{length};
-ghost use Rattle.compile.specs.Steps.{outcome};
+ghost use Rattle.compile.specs.Outcomes.{outcome};
 use compile::Compiled;
 use program_console::output;
 use tally::KINDS;

@@ -1,8 +1,7 @@
 -- The numbers that are compared fit their limbs. Assumes nothing.
-use mathlib.Core.Path.{_≡_, refl, sym, ap, _∙_}
-use mathlib.Core.List.{List, [], _∷_}
+use mathlib.Core.Path.{_≡_, sym, ap, _∙_}
 use Prim.Native.Nat.{ℕ, zero, suc, _+_, _*_, _^_, _≤_, _<_}
-use native.Mathlib.Nat.{le-refl, le-trans, le-of-eq, lt-of-lt-of-le, mul-le-mul, mul-le-mul-left, mul-lt-mul-of-pos-right, mul-pos, pow-suc, one-le-pow}
+use native.Mathlib.Nat.{le-refl, le-trans, le-of-eq, lt-of-lt-of-le, mul-le-mul, mul-le-mul-left, mul-lt-mul-of-pos-right, pow-suc, one-le-pow}
 use native.Mathlib.Omega.{arith}
 use lib.Pow.{pow-add, pow-pos, pow-mono}
 

@@ -7,7 +7,7 @@ use native.Mathlib.Nat.{le-trans, mul-comm, mul-mul-mul-comm, mul-pos, mul-one, 
 use native.Mathlib.Numerals.{add-one}
 use native.Mathlib.Omega.{arith}
 use lib.Dec.{T, eqb, ltb, le→leb, lit≤, eqb·suc-zero}
-use lib.IntN.{ℤ, pos, negsuc, negℤ}
+use lib.IntN.{pos, negsuc, negℤ}
 use lib.Ieee.{Float, nan, inf, fin, Format, binary64, unlike, up, down, mul, div, neg, round, odd, units, low, prec, emax, ofInt, inFloat, toBits, isNan}
 use lib.Ieee.Back.{round-whole}
 use lib.Ieee.Bits.{cond-no}

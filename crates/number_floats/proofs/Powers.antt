@@ -5,9 +5,9 @@ use mathlib.Core.Bool.{false}
 use Prim.Native.Nat.{ℕ, zero, suc, _+_, _*_, _^_, _≤_, _<_}
 use native.Mathlib.Nat.{mul-assoc, mul-mul-mul-comm, mul-one, pow-suc, pow-le-pow-right, lt-of-le-of-lt, lt-of-lt-of-le}
 use native.Mathlib.Omega.{arith}
-use lib.Dec.{lit<, lit≤}
+use lib.Dec.{lit<}
 use lib.Pow.{pow-add, pow-mono, shl-lt}
-use lib.Ieee.{Float, binary64, ofBits, mul, round, low, prec, emax}
+use lib.Ieee.{Float, binary64, ofBits, mul, round}
 use lib.Ieee.Exact.{HasValue, round-exact}
 use Rattle.number_floats.proofs.Operations.{product}
 

@@ -1,4 +1,5 @@
 // The float of a number literal. Where N and a power of ten are floats, their product or quotient rounds once; everywhere else the crate `number_nearest` finds the bits.
+use limits::MAX_INT;
 use number_fives::LEAST;
 ghost use mathlib.Core.Path.{_≡_};
 ghost use mathlib.Core.Bool.{true, false};
@@ -10,8 +11,6 @@ ghost use Rattle.number_integers.specs.Signed.{signed};
 ghost use Rattle.number_rounding.specs.Bits.{infinity, signBit};
 ghost use Rattle.number_floats.specs.Scaled.{Scaled, onePower};
 
-// 2^53-1, the largest whole number of which every smaller one is a float too.
-pub const MAX_INT: u64 = 9007199254740991;
 // The largest power of ten that is a float.
 const ONE_POWER: usize = 22;
 // 2^63, the bit of the sign.

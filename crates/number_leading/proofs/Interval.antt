@@ -1,16 +1,15 @@
 -- The interval around n * 10 ^ (i - 342) that the leading bits of a power of five give. Assumes nothing.
 use mathlib.Core.Path.{_≡_, refl, sym, ap, _∙_, subst}
-use mathlib.Core.Bool.{Bool, true, false, not}
 use mathlib.Core.Logic.{_⊎_, inl, inr, ⊎-elim}
 use Prim.Native.Nat.{ℕ, zero, suc, _+_, _-_, _*_, _/_, _%_, _^_, _≤_, _<_}
-use native.Mathlib.Nat.{le-trans, le-of-eq, le-of-lt, lt-of-lt-of-le, lt-of-le-of-lt, add-mul, mul-comm, mul-assoc, mul-left-comm, mul-right-comm, mul-one, mul-suc, mul-pos, mul-le-mul-left, mul-le-mul-right, mul-lt-mul-of-pos-left, mul-lt-mul-of-pos-right, lt-of-mul-lt-mul-right, le-of-mul-le-mul-right, mul-mul-mul-comm, mul-sub, suc-mul, pow-suc, mul-le-mul, lt-irrefl, div-lt-iff-lt-mul, le-div-iff-mul-le, one-le-pow, one-mul, mod-lt, div-eq-of-lt, le-add-right, div-add-mod'}
+use native.Mathlib.Nat.{le-trans, le-of-eq, le-of-lt, lt-of-lt-of-le, lt-of-le-of-lt, add-mul, mul-comm, mul-assoc, mul-left-comm, mul-right-comm, mul-suc, mul-pos, mul-le-mul-left, mul-le-mul-right, mul-lt-mul-of-pos-left, mul-lt-mul-of-pos-right, lt-of-mul-lt-mul-right, le-of-mul-le-mul-right, mul-mul-mul-comm, mul-sub, suc-mul, pow-suc, mul-le-mul, lt-irrefl, div-lt-iff-lt-mul, le-div-iff-mul-le, one-le-pow, one-mul, mod-lt, div-eq-of-lt, le-add-right, div-add-mod'}
 use native.Mathlib.Omega.{arith}
 use lib.Dec.{lit≤}
 use lib.Pow.{pow-add, pow-pos, pow-mono}
 use Rattle.number_fives.specs.Rule.{place, Leading}
 use Rattle.number_rounding.specs.Near.{gap}
 use Rattle.number_rounding.specs.Decided.{Best, decided}
-use Rattle.number_leading.specs.Leads.{Fraction, Step, Bracket, Between, above, below}
+use Rattle.number_leading.specs.Leads.{Fraction, Grain, Bracket, Between, above, below}
 
 -- ---- the product's leading word
 module _ (i T m hi lo : ℕ) (L : Leading i T) (e : hi * 2 ^ 64 + lo ≡ m * T) (LO : lo < 2 ^ 64) (M : m < 2 ^ 64) (N : 0 < m) where
@@ -60,8 +59,8 @@ fraction-is n i s m e =
     ∙ ap (λ (z : ℕ). z * (5 ^ (i - 342) * 2 ^ 863) * (2 ^ (i - 342) * 2 ^ 342 * 2 ^ 732)) (sym e)
     ∙ ap (λ (z : ℕ). m * (5 ^ (i - 342) * 2 ^ 863) * (z * 2 ^ 732)) (shifted i)
 
-step-is : (y i : ℕ) → y * 2 ^ 64 * (2 ^ place i * 5 ^ (342 - i)) * Z i ≡ y * Step i
-step-is y i =
+grain-is : (y i : ℕ) → y * 2 ^ 64 * (2 ^ place i * 5 ^ (342 - i)) * Z i ≡ y * Grain i
+grain-is y i =
     ac2 y (2 ^ 64) (2 ^ place i) (5 ^ (342 - i)) (2 ^ (342 - i)) (2 ^ i) (2 ^ 732)
     ∙ ap (λ (z : ℕ). y * (z * (2 ^ (342 - i) * 5 ^ (342 - i)))) (sym (pow-add 2 (place i + i) 796 ∙ ap (λ (z : ℕ). z * 2 ^ 796) (pow-add 2 (place i) i)))
     ∙ ap (λ (z : ℕ). y * (2 ^ (place i + i + 796) * z)) (sym (ten (342 - i)))
@@ -73,13 +72,13 @@ pub bracket : (n i s T m hi lo : ℕ) → Leading i T → hi * 2 ^ 64 + lo ≡ m
 unfolding R V0
 bracket n i s T m hi lo L e LO M N q =
     record {
-      low = le-trans (le-of-eq (sym (step-is hi i))) (le-trans (mul-le-mul-right (Z i) (lower i T m hi lo L e LO M N)) (le-of-eq (sym (fraction-is n i s m q))));
-      high = lt-of-le-of-lt (le-of-eq (fraction-is n i s m q)) (lt-of-lt-of-le (mul-lt-mul-of-pos-right (upper i T m hi lo L e LO M N) (z-pos i)) (le-of-eq (step-is (hi + 2) i)));
+      low = le-trans (le-of-eq (sym (grain-is hi i))) (le-trans (mul-le-mul-right (Z i) (lower i T m hi lo L e LO M N)) (le-of-eq (sym (fraction-is n i s m q))));
+      high = lt-of-le-of-lt (le-of-eq (fraction-is n i s m q)) (lt-of-lt-of-le (mul-lt-mul-of-pos-right (upper i T m hi lo L e LO M N) (z-pos i)) (le-of-eq (grain-is (hi + 2) i)));
     }
 
 -- ---- with the leading bit of the word at its top, the interval is at most four wide
 pub keep : (n i s h : ℕ) → Bracket n i s h 2 → Bracket n i s h 4
-keep n i s h b = record { low = b .low; high = lt-of-lt-of-le (b .high) (mul-le-mul-right (Step i) (omega arith)) }
+keep n i s h b = record { low = b .low; high = lt-of-lt-of-le (b .high) (mul-le-mul-right (Grain i) (omega arith)) }
 
 pub double : (n i s h : ℕ) → Bracket n i s h 2 → Bracket n i (s + 1) (h * 2) 4
 double n i s h b =
@@ -87,8 +86,8 @@ double n i s h b =
     ap (λ (z : ℕ). n * 10 ^ (i - 342) * 2 ^ 1074 * z) (ap (λ (z : ℕ). 2 ^ z) (omega arith) ∙ pow-suc 2 (863 + s)) ∙ sym (mul-assoc (n * 10 ^ (i - 342) * 2 ^ 1074) (2 ^ (863 + s)) 2)
     in
     record {
-      low = le-trans (le-of-eq (mul-right-comm h 2 (Step i))) (le-trans (mul-le-mul-right 2 (b .low)) (le-of-eq (sym two)));
-      high = lt-of-le-of-lt (le-of-eq two) (lt-of-lt-of-le (mul-lt-mul-of-pos-right (b .high) (omega arith)) (le-of-eq (mul-right-comm (h + 2) (Step i) 2 ∙ ap (λ (z : ℕ). z * Step i) (omega arith))));
+      low = le-trans (le-of-eq (mul-right-comm h 2 (Grain i))) (le-trans (mul-le-mul-right 2 (b .low)) (le-of-eq (sym two)));
+      high = lt-of-le-of-lt (le-of-eq two) (lt-of-lt-of-le (mul-lt-mul-of-pos-right (b .high) (omega arith)) (le-of-eq (mul-right-comm (h + 2) (Grain i) 2 ∙ ap (λ (z : ℕ). z * Grain i) (omega arith))));
     }
 
 -- ---- where no boundary lies in the interval, the nearest double is settled
@@ -125,7 +124,7 @@ half-more Q A r W H u g w = omega arith
 
 module _ (n i s h k j : ℕ) (b : Bracket n i s h 4) (e : k + 67 + s ≡ place i + i + j) (J : 11 ≤ j) (full : (k ≡ 0) ⊎ (2 ^ 52 * 2 ^ j ≤ h)) (U : h < 2 ^ 64) where
   W : ℕ
-  W = Step i
+  W = Grain i
 
   Q : ℕ
   Q = Fraction n i s

@@ -27,14 +27,14 @@ Leads (Unsure c k) n i = Between n i c k × (k ≤ place i + i)
 
 -- ---- inside the crate
 
--- the fraction, in units of the smallest float and times 2 ^ (863 + s); and one step of the leading word, as much larger
+-- the fraction, in units of the smallest float and times 2 ^ (863 + s); and one grain of the leading word, as much larger
 abbrev pub Fraction : ℕ → ℕ → ℕ → ℕ
 Fraction n i s = above n i * 2 ^ 1074 * 2 ^ (863 + s)
 
-abbrev pub Step : ℕ → ℕ
-Step i = 2 ^ (place i + i + 796) * below i
+abbrev pub Grain : ℕ → ℕ
+Grain i = 2 ^ (place i + i + 796) * below i
 
--- the fraction is at least h steps of the word, and less than h + d
+-- the fraction is at least h grains of the word, and less than h + d
 pub record Bracket (n i s h : ℕ) (d : ℕ) : Type 0 where
-  pub low : h * Step i ≤ Fraction n i s
-  pub high : Fraction n i s < (h + d) * Step i
+  pub low : h * Grain i ≤ Fraction n i s
+  pub high : Fraction n i s < (h + d) * Grain i

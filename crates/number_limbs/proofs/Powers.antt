@@ -1,10 +1,10 @@
 -- Powers by many factors at a time, and a number put into two limbs. Assumes nothing.
-use mathlib.Core.Path.{_≡_, refl, sym, ap, _∙_, subst}
+use mathlib.Core.Path.{_≡_, sym, ap, _∙_}
 use mathlib.Core.List.{List, [], _∷_}
-use Prim.Native.Nat.{ℕ, zero, suc, _+_, _*_, _/_, _%_, _^_, _≤_, _<_}
-use native.Mathlib.Nat.{le-trans, le-of-eq, lt-of-le-of-lt, mul-assoc, mul-one, mul-zero, mul-suc, mul-pos, mul-le-mul-left, pow-zero, pow-suc, one-le-pow, pow-le-pow-right, div-add-mod'}
+use Prim.Native.Nat.{ℕ, zero, suc, _*_, _/_, _%_, _^_, _≤_, _<_}
+use native.Mathlib.Nat.{le-trans, le-of-eq, lt-of-le-of-lt, mul-assoc, mul-one, mul-le-mul-left, pow-zero, pow-suc, one-le-pow, div-add-mod'}
 use native.Mathlib.Omega.{arith}
-use lib.ListN.{length, getD, set}
+use lib.ListN.{length, set}
 use lib.Pow.{pow-add, pow-pos}
 use Rattle.number_limbs.specs.Limbs.{value, Limbs}
 use Rattle.number_limbs.proofs.Steps.{K, set-limbs}

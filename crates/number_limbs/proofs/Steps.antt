@@ -1,14 +1,14 @@
 -- A turn of the loop of `mul_add`. Assumes nothing.
 use mathlib.Core.Path.{_≡_, refl, sym, ap, _∙_, subst}
 use mathlib.Core.List.{List, [], _∷_, _++_}
-use Prim.Native.Nat.{ℕ, zero, suc, _+_, _-_, _*_, _/_, _%_, _^_, _≤_, _<_}
-use native.Mathlib.Nat.{le-refl, mul-add, mul-assoc, mul-comm, mul-left-comm, mul-le-mul, pow-suc, pow-succ', ne-of-lt, one-mul, zero-add, div-add-mod'}
+use Prim.Native.Nat.{ℕ, suc, _+_, _-_, _*_, _/_, _%_, _^_, _≤_, _<_}
+use native.Mathlib.Nat.{le-refl, mul-add, mul-assoc, mul-comm, mul-left-comm, mul-le-mul, pow-suc, pow-succ', one-mul}
 use native.Mathlib.Numerals.{add-one}
 use native.Mathlib.Omega.{arith}
 use mathlib.Core.Bool.{Bool, true, false}
 use lib.Dec.{eqb}
 use borrow.Author.Tests.{eqb-true, eqb-false}
-use lib.ListN.{length, take, drop, getD, set, length-set}
+use lib.ListN.{length, take, getD, set, length-set}
 use lib.Seq.{take-suc, take-suc-set, take-all, length-take-le, getD-set-same, getD-set-other}
 use Rattle.number_limbs.specs.Limbs.{value, Limbs}
 

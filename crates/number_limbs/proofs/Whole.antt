@@ -1,12 +1,12 @@
 -- Repeated products, and the order of two numbers by their highest limb that differs. Assumes nothing.
-use mathlib.Core.Path.{_≡_, refl, sym, ap, _∙_, subst}
+use mathlib.Core.Path.{_≡_, sym, ap, _∙_}
 use mathlib.Core.List.{List, [], _∷_, _++_}
 use Prim.Native.Nat.{ℕ, zero, suc, _+_, _-_, _*_, _^_, _≤_, _<_}
-use native.Mathlib.Nat.{le-trans, le-of-eq, lt-of-le-of-lt, lt-of-lt-of-le, mul-add, mul-assoc, mul-comm, mul-one, mul-left-comm, mul-le-mul-left, mul-pos, pow-suc, pow-succ', pow-le-pow-right, one-le-pow, one-mul, le-of-suc-le-suc}
+use native.Mathlib.Nat.{le-trans, le-of-eq, lt-of-le-of-lt, lt-of-lt-of-le, mul-add, mul-assoc, mul-left-comm, mul-le-mul-left, pow-succ', pow-le-pow-right, one-mul}
 use native.Mathlib.Numerals.{add-one}
 use native.Mathlib.Omega.{arith}
 use lib.ListN.{length, take, drop, getD, take-append-drop}
-use lib.Seq.{drop-cons, length-take-le, getD-take}
+use lib.Seq.{drop-cons, length-take-le}
 use Rattle.number_limbs.specs.Limbs.{value, Limbs}
 use Rattle.number_limbs.proofs.Steps.{K}
 

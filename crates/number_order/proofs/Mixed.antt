@@ -2,7 +2,7 @@
 -- The i64 stands as its bits have it; n is its magnitude. Assumes nothing.
 use mathlib.Core.Path.{_≡_, sym, ap, _∙_, subst}
 use mathlib.Core.Bool.{Bool, true, false}
-use Prim.Native.Nat.{ℕ, _-_, _*_, _^_, _≤_, _<_, compare}
+use Prim.Native.Nat.{ℕ, _*_, _^_, _≤_, _<_, compare}
 use native.Mathlib.Nat.{mul-pos}
 use native.Mathlib.Omega.{arith}
 use lib.Pow.{pow-pos}

@@ -1,7 +1,7 @@
 -- The sign and the magnitude of an i64, as its bits have them. Assumes nothing.
 use mathlib.Core.Path.{_≡_, refl, sym, ap, _∙_}
 use mathlib.Core.Bool.{Bool, true, false, true≢false}
-use Prim.Native.Nat.{ℕ, suc, _+_, _-_, _*_, _^_, _≤_, _<_}
+use Prim.Native.Nat.{ℕ, suc, _+_, _-_, _^_, _<_}
 use native.Mathlib.Nat.{lt-of-lt-of-le, mul-one}
 use native.Mathlib.Omega.{arith}
 use lib.Dec.{T, lit≤, leb·suc-zero}

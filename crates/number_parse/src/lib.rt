@@ -1,6 +1,6 @@
 // The readers of ints and of number literals: each reads one rule of the grammar at a place of a text.
+use limits::MAX_INT;
 use number_digits::UnsignedRead;
-use number_floats::MAX_INT;
 use number_literals::Literal;
 ghost use mathlib.Core.Path.{_≡_};
 ghost use Prim.Native.Nat.{_≤_};

@@ -1,21 +1,19 @@
 -- The bits of the nearest float: c steps of 2 ^ k units that are nearest have the bits k * 2 ^ 52 + c, or those of an infinity where that is past the largest float.
 -- Assumes nothing.
 use mathlib.Core.Path.{_≡_, refl, sym, ap, _∙_, subst}
-use mathlib.Core.Logic.{_⊎_, inl, inr, ⊎-elim}
+use mathlib.Core.Logic.{_⊎_, ⊎-elim}
 use mathlib.Core.Bool.{Bool, true, false, not, cond}
 use Prim.Native.Nat.{ℕ, zero, suc, _+_, _-_, _*_, _/_, _^_, _≤_, _<_, min}
-use native.Mathlib.Nat.{le-refl, le-trans, le-of-eq, le-antisymm, lt-irrefl, lt-of-lt-of-le, lt-of-le-of-lt, lt-of-not-le, not-le-of-lt, mul-assoc, mul-le-mul-right, mul-lt-mul-of-pos-right, le-of-mul-le-mul-right, mul-div-cancel, eq-or-lt-of-le}
+use native.Mathlib.Nat.{le-refl, le-trans, le-of-eq, le-antisymm, lt-irrefl, lt-of-lt-of-le, lt-of-le-of-lt, lt-of-not-le, not-le-of-lt, mul-le-mul-right, mul-lt-mul-of-pos-right, le-of-mul-le-mul-right, mul-div-cancel, eq-or-lt-of-le}
 use native.Mathlib.Omega.{arith}
-use lib.Dec.{T, leb, leb→le, nleb→lt, ltb, ltb→lt, lit<}
+use lib.Dec.{T, leb, leb→le, nleb→lt, lit<}
 use lib.Pow.{pow-add, pow-pos, pow-mono}
-use lib.Ieee.{Float, inf, binary64, size, units, round, toBits, low}
+use lib.Ieee.{Float, binary64, size, units, round, toBits, low}
 use lib.Ieee.Digits.{size-lt, size-le}
 use lib.Ieee.Exact.{HasValue, units-val}
 use lib.Ieee.Fits.{round-is}
 use lib.Ieee.Order.{drop, kept}
 use lib.Ieee.Scale.{grid, overflow}
-use borrow.Author.Tests.{ltb-true, ltb-false}
-use Rattle.number_rounding.specs.Near.{Nearest}
 use Rattle.number_rounding.specs.Round.{kept-le, full, grid-nearest}
 use Rattle.number_rounding.specs.Unique.{Magnitude, carry, next, exponents, one-nearest, bitsOf, bits-are}
 use Rattle.number_rounding.specs.Decided.{Best}

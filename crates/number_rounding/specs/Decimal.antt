@@ -4,7 +4,7 @@
 use mathlib.Core.Path.{_≡_, refl, sym, ap, _∙_, subst}
 use mathlib.Core.Bool.{Bool, true, false, not, true≢false}
 use Prim.Native.Nat.{ℕ, _+_, _*_, _/_, _%_, _^_, _≤_, _<_, min}
-use native.Mathlib.Nat.{le-trans, le-of-eq, lt-of-le-of-lt, lt-of-lt-of-le, not-le-of-lt, one-le-pow}
+use native.Mathlib.Nat.{le-of-eq, lt-of-le-of-lt, one-le-pow}
 use native.Mathlib.Omega.{arith}
 use borrow.Author.Tests.{lt-ltb}
 use lib.Dec.{T, leb, leb→le, nleb→lt}
@@ -20,7 +20,6 @@ use Rattle.definition.specs.Literals.{nearest}
 use Rattle.number_rounding.specs.Near.{Nearest, Rounded}
 use Rattle.number_rounding.specs.Round.{grid-nearest, round-nearest}
 use Rattle.number_rounding.specs.Unique.{Magnitude, magnitude, no-overflow, one-nearest, same-bits}
-use Rattle.number_rounding.specs.Decided.{Best}
 use Rattle.number_rounding.specs.Bits.{infinity, signBit, capped, kept-best, under, round-past, round-bits, NearestBits, bits-of-round}
 
 -- N times ten to E is the fraction above / below

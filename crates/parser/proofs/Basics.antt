@@ -15,52 +15,51 @@ use Rattle.definition.specs.Grammar.{spellParen, spellBasic, spellOperator}
 use Rattle.definition.specs.Grammar.Test.{queryTest, functionTest}
 use Rattle.parser_follow.specs.Blanks.{split-blanks}
 use Rattle.basics.specs.Reads.{Reads, ReadsNone, StartsNot}
-use Rattle.parser_scan.specs.Text.{Is, Skipped, OperatorAt, operatorNumber}
+use Rattle.parser_scan.specs.Text.{Is, Skipped, OperatorAt}
 use Rattle.compile_writes.specs.Effects.{Effect, Writer, join, seq, mark, bytes, first, verdict}
 use Rattle.compile_writes.specs.Sorts.{Sort, sortBasic, sortParen, sortTest, sortComparable, sortFunction, valueVerdict, comparedVerdict}
 use Rattle.compile_writes.specs.Writes.{writeParen, writeTest, writeBasic, writeComparable, notTail}
 use Rattle.parser_follow.specs.Follow.{unblank, After}
-use Rattle.parser_follow.specs.Numbers.{sortNumber, sortOf, isComparable}
+use Rattle.parser_follow.specs.Numbers.{sortNumber, sortOf, isComparable, operatorNumber}
 use Rattle.parser_follow.specs.Pieces.{Operand, spellOperand, writeOperand, operandFlag, Side, spellSide, writeSide, BehindOf, spellBehindOf, writeBehindOf, behindOfSort, Negation, spellNegation, writeNegation}
 use Rattle.parser_follow.specs.Pieces.Operand.{queryOperand, functionOperand}
 use Rattle.parser_follow.specs.Pieces.Behind.{alone, compared}
 use Rattle.parser_follow.specs.Pieces.Negation.{testNegation}
-use Rattle.parser_items.specs.Reads.{Start, Read, Post, Put, PutMarked, next, stop}
+use Rattle.parser_items.specs.Reads.{Asks, Read, Post, PutMarked, next, stop}
 use Rattle.parser_items.specs.Laws.{Moved, done-then, done-seq, done-skip, marked-done}
-use Rattle.parser_items.specs.declared.State.{State}
+use Rattle.parser_items.specs.declared.Cursor.{Cursor}
 use Rattle.parser_items.specs.declared.Step.{Step}
 use Rattle.parser_items.specs.declared.Step.the-variants as step
 use Rattle.parser_laws.specs.Follows.{after-weaken}
 use Rattle.parser_laws.specs.So.{so-reads, so-none}
 use Rattle.parser_laws.specs.Sorted.{sort-of}
-use Rattle.parser_laws.specs.Joins.{plain}
 use Rattle.parser_laws.specs.Query.{meOperand}
 use Rattle.parser_laws.specs.Sides.{comparable-of, side-reads, side-incomparable, side-none}
 use Rattle.parser_laws.specs.Behind.{some-allowed, compared-allowed, behind-alone, behind-literal, behind-compared, behind-none, behind-incomparable}
 use Rattle.parser_laws.specs.Basic.{spellOperated, meOperated, operated-reads, operated-none-behind, operated-none, basic-operated, basic-paren, basic-negation, meNegation, filter-query-sort}
 use Rattle.parser_laws.specs.Negate.{notEffect, negated, negation-paren, TestOf, test-of, negation-none, negation-reads, negation-literal}
-use Rattle.parser.proofs.Steps.{start-moved, done-is, done-moved, post-so, stay, put-marked}
+use Rattle.parser.proofs.Steps.{asks-moved, done-is, done-moved, post-so, stay, put-marked}
 use Rattle.parser.proofs.Operands.{reads-at, done-at, byte-then, behind-blanks, operand-then}
 
 -- ---- a basic expression
 
-module _ {s P P' L L' : List ℕ} {a : State} {r : Step} where
+module _ {s P P' L L' : List ℕ} {a : Cursor} {r : Step} where
   -- a parenthesis
   pub basic-at-paren : Is s (a .at) 0x28 true → Post spellParen writeParen (λ t. sortNumber (sortParen t)) 0 s P P' L L' a r → Post spellBasic writeBasic (λ t. sortNumber (sortBasic t)) 2 s P P' L L' a r
   basic-at-paren i h = post-so 0 (basic-paren (a .pool) (i .1)) (omega arith) (stay a) (omega arith) h
 
   -- a negation, behind its "!"
-  pub basic-at-negation : {b : State} → Is s (a .at) 0x21 true → Moved a b (a .at + 1) → Post spellNegation writeNegation (λ t. 4) 2 s P P' L L' b r → Post spellBasic writeBasic (λ t. sortNumber (sortBasic t)) 2 s P P' L L' a r
+  pub basic-at-negation : {b : Cursor} → Is s (a .at) 0x21 true → Moved a b (a .at + 1) → Post spellNegation writeNegation (λ t. 4) 2 s P P' L L' b r → Post spellBasic writeBasic (λ t. sortNumber (sortBasic t)) 2 s P P' L L' a r
   basic-at-negation {b} i m h = post-so 2 (basic-negation (a .pool) (byte-then 0x21 (a .at) (b .at) s i (m .0))) (omega arith) m (omega (arith, m .0)) h
 
 -- where neither stands: an operand with what stands behind it
-module _ {s : List ℕ} {a : State} (x : Is s (a .at) 0x28 false) (y : Is s (a .at) 0x21 false) where
+module _ {s : List ℕ} {a : Cursor} (x : Is s (a .at) 0x28 false) (y : Is s (a .at) 0x21 false) where
   -- no operand
   pub basic-no-operand : {P P' L L' : List ℕ} {i : ℕ} → ReadsNone spellOperand (After 1) (drop (a .at) s) → Post spellBasic writeBasic (λ t. sortNumber (sortBasic t)) 2 s P P' L L' a (step.Stop i)
   basic-no-operand n = stop (so-none (λ m. m) (basic-operated (a .pool) x y) (λ l m. m) (operated-none n))
 
   -- both were read, or what stands behind the operand was not
-  pub basic-at-operand : {P P₁ P₂ L L₁ L₂ : List ℕ} {b : State} {f : ℕ} {r : Step} → Read spellOperand writeOperand operandFlag 1 s P P₁ L L₁ a b f → Post (spellBehindOf f) (writeBehindOf f) (behindOfSort f) 2 s P₁ P₂ L₁ L₂ b r
+  pub basic-at-operand : {P P₁ P₂ L L₁ L₂ : List ℕ} {b : Cursor} {f : ℕ} {r : Step} → Read spellOperand writeOperand operandFlag 1 s P P₁ L L₁ a b f → Post (spellBehindOf f) (writeBehindOf f) (behindOfSort f) 2 s P₁ P₂ L₁ L₂ b r
       → Post spellBasic writeBasic (λ t. sortNumber (sortBasic t)) 2 s P P₂ L L₂ a r
   basic-at-operand h g =
       post-so 2 (basic-operated (a .pool) x y) (omega arith) (stay a) (omega arith)
@@ -70,7 +69,7 @@ module _ {s : List ℕ} {a : State} (x : Is s (a .at) 0x28 false) (y : Is s (a .
 -- ---- a negation
 
 -- behind what has the flag f and is negated, the verdict on it was set and its tail was put
-abbrev pub NotPut : ℕ → List ℕ → List ℕ → State → State → Type 0
+abbrev pub NotPut : ℕ → List ℕ → List ℕ → Cursor → Cursor → Type 0
 NotPut f P P' a b = PutMarked P P' a b (notTail (sortOf f)) (record { verdict = comparedVerdict true (sortOf f); beyond = false })
 
 -- what is known of a test that is negated, from the operand that it is
@@ -88,9 +87,9 @@ test-negated p b x y = go (y .test) refl
         let f = sym (sort-of (sortFunction g)) in
         ap (λ (t : G.Test). meNegation p (testNegation b t)) e ∙ (λ j. (join (writeOperand (functionOperand g) p) (notEffect (f j)), 4)) ∙ ap (λ (z : Operand). negated (meOperand p z)) i
 
-module _ {s : List ℕ} {a b : State} {at : ℕ} (k : Skipped s (a .at) at) (m : Moved a b at) where
+module _ {s : List ℕ} {a b : Cursor} {at : ℕ} (k : Skipped s (a .at) at) (m : Moved a b at) where
   -- what is negated was read, and the tail put behind it
-  negated-read : {T : Type 0} {sp : T → List ℕ → List ℕ} {w : T → Writer} {fl : T → ℕ} {j f : ℕ} {P P₁ P₂ L L₁ : List ℕ} {c d : State} (h : Read sp w fl j s P P₁ L L₁ b c f) → NotPut f P₁ P₂ c d
+  negated-read : {T : Type 0} {sp : T → List ℕ → List ℕ} {w : T → Writer} {fl : T → ℕ} {j f : ℕ} {P P₁ P₂ L L₁ : List ℕ} {c d : Cursor} (h : Read sp w fl j s P P₁ L L₁ b c f) → NotPut f P₁ P₂ c d
       → {t : Negation} → meNegation (a .pool) t ≡ negated (w (h .tree) (a .pool), fl (h .tree)) → Reads spellNegation (meNegation (a .pool)) (After 2) (drop (a .at) s) t (drop (c .at) s)
       → Read spellNegation writeNegation (λ x. 4) 2 s P P₂ L L₁ a d 4
   negated-read {fl = fl} {P₁ = P₁} {P₂ = P₂} {c = c} {d = d} h q {t} e o =
@@ -108,7 +107,7 @@ module _ {s : List ℕ} {a b : State} {at : ℕ} (k : Skipped s (a .at) at) (m :
   -- a parenthesis
   module _ (i : Is s at 0x28 true) where
     -- it was read
-    pub negation-at-paren : {f : ℕ} {P P₁ P₂ L L₁ : List ℕ} {c d : State} → Read spellParen writeParen (λ t. sortNumber (sortParen t)) 0 s P P₁ L L₁ b c f → NotPut f P₁ P₂ c d
+    pub negation-at-paren : {f : ℕ} {P P₁ P₂ L L₁ : List ℕ} {c d : Cursor} → Read spellParen writeParen (λ t. sortNumber (sortParen t)) 0 s P P₁ L L₁ b c f → NotPut f P₁ P₂ c d
         → Read spellNegation writeNegation (λ t. 4) 2 s P P₂ L L₁ a d 4
     negation-at-paren h q =
         let so = negation-paren (a .pool) (sym (k .rest) ∙ i .1) in
@@ -124,13 +123,13 @@ module _ {s : List ℕ} {a b : State} {at : ℕ} (k : Skipped s (a .at) at) (m :
     pub negation-no-operand : {P P' L L' : List ℕ} {j : ℕ} → ReadsNone spellOperand (After 1) (drop (b .at) s) → Post spellNegation writeNegation (λ t. 4) 2 s P P' L L' a (step.Stop j)
     negation-no-operand n = stop (negation-none (a .pool) (λ l e. i l (k .rest ∙ e)) (subst (ReadsNone spellOperand (After 1)) (behind-blanks k (m .0)) n))
 
-    module _ {f : ℕ} {P P₁ L L₁ : List ℕ} {c : State} (h : Read spellOperand writeOperand operandFlag 1 s P P₁ L L₁ b c f) where
+    module _ {f : ℕ} {P P₁ L L₁ : List ℕ} {c : Cursor} (h : Read spellOperand writeOperand operandFlag 1 s P P₁ L L₁ b c f) where
       -- a literal, which is no test
       pub negation-of-literal : {P₂ L₂ : List ℕ} {j : ℕ} → f ≡ 0 → Post spellNegation writeNegation (λ t. 4) 2 s P P₂ L L₂ a (step.Stop j)
       negation-of-literal e = stop (negation-literal (a .pool) (λ l e. i l (k .rest ∙ e)) (reads-at h (m .1 .0 .1) (behind-blanks k (m .0))) (ap (λ (n : ℕ). eqb n 0) (sym (h .flag) ∙ e)))
 
       -- an operand that is a test
-      pub negation-at-operand : {P₂ : List ℕ} {d : State} → f ≢ 0 → NotPut f P₁ P₂ c d → Read spellNegation writeNegation (λ t. 4) 2 s P P₂ L L₁ a d 4
+      pub negation-at-operand : {P₂ : List ℕ} {d : Cursor} → f ≢ 0 → NotPut f P₁ P₂ c d → Read spellNegation writeNegation (λ t. 4) 2 s P P₂ L L₁ a d 4
       negation-at-operand n q =
           let z : eqb (operandFlag (h .tree)) 0 ≡ false = ne-eqb (operandFlag (h .tree)) 0 (λ e. n (h .flag ∙ e)) in
           negated-read h q (test-negated (a .pool) (split-blanks (drop (a .at) s) .0) (h .tree) (test-of (h .tree) z)) (negation-reads (a .pool) (λ l e. i l (k .rest ∙ e)) (reads-at h (m .1 .0 .1) (behind-blanks k (m .0))) z)
@@ -145,13 +144,13 @@ module _ {s : List ℕ} {at from : ℕ} (k : Skipped s from at) where
   operates : {e o : ℕ} (w : OperatorAt s at e o) → Reads spellOperator operatorNumber (StartsNot (eqb 0x3D)) (unblank (drop from s)) (w .operator) (drop e s)
   operates {e} w = subst (λ (z : List ℕ). Reads spellOperator operatorNumber (StartsNot (eqb 0x3D)) z (w .operator) (drop e s)) (k .rest) (w .reads)
 
-module _ (f : ℕ) {s P L : List ℕ} {a : State} {at : ℕ} (k : Skipped s (a .at) at) where
+module _ (f : ℕ) {s P L : List ℕ} {a : Cursor} {at : ℕ} (k : Skipped s (a .at) at) where
   -- no operator, which a literal needs
   pub behind-a-literal : {P' L' : List ℕ} {i : ℕ} → ReadsNone spellOperator (StartsNot (eqb 0x3D)) (drop at s) → f ≡ 0 → Post (spellBehindOf f) (writeBehindOf f) (behindOfSort f) 2 s P P' L L' a (step.Stop i)
   behind-a-literal n e = stop (behind-literal f 0 (none-behind k n) (ap (λ (x : ℕ). eqb x 0) e))
 
   -- no operator, where the operand is a test
-  pub behind-nothing : {x g : ℕ} → ReadsNone spellOperator (StartsNot (eqb 0x3D)) (drop at s) → Start x s P L a → f ≢ 0 → g ≡ sortNumber (sortOf f) → Read (spellBehindOf f) (writeBehindOf f) (behindOfSort f) 2 s P P L L a a g
+  pub behind-nothing : {x g : ℕ} → ReadsNone spellOperator (StartsNot (eqb 0x3D)) (drop at s) → Asks x s P L a → f ≢ 0 → g ≡ sortNumber (sortOf f) → Read (spellBehindOf f) (writeBehindOf f) (behindOfSort f) 2 s P P L L a a g
   behind-nothing n st z e = record {
     tree = record { tree = alone; allowed = some-allowed f (ne-eqb f 0 z) };
     reads = behind-alone f (a .pool) (none-behind k n) (ne-eqb f 0 z);
@@ -168,7 +167,7 @@ module _ (f : ℕ) {s P L : List ℕ} {a : State} {at : ℕ} (k : Skipped s (a .
     behind-not-compared c = stop (behind-incomparable f 0 (operates k w) c)
 
     -- an operator, and behind it the right side or none
-    pub behind-by-operator : {l : ℕ} {P' L' : List ℕ} {b : State} {r : Step} → Moved a b e → isComparable f ≡ true → l ≡ sortNumber (sortOf f) → Post spellSide (writeSide l o) (λ t. 4) 2 s P P' L L' b r
+    pub behind-by-operator : {l : ℕ} {P' L' : List ℕ} {b : Cursor} {r : Step} → Moved a b e → isComparable f ≡ true → l ≡ sortNumber (sortOf f) → Post spellSide (writeSide l o) (λ t. 4) 2 s P P' L L' b r
         → Post (spellBehindOf f) (writeBehindOf f) (behindOfSort f) 2 s P P' L L' a r
     behind-by-operator {l} {P'} {L'} {b} {r} m c q h =
         go (subst (λ (n : ℕ). Post spellSide (writeSide n (operatorNumber (w .operator))) (λ t. 4) 2 s P P' L L' b r) q (subst (λ (n : ℕ). Post spellSide (writeSide l n) (λ t. 4) 2 s P P' L L' b r) (w .number) h))
@@ -187,23 +186,23 @@ module _ (f : ℕ) {s P L : List ℕ} {a : State} {at : ℕ} (k : Skipped s (a .
         go (stop n) = stop (behind-none f 0 (operates k w) (subst (λ (i : ℕ). ReadsNone spellSide (After 2) (drop i s)) (m .0) n))
 
 -- behind the operator
-pub start-operator : {at e o : ℕ} {s P L : List ℕ} {a b : State} → Start 0 s P L a → Skipped s (a .at) at → OperatorAt s at e o → Moved a b e → Start 0 s P L b
-start-operator st k w m = start-moved st m (omega (arith, k .from, w .from)) (w .to) (w .utf8 (k .utf8 (st .utf8))) (omega arith)
+pub asks-operator : {at e o : ℕ} {s P L : List ℕ} {a b : Cursor} → Asks 0 s P L a → Skipped s (a .at) at → OperatorAt s at e o → Moved a b e → Asks 0 s P L b
+asks-operator st k w m = asks-moved st m (omega (arith, k .from, w .from)) (w .to) (w .utf8 (k .utf8 (st .utf8))) (omega arith)
 
 -- ---- the right side of a comparison
 
-module _ {s : List ℕ} {a b : State} {at : ℕ} (k : Skipped s (a .at) at) (m : Moved a b at) where
+module _ {s : List ℕ} {a b : Cursor} {at : ℕ} (k : Skipped s (a .at) at) (m : Moved a b at) where
   -- no operand
   pub right-none : (l o : ℕ) {P P' L L' : List ℕ} {i : ℕ} → ReadsNone spellOperand (After 1) (drop (b .at) s) → Post spellSide (writeSide l o) (λ t. 4) 2 s P P' L L' a (step.Stop i)
   right-none l o n = stop (side-none (subst (ReadsNone spellOperand (After 1)) (behind-blanks k (m .0)) n))
 
-  module _ {f : ℕ} {P P₁ L L₁ : List ℕ} {c : State} (h : Read spellOperand writeOperand operandFlag 1 s P P₁ L L₁ b c f) where
+  module _ {f : ℕ} {P P₁ L L₁ : List ℕ} {c : Cursor} (h : Read spellOperand writeOperand operandFlag 1 s P P₁ L L₁ b c f) where
     -- an operand that may not be compared
     pub right-not-compared : (l o : ℕ) {P₂ L₂ : List ℕ} {i : ℕ} → isComparable f ≡ false → Post spellSide (writeSide l o) (λ t. 4) 2 s P P₂ L L₂ a (step.Stop i)
     right-not-compared l o e = stop (side-incomparable l o (a .pool) (reads-at h (m .1 .0 .1) (behind-blanks k (m .0))) (ap isComparable (sym (h .flag)) ∙ e))
 
     -- an operand that may be compared, and the comparison put behind it
-    pub right-read : (l o : ℕ) {r : ℕ} {P₂ : List ℕ} {d : State} → isComparable f ≡ true → r ≡ sortNumber (sortOf f)
+    pub right-read : (l o : ℕ) {r : ℕ} {P₂ : List ℕ} {d : Cursor} → isComparable f ≡ true → r ≡ sortNumber (sortOf f)
         → PutMarked P₁ P₂ c d (0x14 ∷ o ∷ []) (record { verdict = first (valueVerdict (sortOf l)) (valueVerdict (sortOf r)); beyond = false }) → Read spellSide (writeSide l o) (λ t. 4) 2 s P P₂ L L₁ a d 4
     right-read l o {r} {P₂} {d} e g q =
         let x : isComparable (operandFlag (h .tree)) ≡ true = ap isComparable (sym (h .flag)) ∙ e in

@@ -19,13 +19,13 @@ use Rattle.compile_writes.specs.Effects.{join, seq}
 use Rattle.compile_writes.specs.Sorts.{Sort, sortOr, sortMoreAnd, sortMoreOr, sortArgument}
 use Rattle.compile_writes.specs.Writes.{writeOr, writeMoreAnd, writeMoreOr, writeArgument}
 use Rattle.compile_writes.specs.Sizes.{sizedMoreAnd}
-use Rattle.parser_follow.specs.Follow.{rank, After}
+use Rattle.parser_follow.specs.Follow.{levelOf, After}
 use Rattle.parser_follow.specs.Numbers.{sortNumber, sortOf}
 use Rattle.parser_follow.specs.Pieces.{Operand, spellOperand, writeOperand, operandFlag, spellBehindOf, writeBehindOf, behindOfSort, ChainedOf, spellChainedOf, writeChainedOf, chainedOfSort}
 use Rattle.parser_follow.specs.Pieces.Operand.{literalOperand, queryOperand, functionOperand}
-use Rattle.parser_items.specs.Reads.{Start, Done, Read, Post, Operates, next, stop}
+use Rattle.parser_items.specs.Reads.{Asks, Done, Read, Post, Operates, next, stop}
 use Rattle.parser_items.specs.Laws.{done-seq, read-of}
-use Rattle.parser_items.specs.declared.State.{State}
+use Rattle.parser_items.specs.declared.Cursor.{Cursor}
 use Rattle.parser_items.specs.declared.Step.{Step}
 use Rattle.parser_items.specs.declared.Step.the-variants as step
 use Rattle.parser_laws.specs.Follows.{after-weaken}
@@ -34,20 +34,20 @@ use Rattle.parser_laws.specs.Sorted.{sort-of}
 use Rattle.parser_laws.specs.Joins.{join-pool}
 use Rattle.parser_laws.specs.Begins.{isOperandByte}
 use Rattle.parser_laws.specs.Basic.{query-some, function-some}
-use Rattle.parser_laws.specs.Behind.{operator-rank}
+use Rattle.parser_laws.specs.Behind.{operator-level}
 use Rattle.parser_laws.specs.Argument.{argument-logical, chained-reads, chained-none-or, chained-none-and, chained-none, spellChain, meChain, argument-chain, chain-reads, chain-none-rest, chain-none, no-literal-flag, no-literal-operator, argument-literal}
-use Rattle.parser.proofs.Steps.{start-read, done-is, post-so, stay}
+use Rattle.parser.proofs.Steps.{asks-read, done-is, post-so, stay}
 use Rattle.parser.proofs.Basics.{behind-nothing}
 use Rattle.parser.proofs.Logic.{and-loop, and-end, or-loop, or-end}
-use Rattle.parser.proofs.Operands.{sort-small, start-behind, reads-at, done-at, operand-then}
+use Rattle.parser.proofs.Operands.{sort-small, asks-behind, reads-at, done-at, operand-then}
 
 -- ---- what is left of a logical expression behind its first operand
 
 -- nothing that may stand behind the operand
-pub chained-no-behind : (f : ℕ) {s P P' L L' : List ℕ} {a : State} {i : ℕ} → ReadsNone (spellBehindOf f) (After 2) (drop (a .at) s) → Post (spellChainedOf f) (writeChainedOf f) (chainedOfSort f) 4 s P P' L L' a (step.Stop i)
+pub chained-no-behind : (f : ℕ) {s P P' L L' : List ℕ} {a : Cursor} {i : ℕ} → ReadsNone (spellBehindOf f) (After 2) (drop (a .at) s) → Post (spellChainedOf f) (writeChainedOf f) (chainedOfSort f) 4 s P P' L L' a (step.Stop i)
 chained-no-behind f {a = a} n = stop (chained-none f (a .pool) n)
 
-module _ {f : ℕ} {s P P₁ L L₁ : List ℕ} {a b : State} {n : ℕ} (h : Read (spellBehindOf f) (writeBehindOf f) (behindOfSort f) 2 s P P₁ L L₁ a b n) where
+module _ {f : ℕ} {s P P₁ L L₁ : List ℕ} {a b : Cursor} {n : ℕ} (h : Read (spellBehindOf f) (writeBehindOf f) (behindOfSort f) 2 s P P₁ L L₁ a b n) where
   -- the sort of what stands before the operands of `&&`
   abbrev sort : Sort
   sort = sortOf (behindOfSort f (h .tree))
@@ -56,14 +56,14 @@ module _ {f : ℕ} {s P P₁ L L₁ : List ℕ} {a b : State} {n : ℕ} (h : Rea
   pub chained-no-and : {P' L' : List ℕ} {i : ℕ} → ReadsNone spellMoreAnd (After 3) (drop (b .at) s) → Post (spellChainedOf f) (writeChainedOf f) (chainedOfSort f) 4 s P P' L L' a (step.Stop i)
   chained-no-and k = stop (chained-none-and f (a .pool) (h .reads) k)
 
-  module _ {P₂ L₂ : List ℕ} {c : State} {m : ℕ} (g₀ : Read spellMoreAnd (λ t. writeMoreAnd t (sortOf n) false) (λ t. sortNumber (sortMoreAnd t (sortOf n))) 3 s P₁ P₂ L₁ L₂ b c m) where
+  module _ {P₂ L₂ : List ℕ} {c : Cursor} {m : ℕ} (g₀ : Read spellMoreAnd (λ t. writeMoreAnd t (sortOf n) false) (λ t. sortNumber (sortMoreAnd t (sortOf n))) 3 s P₁ P₂ L₁ L₂ b c m) where
     -- the operands of `&&`, with the sort that the tree before them has
     g : Read spellMoreAnd (λ t. writeMoreAnd t sort false) (λ t. sortNumber (sortMoreAnd t sort)) 3 s P₁ P₂ L₁ L₂ b c m
     g = subst (λ (i : ℕ). Read spellMoreAnd (λ t. writeMoreAnd t (sortOf i) false) (λ t. sortNumber (sortMoreAnd t (sortOf i))) 3 s P₁ P₂ L₁ L₂ b c m) (h .flag) g₀
 
     -- there is room for the operands of `||`
-    pub start-chained : Start 0 s P L a → Start 0 s P₂ L₂ c × (m ≤ 4)
-    start-chained st = (start-read (λ t r. sizedMoreAnd t sort false r) (start-behind st h) g (omega arith), omega (arith, g .flag, sort-small (sortMoreAnd (g .tree) sort)))
+    pub asks-chained : Asks 0 s P L a → Asks 0 s P₂ L₂ c × (m ≤ 4)
+    asks-chained st = (asks-read (λ t r. sizedMoreAnd t sort false r) (asks-behind st h) g (omega arith), omega (arith, g .flag, sort-small (sortMoreAnd (g .tree) sort)))
 
     -- the operands of `||` were read, or there are none
     pub chained-then : {P₃ L₃ : List ℕ} {r : Step} → Post spellMoreOr (λ t. writeMoreOr t (sortOf m) false) (λ t. sortNumber (sortMoreOr t (sortOf m))) 4 s P₂ P₃ L₂ L₃ c r
@@ -91,10 +91,10 @@ module _ {f : ℕ} {s P P₁ L L₁ : List ℕ} {a b : State} {n : ℕ} (h : Rea
 
 -- behind a ")" no operator stands
 no-operator : {s l : List ℕ} → s ≡ 0x29 ∷ l → ReadsNone spellOperator (StartsNot (eqb 0x3D)) s
-no-operator e = record { none = λ o r k q. let x = sym (operator-rank o r) ∙ ap (λ (z : List ℕ). rank (hd z)) (sym q ∙ e) in absurd (omega (arith, x)) }
+no-operator e = record { none = λ o r k q. let x = sym (operator-level o r) ∙ ap (λ (z : List ℕ). levelOf (hd z)) (sym q ∙ e) in absurd (omega (arith, x)) }
 
 -- behind an operand that is no literal, nothing is left before the end of a call
-pub chained-end : {f e g : ℕ} {s P L : List ℕ} {a : State} → Start 0 s P L a → f ≢ 0 → Skipped s (a .at) e → Is s e 0x29 true → (g ≡ sortNumber (sortOf f)) × (g ≤ 4)
+pub chained-end : {f e g : ℕ} {s P L : List ℕ} {a : Cursor} → Asks 0 s P L a → f ≢ 0 → Skipped s (a .at) e → Is s e 0x29 true → (g ≡ sortNumber (sortOf f)) × (g ≤ 4)
     → Post (spellChainedOf f) (writeChainedOf f) (chainedOfSort f) 4 s P P L L a (step.Next a g)
 chained-end {f} {e} {g} {s} {P} {L} {a} st z k i x =
     let h = behind-nothing f k (no-operator (i .1)) st z (x .0) in
@@ -105,7 +105,7 @@ chained-end {f} {e} {g} {s} {P} {L} {a} st z k i x =
 -- ---- an argument
 
 -- what a parenthesis or a negation begins
-pub argument-at-logical : {c : ℕ} {s P P' L L' : List ℕ} {a : State} {r : Step} → isOperandByte c ≡ false → Is s (a .at) c true
+pub argument-at-logical : {c : ℕ} {s P P' L L' : List ℕ} {a : Cursor} {r : Step} → isOperandByte c ≡ false → Is s (a .at) c true
     → Post spellLogicalOr (λ t. writeOr t false) (λ t. sortNumber (sortOr t)) 4 s P P' L L' a r → Post spellArgument writeArgument (λ t. sortNumber (sortArgument t)) 4 s P P' L L' a r
 argument-at-logical {c} {a = a} n i h = post-so 4 (argument-logical (a .pool) c n (i .1)) (omega arith) (stay a) (omega arith) h
 
@@ -136,12 +136,12 @@ chain-writes p x y =
     ap (λ n. join (join e d) (join (writeMoreAnd (y .ands) σ false n) (writeMoreOr (y .ors) (sortMoreAnd (y .ands) σ) false (n + length (writeMoreAnd (y .ands) σ false n .pool))))) q ∙ effect-assoc e d _
 
 -- where neither a parenthesis nor a negation stands: an operand with what stands behind it
-module _ {s : List ℕ} {a : State} (u : Is s (a .at) 0x28 false) (v : Is s (a .at) 0x21 false) where
+module _ {s : List ℕ} {a : Cursor} (u : Is s (a .at) 0x28 false) (v : Is s (a .at) 0x21 false) where
   -- no operand
   pub argument-no-operand : {P P' L L' : List ℕ} {i : ℕ} → ReadsNone spellOperand (After 1) (drop (a .at) s) → Post spellArgument writeArgument (λ t. sortNumber (sortArgument t)) 4 s P P' L L' a (step.Stop i)
   argument-no-operand n = stop (so-none (λ m. m) (argument-chain (a .pool) u v (λ y r' z e. n .none (literalOperand y) r' (after-weaken 1 4 (omega arith) z) e)) (λ l m. m) (chain-none n))
 
-  module _ {P P₁ L L₁ : List ℕ} {b : State} {f : ℕ} (h : Read spellOperand writeOperand operandFlag 1 s P P₁ L L₁ a b f) where
+  module _ {P P₁ L L₁ : List ℕ} {b : Cursor} {f : ℕ} (h : Read spellOperand writeOperand operandFlag 1 s P P₁ L L₁ a b f) where
     -- a literal that no operator follows
     pub argument-at-literal : {e : ℕ} → f ≡ 0 → Skipped s (b .at) e → Operates s e false → Read spellArgument writeArgument (λ t. sortNumber (sortArgument t)) 4 s P P₁ L L₁ a b 0
     argument-at-literal z k n =

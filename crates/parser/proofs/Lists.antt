@@ -29,15 +29,15 @@ use Rattle.compile_writes.specs.Writes.{writeSelectors, writeSelector, countMor
 use Rattle.parser_follow.specs.Follow.{unblank, After}
 use Rattle.parser_follow.specs.Numbers.{plainFlag, bracketedFlag, writeSelection, bracketsNumber}
 use Rattle.parser_scan.specs.Text.{Is, Skipped}
-use Rattle.parser_items.specs.Reads.{Start, Done, Post, LooseRead, LoosePost, Put, next, stop}
-use Rattle.parser_items.specs.Laws.{Moved, done-then, done-counted, moved-done, start-go, done-plan, done-pool}
-use Rattle.parser_items.specs.declared.State.{State}
+use Rattle.parser_items.specs.Reads.{Asks, Done, Post, LooseRead, LoosePost, Put, next, stop}
+use Rattle.parser_items.specs.Laws.{Moved, done-then, done-counted, moved-done, asks-go, done-plan, done-pool}
+use Rattle.parser_items.specs.declared.Cursor.{Cursor}
 use Rattle.parser_items.specs.declared.Step.the-variants as step
 use Rattle.parser_laws.specs.Rep.{behind}
 use Rattle.parser_laws.specs.Loose.{Loosely, Exactly}
 use Rattle.parser_laws.specs.Selectors.{meSelector, meSelectors, Left, left-more, left-end, left-none}
 use Rattle.parser_laws.specs.Brackets.{meBracketed, spellPicked, mePicked, picked-reads, picked-exactly, picked-none, picked-none-more, bracketed-none, bracketed-open, bracketed-reads, brackets-mean, no-more}
-use Rattle.parser.proofs.Steps.{start-moved, start-put, loose-spent, done-is, done-moved, empty, none-join, join-then, join-empty, done-none}
+use Rattle.parser.proofs.Steps.{asks-moved, asks-put, loose-spent, done-is, done-moved, empty, none-join, join-then, join-empty, done-none}
 use Rattle.parser.proofs.Picks.{none-moved}
 
 -- ---- room behind a selector
@@ -60,26 +60,26 @@ count-spends (moreSelectors b c x xs) r =
     omega (arith, length-append (b .bytes) (0x2C ∷ (c .bytes ++ spellSelector x (spellSelectors xs r))), length-append (c .bytes) (spellSelector x (spellSelectors xs r)))
 
 -- behind one that was read
-pub start-selector : {s P P' Q Q' : List ℕ} {a b : State} {f : ℕ} → Start 12 s P Q a → LooseRead spellSelector writeSelector plainFlag 1 4 s P P' Q Q' a b f → Start 0 s P' Q' b
-start-selector {s = s} {a = a} {b = b} st h =
+pub asks-selector : {s P P' Q Q' : List ℕ} {a b : Cursor} {f : ℕ} → Asks 12 s P Q a → LooseRead spellSelector writeSelector plainFlag 1 4 s P P' Q Q' a b f → Asks 0 s P' Q' b
+asks-selector {s = s} {a = a} {b = b} st h =
     let v = loose-spent sizedSelector h in
     let l = length-drop (a .at) s in
     let m = length-drop (b .at) s in
     let n = ap length (h .eq) in
     let o = selector-spends (h .tree) (drop (b .at) s) in
-    start-go st (h .done) (h .from) (h .to) (h .utf8) (omega (arith, v .plan, st .text, h .to)) (omega (arith, v .pool))
+    asks-go st (h .done) (h .from) (h .to) (h .utf8) (omega (arith, v .plan, st .text, h .to)) (omega (arith, v .pool))
 
 -- ---- *( S "," S selector )
 
 -- at the head of the loop: n selectors were read from a to b
-pub record SelectorsLoop (s P P' Q Q' : List ℕ) (a b : State) (n : ℕ) : Type 0 where
+pub record SelectorsLoop (s P P' Q Q' : List ℕ) (a b : Cursor) (n : ℕ) : Type 0 where
   pub effect : Effect
   pub left : Left {M = Effect × ℕ} (λ t. (writeSelectors t (a .pool), countMore t)) n (b .pool) (drop (a .at) s) (drop (b .at) s) (behind effect)
   pub done : Done P P' Q Q' a b effect
   pub from : a .at + n ≤ b .at
-  pub start : Start 0 s P' Q' b
+  pub start : Asks 0 s P' Q' b
 
-pub selectors-start : {s P Q : List ℕ} {a : State} → Start 0 s P Q a → SelectorsLoop s P P Q Q a a 0
+pub selectors-start : {s P Q : List ℕ} {a : Cursor} → Asks 0 s P Q a → SelectorsLoop s P P Q Q a a 0
 selectors-start {a = a} st =
     let h : (t : G.Selectors) → _≡_ {A = Effect × ℕ} (writeSelectors t (a .pool), countMore t) (behind empty (meSelectors 0 (a .pool) t)) = λ t. ap (λ (n : ℕ). (writeSelectors t (a .pool), n)) (sym (zero-add (countMore t))) ∙ sym (none-join (meSelectors 0 (a .pool) t)) in
     record {
@@ -96,7 +96,7 @@ no-selectors n p =
     let e : n + 0 ≡ n = omega arith in
     ap (λ (k : ℕ). (empty, k)) e
 
-module _ {s P P' Q Q' : List ℕ} {a b : State} {n e : ℕ} (lp : SelectorsLoop s P P' Q Q' a b n) (k : Skipped s (b .at) e) where
+module _ {s P P' Q Q' : List ℕ} {a b : Cursor} {n e : ℕ} (lp : SelectorsLoop s P P' Q Q' a b n) (k : Skipped s (b .at) e) where
   -- no comma stands there
   pub selectors-over : Is s e 0x2C false → LoosePost spellSelectors writeSelectors countMore 0 5 s P P' Q Q' a (step.Next b n)
   selectors-over h =
@@ -120,13 +120,13 @@ module _ {s P P' Q Q' : List ℕ} {a b : State} {n e : ℕ} (lp : SelectorsLoop 
         utf8 = lp .start .utf8;
       })
 
-  module _ (h : Is s e 0x2C true) {e' : ℕ} (k' : Skipped s (e + 1) e') {d : State} (m : Moved b d e') where
+  module _ (h : Is s e 0x2C true) {e' : ℕ} (k' : Skipped s (e + 1) e') {d : Cursor} (m : Moved b d e') where
     -- a selector may be read behind it
-    pub selectors-begin : Start 12 s P' Q' d
+    pub selectors-begin : Asks 12 s P' Q' d
     selectors-begin =
         let u : isUtf8 (drop e s) ≡ true = k .utf8 (lp .start .utf8) in
         let v : isUtf8 (drop (e + 1) s) ≡ true = sym (utf8-ascii 0x2C (drop (e + 1) s) (omega arith)) ∙ ap isUtf8 (sym (h .1)) ∙ u in
-        start-moved (lp .start) m (omega (arith, k .from, k' .from)) (k' .to) (k' .utf8 v) (omega (arith, k .from, k' .from))
+        asks-moved (lp .start) m (omega (arith, k .from, k' .from)) (k' .to) (k' .utf8 v) (omega (arith, k .from, k' .from))
 
     comma : unblank (drop (b .at) s) ≡ 0x2C ∷ drop (e + 1) s
     comma = sym (k .rest) ∙ h .1
@@ -136,7 +136,7 @@ module _ {s P P' Q Q' : List ℕ} {a b : State} {n e : ℕ} (lp : SelectorsLoop 
     selectors-stop x = stop (left-none n (b .pool) (behind (lp .effect)) (lp .left) comma (subst (ReadsNone spellSelector (After 4)) (k' .rest) (none-moved s b d m x)))
 
     -- one selector more
-    pub selectors-again : {P'' Q'' : List ℕ} {c : State} {g : ℕ} → LooseRead spellSelector writeSelector plainFlag 1 4 s P' P'' Q' Q'' d c g → SelectorsLoop s P P'' Q Q'' a c (n + 1)
+    pub selectors-again : {P'' Q'' : List ℕ} {c : Cursor} {g : ℕ} → LooseRead spellSelector writeSelector plainFlag 1 4 s P' P'' Q' Q'' d c g → SelectorsLoop s P P'' Q Q'' a c (n + 1)
     selectors-again {P''} {Q''} {c = c} rd =
         let x = rd .tree in
         let w = writeSelector x (b .pool) in
@@ -156,7 +156,7 @@ module _ {s P P' Q Q' : List ℕ} {a b : State} {n e : ℕ} (lp : SelectorsLoop 
           left = subst (λ (v : ℕ). Left {M = Effect × ℕ} (λ t. (writeSelectors t (a .pool), countMore t)) (n + 1) v (drop (a .at) s) (drop (c .at) s) (behind (join (lp .effect) w))) (sym (dn .pool)) z;
           done = done-then (lp .done) dn;
           from = omega (arith, lp .from, k .from, k' .from, m .0, rd .from);
-          start = start-selector selectors-begin rd;
+          start = asks-selector selectors-begin rd;
         }
 
 -- ---- "[" S selector *( S "," S selector ) S "]"
@@ -183,23 +183,23 @@ counted-is kind c n E p e =
     ap (λ (k : ℕ). record { plan = kind ∷ (two k ++ E .plan); pool = E .pool; marks = E .marks }) f
 
 -- what no bracket begins is no bracketed selection
-pub brackets-none : {s P P' Q Q' : List ℕ} (kind : ℕ) {a : State} {i : ℕ} → Is s (a .at) 0x5B false → Post spellBracketed (writeSelection kind) bracketedFlag 0 s P P' Q Q' a (step.Stop i)
+pub brackets-none : {s P P' Q Q' : List ℕ} (kind : ℕ) {a : Cursor} {i : ℕ} → Is s (a .at) 0x5B false → Post spellBracketed (writeSelection kind) bracketedFlag 0 s P P' Q Q' a (step.Stop i)
 brackets-none {s} kind {a} n = stop (record { none = none })
   where
     none : (t' : G.Bracketed) (r' : List ℕ) → After 0 r' → drop (a .at) s ≡ spellBracketed t' r' → ⊥
     none (bracketed b x xs c) r' f e = n _ e
 
-module _ (kind : ℕ) {s P Q : List ℕ} {a d : State} {e : ℕ} (st : Start 0 s P Q a) (i : Is s (a .at) 0x5B true) (sk : Skipped s (a .at + 1) e) (mv : Moved a d e) where
+module _ (kind : ℕ) {s P Q : List ℕ} {a d : Cursor} {e : ℕ} (st : Asks 0 s P Q a) (i : Is s (a .at) 0x5B true) (sk : Skipped s (a .at + 1) e) (mv : Moved a d e) where
   -- room for the kind and a count
-  pub brackets-room : Start 15 s P Q d
+  pub brackets-room : Asks 15 s P Q d
   brackets-room =
       let v : isUtf8 (drop (a .at + 1) s) ≡ true = sym (utf8-ascii 0x5B (drop (a .at + 1) s) (omega arith)) ∙ ap isUtf8 (sym (i .1)) ∙ st .utf8 in
-      start-moved st mv (omega (arith, sk .from)) (sk .to) (sk .utf8 v) (omega (arith, sk .from))
+      asks-moved st mv (omega (arith, sk .from)) (sk .to) (sk .utf8 v) (omega (arith, sk .from))
 
-  module _ {P₁ : List ℕ} {h : State} (op : Put P P₁ d h (kind ∷ 0 ∷ 0 ∷ [])) where
+  module _ {P₁ : List ℕ} {h : Cursor} (op : Put P P₁ d h (kind ∷ 0 ∷ 0 ∷ [])) where
     -- a selector may be read
-    pub brackets-begin : Start 12 s P₁ Q h
-    brackets-begin = start-put brackets-room op (omega arith)
+    pub brackets-begin : Asks 12 s P₁ Q h
+    brackets-begin = asks-put brackets-room op (omega arith)
 
     at : drop (h .at) s ≡ unblank (drop (a .at + 1) s)
     at = ap (λ (z : ℕ). drop z s) (op .at ∙ mv .0) ∙ sk .rest
@@ -211,10 +211,10 @@ module _ (kind : ℕ) {s P Q : List ℕ} {a d : State} {e : ℕ} (st : Start 0 s
     pub brackets-stop : {j : ℕ} {P′ Q′ : List ℕ} → ReadsNone spellSelector (After 4) (drop (h .at) s) → Post spellBracketed (writeSelection kind) bracketedFlag 0 s P P′ Q Q′ a (step.Stop j)
     brackets-stop x = stop (bracketed-none kind (a .pool) (i .1) (picked-none (subst (ReadsNone spellSelector (After 4)) at x)))
 
-    module _ {P₂ Q₁ : List ℕ} {n : State} {f : ℕ} (rd : LooseRead spellSelector writeSelector plainFlag 1 4 s P₁ P₂ Q Q₁ h n f) where
+    module _ {P₂ Q₁ : List ℕ} {n : Cursor} {f : ℕ} (rd : LooseRead spellSelector writeSelector plainFlag 1 4 s P₁ P₂ Q Q₁ h n f) where
       -- more selectors may be read
-      pub brackets-more : Start 0 s P₂ Q₁ n
-      brackets-more = start-selector brackets-begin rd
+      pub brackets-more : Asks 0 s P₂ Q₁ n
+      brackets-more = asks-selector brackets-begin rd
 
       first : Loosely spellSelector (meSelector (a .pool)) (After 4) (unblank (drop (a .at + 1) s)) (rd .tree) (drop (n .at) s)
       first = subst (λ (l : List ℕ). Loosely spellSelector (meSelector (a .pool)) (After 4) l (rd .tree) (drop (n .at) s)) at (subst (λ (z : ℕ). Loosely spellSelector (meSelector z) (After 4) (drop (h .at) s) (rd .tree) (drop (n .at) s)) pl (record { eq = rd .eq; same = rd .same; rest = rd .rest }))
@@ -223,7 +223,7 @@ module _ (kind : ℕ) {s P Q : List ℕ} {a d : State} {e : ℕ} (st : Start 0 s
       pub brackets-stop-more : {j : ℕ} {P′ Q′ : List ℕ} → ReadsNone spellSelectors (After 5) (drop (n .at) s) → Post spellBracketed (writeSelection kind) bracketedFlag 0 s P P′ Q Q′ a (step.Stop j)
       brackets-stop-more x = stop (bracketed-none kind (a .pool) (i .1) (picked-none-more (a .pool) first x))
 
-      module _ {P₃ Q₂ : List ℕ} {m : State} {c : ℕ} (rs : LooseRead spellSelectors writeSelectors countMore 0 5 s P₂ P₃ Q₁ Q₂ n m c) where
+      module _ {P₃ Q₂ : List ℕ} {m : Cursor} {c : ℕ} (rs : LooseRead spellSelectors writeSelectors countMore 0 5 s P₂ P₃ Q₁ Q₂ n m c) where
         -- the pool behind the first selector
         pn : n .pool ≡ a .pool + length (writeSelector (rd .tree) (a .pool) .pool)
         pn = rd .done .pool ∙ (λ x. pl x + length (writeSelector (rd .tree) (pl x) .pool))
@@ -269,7 +269,7 @@ module _ (kind : ℕ) {s P Q : List ℕ} {a d : State} {e : ℕ} (st : Start 0 s
               let z = done-plan inner in
               omega (arith, mv .1 .0 .0)
 
-          pub brackets-read : {P₄ : List ℕ} {o : State} {g : ℕ} → Is s e₂ 0x5D true → Wrote P₃ (a .len + 1) (two (c + 1)) P₄ → Moved m o (e₂ + 1) → g ≡ bracketsNumber f c (eqb e (a .at + 1)) (eqb e₂ (m .at)) → Post spellBracketed (writeSelection kind) bracketedFlag 0 s P P₄ Q Q₂ a (step.Next o g)
+          pub brackets-read : {P₄ : List ℕ} {o : Cursor} {g : ℕ} → Is s e₂ 0x5D true → Wrote P₃ (a .len + 1) (two (c + 1)) P₄ → Moved m o (e₂ + 1) → g ≡ bracketsNumber f c (eqb e (a .at + 1)) (eqb e₂ (m .at)) → Post spellBracketed (writeSelection kind) bracketedFlag 0 s P P₄ Q Q₂ a (step.Next o g)
           brackets-read {P₄} {o} {g} j w mo q =
               let x = rd .tree in
               let xs = rs .tree in

@@ -1,42 +1,37 @@
--- The laws of the reader's functions for `&&`, `||`, parentheses and calls: what a function asks and ensures, from what its callees ensure. Assumes nothing.
+-- The laws of the reader's functions for `&&` and `||`: what a function asks and ensures, from what its callees ensure. Assumes nothing.
 use mathlib.Core.Path.{_≡_, refl, sym, ap, subst, _∙_}
 use mathlib.Core.Bool.{Bool, true, false}
 use mathlib.Core.List.{List, [], _∷_}
 use Prim.Native.Nat.{ℕ, zero, suc, _+_, _-_, _^_, _≤_, _<_}
 use native.Mathlib.Omega.{arith}
 use borrow.Author.Tests.{leb-true}
-use lib.Dec.{eqb, leb, lit≤, lit<}
+use lib.Dec.{eqb, leb, lit≤}
 use lib.ListN.{length, drop, getD, length-drop}
 use lib.Seq.{length-sets}
 use Rattle.definition.specs.Utf8.{isUtf8}
 use Rattle.definition.specs.Plans.{two}
 use Rattle.definition.specs.Grammar as G
-use Rattle.definition.specs.Grammar.{spellLogicalOr, spellMoreOr, spellLogicalAnd, spellMoreAnd, spellBasic, spellParen, spellArguments, spellMoreArguments, spellArgument}
+use Rattle.definition.specs.Grammar.{spellLogicalOr, spellMoreOr, spellLogicalAnd, spellMoreAnd, spellBasic, spellArguments}
 use Rattle.definition.specs.Grammar.LogicalOr.{logicalOr}
 use Rattle.definition.specs.Grammar.LogicalAnd.{logicalAnd}
 use Rattle.definition.specs.Grammar.MoreOr.{noOr}
 use Rattle.definition.specs.Grammar.MoreAnd.{noAnd}
-use Rattle.definition.specs.Grammar.Paren.{paren}
-use Rattle.definition.specs.Grammar.Arguments.{noArgument, arguments}
-use Rattle.definition.specs.Grammar.MoreArguments.{noMore}
-use Rattle.parser_follow.specs.Blanks.{split-blanks}
 use Rattle.compile_writes.specs.Laws.{effect-assoc}
 use Rattle.basics.specs.Lists.{drop-at}
 use Rattle.basics.specs.Reads.{Reads, ReadsNone, Wrote}
 use Rattle.utf8_laws.specs.Bytes.{by-test}
 use Rattle.utf8_laws.specs.Encode.{utf8-ascii}
-use Rattle.compile_writes.specs.Effects.{Marks, joinMarks, Effect, Writer, join, seq, mark, bytes, skip}
-use Rattle.compile_writes.specs.Sorts.{Sort, sortMoreOr, sortMoreAnd, sortOr, sortAnd, sortBasic, sortParen, sortArgument, sortsOf, sortsMore, comparedVerdict, callVerdict, namedSort}
+use Rattle.compile_writes.specs.Effects.{Marks, joinMarks, Effect, Writer, join, skip}
+use Rattle.compile_writes.specs.Sorts.{Sort, sortMoreOr, sortMoreAnd, sortOr, sortAnd, sortBasic, sortsOf, comparedVerdict}
 use Rattle.compile_writes.specs.Sorts.Sort.{literalSort, singularSort, nodesSort, valueSort, logicalSort}
-use Rattle.compile_writes.specs.Writes.{writeOr, writeMoreOr, writeAnd, writeMoreAnd, writeBasic, writeParen, writeArguments, writeMoreArguments, writeArgument, testTail, callBytes}
-use Rattle.compile_writes.specs.Sizes.{sizedBasic, sizedAnd, sizedArgument, sizedArguments}
+use Rattle.compile_writes.specs.Writes.{writeOr, writeMoreOr, writeAnd, writeMoreAnd, writeBasic, testTail}
+use Rattle.compile_writes.specs.Sizes.{sizedBasic, sizedAnd}
 use Rattle.parser_follow.specs.Follow.{unblank, After}
 use Rattle.parser_follow.specs.Numbers.{argumentsFrom}
-use Rattle.parser_follow.specs.Pieces.{Call, spellCall, writeCall, callSort}
 use Rattle.parser_scan.specs.Text.{Skipped, Is, Both}
-use Rattle.parser_items.specs.Reads.{marksOf, Start, Done, Read, Post, Put, PutMarked, Opens, Room, Known, sortNumber, sortOf, oneMore, nameOf, callMarks, sortsFrom, next, stop}
-use Rattle.parser_items.specs.Laws.{Moved, done-then, done-seq, done-skip, done-plan, moved-done, marked-done, start-less, unblank-twice}
-use Rattle.parser_items.specs.declared.State.{State}
+use Rattle.parser_items.specs.Reads.{marksOf, Asks, Done, Read, Post, Put, Opens, Room, Known, sortNumber, sortOf, oneMore, next, stop}
+use Rattle.parser_items.specs.Laws.{Moved, done-then, done-plan, asks-less}
+use Rattle.parser_items.specs.declared.Cursor.{Cursor}
 use Rattle.parser_items.specs.declared.Step.{Step}
 use Rattle.parser_items.specs.declared.Step.the-variants as step
 use Rattle.parser_laws.specs.Joins.{plain, marked, within}
@@ -45,16 +40,12 @@ use Rattle.parser_laws.specs.And.{meBasic, meAnd, meMoreAnd, and-reads, and-non
 use Rattle.parser_laws.specs.Or.{meMoreOr, or-reads, or-none-rest, write-or, sort-or}
 use Rattle.parser_laws.specs.MoreAnd.{ands, andDoes}
 use Rattle.parser_laws.specs.MoreOr.{ors, orDoes}
-use Rattle.parser_laws.specs.Paren.{meParen, paren-means, paren-reads, paren-none, paren-open}
-use Rattle.parser_laws.specs.Arguments.{meArguments, meMoreArguments, furthers, arguments-end, arguments-reads, arguments-none-more}
-use Rattle.parser_laws.specs.Call.{verdict-told, call-reads, call-open, call-none}
-use Rattle.parser_laws.specs.Words.{meCall}
-use Rattle.parser.proofs.Steps.{start-moved, start-skipped, start-put, start-read, done-is, done-moved, Loop, loop-start, loop-more, loop-end, loop-none, put-plain, judged-marked, done-within, empty}
+use Rattle.parser.proofs.Steps.{asks-moved, asks-put, asks-read, done-is, done-moved, Loop, loop-start, loop-more, loop-end, loop-none, put-plain, judged-marked, done-within, empty}
 
 -- ---- room
 
 -- there is the room that a function may start with
-pub room : (n : ℕ) {x : ℕ} {s P L : List ℕ} {a : State} → n ≤ x → Start x s P L a → Room n P a
+pub room : (n : ℕ) {x : ℕ} {s P L : List ℕ} {a : Cursor} → n ≤ x → Asks x s P L a → Room n P a
 room n h st = omega (arith, st .plan)
 
 -- ---- numbers of sorts
@@ -71,7 +62,7 @@ sort-small nodesSort = lit≤ tt
 sort-small valueSort = lit≤ tt
 sort-small logicalSort = lit≤ tt
 
-module _ {T : Type 0} {sp : T → List ℕ → List ℕ} {w : T → Writer} (g : T → Sort) {k : ℕ} {s P P' L L' : List ℕ} {a b : State} {f : ℕ} where
+module _ {T : Type 0} {sp : T → List ℕ → List ℕ} {w : T → Writer} (g : T → Sort) {k : ℕ} {s P P' L L' : List ℕ} {a b : Cursor} {f : ℕ} where
   -- what is told of a tree by its sort is a sort's number
   pub read-small : Read sp w (λ t. sortNumber (g t)) k s P P' L L' a b f → f ≤ 4
   read-small h = subst (λ (n : ℕ). n ≤ 4) (sym (h .flag)) (sort-small (g (h .tree)))
@@ -102,7 +93,7 @@ arguments-from n [] h = h
 arguments-from n (s ∷ ss) h = arguments-from (oneMore n (sortNumber s)) ss (oneMore-small n (sortNumber s) (sort-small s))
 
 -- what is told of arguments is at most 31
-pub arguments-small : {w : G.Arguments → Writer} {k : ℕ} {s P P' L L' : List ℕ} {a b : State} {f : ℕ} → Read spellArguments w (λ t. argumentsFrom 0 (sortsOf t)) k s P P' L L' a b f → f ≤ 31
+pub arguments-small : {w : G.Arguments → Writer} {k : ℕ} {s P P' L L' : List ℕ} {a b : Cursor} {f : ℕ} → Read spellArguments w (λ t. argumentsFrom 0 (sortsOf t)) k s P P' L L' a b f → f ≤ 31
 arguments-small h = subst (λ (n : ℕ). n ≤ 31) (sym (h .flag)) (arguments-from 0 (sortsOf (h .tree)) (lit≤ tt))
 
 -- ---- bytes that were passed over
@@ -114,22 +105,22 @@ utf8-is c a s h i u = sym (utf8-ascii c (drop (a + 1) s) h) ∙ ap isUtf8 (sym (
 pub utf8-both : (c d a : ℕ) (s : List ℕ) → c < 0x80 → d < 0x80 → Both s a c d true → isUtf8 (drop a s) ≡ true → isUtf8 (drop (a + 2) s) ≡ true
 utf8-both c d a s h g i u = sym (utf8-ascii d (drop (a + 2) s) g) ∙ sym (utf8-ascii c (d ∷ drop (a + 2) s) h) ∙ ap isUtf8 (sym (i .1)) ∙ u
 
--- the byte at the state's place, with the place behind it
-pub opens-is : {x : ℕ} {s : List ℕ} {a : State} → Opens x s a → Is s (a .at) x true
+-- the byte at the cursor's place, with the place behind it
+pub opens-is : {x : ℕ} {s : List ℕ} {a : Cursor} → Opens x s a → Is s (a .at) x true
 opens-is {x} {s} {a} o =
     let h : a .at < length s = omega (arith, sym (length-drop (a .at) s) ∙ ap length (o .is)) in
     let e : getD s (a .at) 0 ∷ drop (a .at + 1) s ≡ x ∷ o .rest = sym (drop-at s (a .at) h) ∙ o .is in
     let q : getD s (a .at) 0 ≡ x = cc in
     (omega arith, drop-at s (a .at) h ∙ ap (λ (n : ℕ). n ∷ drop (a .at + 1) s) q)
 
--- ---- states that differ in marks, or in bytes that were there
+-- ---- cursors that differ in marks, or in bytes that were there
 
 -- what `judged` ensures of the place
-abbrev pub Stays : State → State → Type 0
+abbrev pub Stays : Cursor → Cursor → Type 0
 Stays a b = (b .at ≡ a .at) × (b .len ≡ a .len) × (b .pool ≡ a .pool)
 
-pub start-judged : {x : ℕ} {s P L : List ℕ} {a b : State} → Start x s P L a → Stays a b → Start x s P L b
-start-judged {s = s} st j = record {
+pub asks-judged : {x : ℕ} {s P L : List ℕ} {a b : Cursor} → Asks x s P L a → Stays a b → Asks x s P L b
+asks-judged {s = s} st j = record {
   text = omega (arith, st .text, j .0);
   plan = omega (arith, st .plan, j .0, j .1);
   pool = omega (arith, st .pool, j .0, j .2);
@@ -138,8 +129,8 @@ start-judged {s = s} st j = record {
   utf8 = subst (λ (n : ℕ). isUtf8 (drop n s) ≡ true) (sym (j .0)) (st .utf8);
 }
 
-start-wrote : {x n : ℕ} {s P P' L c : List ℕ} {a : State} → Start x s P L a → Wrote P n c P' → Start x s P' L a
-start-wrote {n = n} {P = P} {c = c} st w =
+asks-wrote : {x n : ℕ} {s P P' L c : List ℕ} {a : Cursor} → Asks x s P L a → Wrote P n c P' → Asks x s P' L a
+asks-wrote {n = n} {P = P} {c = c} st w =
     let l = ap length (w .is) ∙ length-sets P n c in
     record { text = st .text; plan = omega (arith, st .plan); pool = st .pool; small = omega (arith, st .small); smallPool = st .smallPool; utf8 = st .utf8 }
 
@@ -154,8 +145,8 @@ tail-length logicalSort = lit≤ tt
 
 -- ---- an operator of two bytes, the tail of the operand before it, and the head of the frame for the operand behind it
 
--- Between the state now, behind an operand, and the state head, at the next one, `x x` was passed over and `tail` and the frame's head were written; left is the state before the frame.
-pub record Ready (x code : ℕ) (tail s P P₁ P₂ L : List ℕ) (now left head : State) : Type 0 where
+-- Between the cursor now, behind an operand, and the cursor head, at the next one, `x x` was passed over and `tail` and the frame's head were written; left is the cursor before the frame.
+pub record Ready (x code : ℕ) (tail s P P₁ P₂ L : List ℕ) (now left head : Cursor) : Type 0 where
   pub rest : List ℕ
   pub sep : unblank (drop (now .at) s) ≡ x ∷ x ∷ rest
   pub here : drop (head .at) s ≡ unblank rest
@@ -163,18 +154,18 @@ pub record Ready (x code : ℕ) (tail s P P₁ P₂ L : List ℕ) (now left head
   pub pool : head .pool ≡ now .pool
   pub tailed : Done P P₁ L L now left (plain tail)
   pub framed : Put P₁ P₂ left head (code ∷ 0 ∷ 0 ∷ [])
-  pub start : Start 24 s P₂ L head
+  pub start : Asks 24 s P₂ L head
 
 -- behind the operator there is room for 30 bytes more than is kept for what is unread
-pub start-operator : (x : ℕ) {a b : ℕ} {s P L : List ℕ} {now mv : State} → x < 0x80 → Start 0 s P L now → Skipped s (now .at) a → Both s a x x true → Skipped s (a + 2) b → Moved now mv b → Start 30 s P L mv
-start-operator x {a} {b} {s} h st k i j m =
-    start-moved st m (omega (arith, k .from, j .from)) (j .to) (j .utf8 (utf8-both x x a s h h i (k .utf8 (st .utf8)))) (omega (arith, k .from, j .from))
+pub asks-operator : (x : ℕ) {a b : ℕ} {s P L : List ℕ} {now mv : Cursor} → x < 0x80 → Asks 0 s P L now → Skipped s (now .at) a → Both s a x x true → Skipped s (a + 2) b → Moved now mv b → Asks 30 s P L mv
+asks-operator x {a} {b} {s} h st k i j m =
+    asks-moved st m (omega (arith, k .from, j .from)) (j .to) (j .utf8 (utf8-both x x a s h h i (k .utf8 (st .utf8)))) (omega (arith, k .from, j .from))
 
 -- and so behind the tail
-pub start-tailed : {s P P' L : List ℕ} {a b : State} (σ : Sort) {x : ℕ} → Start (x + 3) s P L a → Put P P' a b (testTail σ) → Start x s P' L b
-start-tailed σ st p = start-put st p (omega (arith, tail-length σ))
+pub asks-tailed : {s P P' L : List ℕ} {a b : Cursor} (σ : Sort) {x : ℕ} → Asks (x + 3) s P L a → Put P P' a b (testTail σ) → Asks x s P' L b
+asks-tailed σ st p = asks-put st p (omega (arith, tail-length σ))
 
-pub ready : (x : ℕ) (σ : Sort) {code a b : ℕ} {s P P₁ P₂ L : List ℕ} {now mv left hd : State} → x < 0x80 → Start 0 s P L now → Skipped s (now .at) a → Both s a x x true → Skipped s (a + 2) b → Moved now mv b
+pub ready : (x : ℕ) (σ : Sort) {code a b : ℕ} {s P P₁ P₂ L : List ℕ} {now mv left hd : Cursor} → x < 0x80 → Asks 0 s P L now → Skipped s (now .at) a → Both s a x x true → Skipped s (a + 2) b → Moved now mv b
     → Put P P₁ mv left (testTail σ) → Put P₁ P₂ left hd (code ∷ 0 ∷ 0 ∷ []) → Ready x code (testTail σ) s P P₁ P₂ L now left hd
 ready x σ {a = a} {s = s} {mv = mv} {left = left} {hd = hd} h st k i j m p q =
     let at : hd .at ≡ mv .at = q .at ∙ p .at in
@@ -186,16 +177,16 @@ ready x σ {a = a} {s = s} {mv = mv} {left = left} {hd = hd} h st k i j m p q =
       pool = q .pool ∙ p .pool ∙ m .1 .0 .1;
       tailed = done-moved m (put-plain p);
       framed = q;
-      start = start-put (start-tailed σ {x = 27} (start-operator x h st k i j m) p) q (lit≤ tt);
+      start = asks-put (asks-tailed σ {x = 27} (asks-operator x h st k i j m) p) q (lit≤ tt);
     }
 
 -- a frame that is open at the end of a plan: its head stands at left, and m is behind what it holds
-pub record Framed (P : List ℕ) (left m : State) : Type 0 where
+pub record Framed (P : List ℕ) (left m : Cursor) : Type 0 where
   pub above : left .len + 3 ≤ m .len
   pub fits : m .len ≤ length P
   pub small : length P < 65536
 
-module _ {P : List ℕ} {left m : State} (h : Framed P left m) where
+module _ {P : List ℕ} {left m : Cursor} (h : Framed P left m) where
   -- the sums and differences that give the frame's length and the place for it
   pub framed-place : left .len + 1 < 2 ^ 64
   framed-place = omega (arith, h .above, h .fits, h .small)
@@ -209,16 +200,16 @@ module _ {P : List ℕ} {left m : State} (h : Framed P left m) where
   pub framed-room : left .len + 1 + 2 ≤ length P
   framed-room = omega (arith, h .above, h .fits)
 
-module _ {x code : ℕ} {tail s P P₁ P₂ L : List ℕ} {now left hd : State} (r : Ready x code tail s P P₁ P₂ L now left hd) where
+module _ {x code : ℕ} {tail s P P₁ P₂ L : List ℕ} {now left hd : Cursor} (r : Ready x code tail s P P₁ P₂ L now left hd) where
   -- what the operand behind the operator writes, with its tail, stands in the frame
-  framed-done : {P₃ P₄ P₅ L' tail' : List ℕ} {n m : State} {e : Effect} → Done P₂ P₃ L L' hd n e → Put P₃ P₄ n m tail' → Wrote P₄ (left .len + 1) (two (m .len - left .len - 3)) P₅
+  framed-done : {P₃ P₄ P₅ L' tail' : List ℕ} {n m : Cursor} {e : Effect} → Done P₂ P₃ L L' hd n e → Put P₃ P₄ n m tail' → Wrote P₄ (left .len + 1) (two (m .len - left .len - 3)) P₅
       → Done P P₅ L L' now m (join (plain tail) (within code (join e (plain tail'))))
   framed-done d p w =
       let g = done-then d (put-plain p) in
       done-then (r .tailed) (done-within code (r .framed) g (omega (arith, g .len, r .framed .len)) w)
 
-  -- the operand behind the operator, as it is read from the state before the operator
-  ready-reads : {T : Type 0} {sp : T → List ℕ → List ℕ} {w : T → Writer} {fl : T → ℕ} {k f : ℕ} {P₃ L' : List ℕ} {n : State} (o : State) → o .at ≡ n .at → (h : Read sp w fl k s P₂ P₃ L L' hd n f)
+  -- the operand behind the operator, as it is read from the cursor before the operator
+  ready-reads : {T : Type 0} {sp : T → List ℕ → List ℕ} {w : T → Writer} {fl : T → ℕ} {k f : ℕ} {P₃ L' : List ℕ} {n : Cursor} (o : Cursor) → o .at ≡ n .at → (h : Read sp w fl k s P₂ P₃ L L' hd n f)
       → Reads {M = Effect × ℕ} sp (λ t. (w t (now .pool), fl t)) (After k) (unblank (r .rest)) (h .tree) (drop (o .at) s)
   ready-reads {sp = sp} {w = w} {fl = fl} {k = k} {n = n} o e h =
       subst (λ (c : ℕ). Reads {M = Effect × ℕ} sp (λ t. (w t (now .pool), fl t)) (After k) (unblank (r .rest)) (h .tree) (drop c s)) (sym e)
@@ -230,11 +221,11 @@ module _ {x code : ℕ} {tail s P P₁ P₂ L : List ℕ} {now left hd : State} 
   ready-plan = ap length (r .framed .plan) ∙ length-sets P₁ (left .len) (code ∷ 0 ∷ 0 ∷ []) ∙ done-plan (r .tailed)
 
   -- behind the operand less is unread
-  pub ready-less : {T : Type 0} {sp : T → List ℕ → List ℕ} {w : T → Writer} {fl : T → ℕ} {k f : ℕ} {P₃ L' : List ℕ} {n : State} (o : State) → o .at ≡ n .at → Read sp w fl k s P₂ P₃ L L' hd n f → length s - o .at < length s - now .at
+  pub ready-less : {T : Type 0} {sp : T → List ℕ → List ℕ} {w : T → Writer} {fl : T → ℕ} {k f : ℕ} {P₃ L' : List ℕ} {n : Cursor} (o : Cursor) → o .at ≡ n .at → Read sp w fl k s P₂ P₃ L L' hd n f → length s - o .at < length s - now .at
   ready-less o e h = omega (arith, r .from, h .from, h .to)
 
   -- the frame's two bytes stand below what was written behind them, and the plan is short
-  pub framed-fits : {T : Type 0} {sp : T → List ℕ → List ℕ} {w : T → Writer} {fl : T → ℕ} {k f y : ℕ} {P₃ P₄ L' tail' : List ℕ} {n m : State} → Read sp w fl k s P₂ P₃ L L' hd n f → Put P₃ P₄ n m tail' → Start y s P₄ L' m → Framed P₄ left m
+  pub framed-fits : {T : Type 0} {sp : T → List ℕ → List ℕ} {w : T → Writer} {fl : T → ℕ} {k f y : ℕ} {P₃ P₄ L' tail' : List ℕ} {n m : Cursor} → Read sp w fl k s P₂ P₃ L L' hd n f → Put P₃ P₄ n m tail' → Asks y s P₄ L' m → Framed P₄ left m
   framed-fits h p st = record { above = omega (arith, r .framed .len, h .done .len, p .len); fits = omega (arith, st .plan); small = st .small }
 
 -- a verdict alone
@@ -248,14 +239,14 @@ unfolding writeMoreAnd sortMoreAnd skip
 no-and a σ p f e = ap (λ (n : ℕ). (empty, n)) e
 
 -- what is known at the head of the loop
-pub record AndLoop (sort : ℕ) (asked : Bool) (s P P' Q Q' : List ℕ) (a b : State) (kind : ℕ) : Type 0 where
+pub record AndLoop (sort : ℕ) (asked : Bool) (s P P' Q Q' : List ℕ) (a b : Cursor) (kind : ℕ) : Type 0 where
   pub loop : Loop spellMoreAnd (λ t. writeMoreAnd t (sortOf sort) asked) (λ t. sortNumber (sortMoreAnd t (sortOf sort))) (λ σ p. meMoreAnd σ asked p) 3 s P P' Q Q' a b (sortOf kind)
   pub small : kind ≤ 4
 
-pub and-loop : {s P Q : List ℕ} {a : State} (sort : ℕ) (asked : Bool) → sort ≤ 4 → Start 0 s P Q a → AndLoop sort asked s P P Q Q a a sort
+pub and-loop : {s P Q : List ℕ} {a : Cursor} (sort : ℕ) (asked : Bool) → sort ≤ 4 → Asks 0 s P Q a → AndLoop sort asked s P P Q Q a a sort
 and-loop sort asked h st = record { loop = loop-start (sortOf sort) (λ t. refl) st; small = h }
 
-module _ {sort kind : ℕ} {asked : Bool} {s P P' Q Q' : List ℕ} {a b : State} (lp : AndLoop sort asked s P P' Q Q' a b kind) where
+module _ {sort kind : ℕ} {asked : Bool} {s P P' Q Q' : List ℕ} {a b : Cursor} (lp : AndLoop sort asked s P P' Q Q' a b kind) where
   abbrev AndPost : Step → List ℕ → List ℕ → Type 0
   AndPost r P'' Q'' = Post spellMoreAnd (λ t. writeMoreAnd t (sortOf sort) asked) (λ t. sortNumber (sortMoreAnd t (sortOf sort))) 3 s P P'' Q Q'' a r
 
@@ -264,22 +255,22 @@ module _ {sort kind : ℕ} {asked : Bool} {s P P' Q Q' : List ℕ} {a b : State}
   unfolding ands
   and-end k n = next {b = b} {f = kind} (loop-end (ands asked) (lp .loop) (λ s₁ e. n s₁ (k .rest ∙ e)) (no-and asked (sortOf kind) (b .pool) kind (number-sort kind (lp .small))))
 
-  module _ {P₁ P₂ : List ℕ} {left hd : State} (r : Ready 0x26 22 (testTail (sortOf kind)) s P' P₁ P₂ Q' b left hd) where
+  module _ {P₁ P₂ : List ℕ} {left hd : Cursor} (r : Ready 0x26 22 (testTail (sortOf kind)) s P' P₁ P₂ Q' b left hd) where
     -- an operator with no operand behind it
     pub and-stop : {i : ℕ} {P'' Q'' : List ℕ} → ReadsNone spellBasic (After 2) (drop (hd .at) s) → AndPost (step.Stop i) P'' Q''
     unfolding ands
     and-stop n = stop (loop-none (ands asked) (lp .loop) (r .sep) (subst (ReadsNone spellBasic (After 2)) (r .here) n))
 
     -- behind the operand there is room for its tail
-    pub and-behind : {f : ℕ} {P₃ L' : List ℕ} {n : State} → Read spellBasic writeBasic (λ t. sortNumber (sortBasic t)) 2 s P₂ P₃ Q' L' hd n f → Start 27 s P₃ L' n
-    and-behind h = start-read sizedBasic (r .start) h (lit≤ tt)
+    pub and-behind : {f : ℕ} {P₃ L' : List ℕ} {n : Cursor} → Read spellBasic writeBasic (λ t. sortNumber (sortBasic t)) 2 s P₂ P₃ Q' L' hd n f → Asks 27 s P₃ L' n
+    and-behind h = asks-read sizedBasic (r .start) h (lit≤ tt)
 
     -- and the frame is open
-    pub and-framed : {f : ℕ} {P₃ P₄ L' : List ℕ} {n m : State} → Read spellBasic writeBasic (λ t. sortNumber (sortBasic t)) 2 s P₂ P₃ Q' L' hd n f → Put P₃ P₄ n m (testTail (sortOf f)) → Framed P₄ left m
-    and-framed {f} h p = framed-fits r h p (start-tailed (sortOf f) {x = 24} (and-behind h) p)
+    pub and-framed : {f : ℕ} {P₃ P₄ L' : List ℕ} {n m : Cursor} → Read spellBasic writeBasic (λ t. sortNumber (sortBasic t)) 2 s P₂ P₃ Q' L' hd n f → Put P₃ P₄ n m (testTail (sortOf f)) → Framed P₄ left m
+    and-framed {f} h p = framed-fits r h p (asks-tailed (sortOf f) {x = 24} (and-behind h) p)
 
     -- one operand more
-    pub and-more : {v f : ℕ} {P₃ P₄ P₅ L' : List ℕ} {n m o : State} → Read spellBasic writeBasic (λ t. sortNumber (sortBasic t)) 2 s P₂ P₃ Q' L' hd n f → Put P₃ P₄ n m (testTail (sortOf f))
+    pub and-more : {v f : ℕ} {P₃ P₄ P₅ L' : List ℕ} {n m o : Cursor} → Read spellBasic writeBasic (λ t. sortNumber (sortBasic t)) 2 s P₂ P₃ Q' L' hd n f → Put P₃ P₄ n m (testTail (sortOf f))
         → Wrote P₄ (left .len + 1) (two (m .len - left .len - 3)) P₅ → Stays m o → marksOf o ≡ joinMarks (marksOf m) (judgement v) → v ≡ comparedVerdict asked (sortOf f) → AndLoop sort asked s P P₅ Q L' a o 4
     unfolding ands
     and-more {v = v} {f = f} {P₄ = P₄} {P₅ = P₅} {L' = L'} {n = n} {m = m} {o = o} h p w j k e =
@@ -289,10 +280,10 @@ module _ {sort kind : ℕ} {asked : Bool} {s P P' Q Q' : List ℕ} {a b : State}
         done-is (sym (effect-assoc (plain (testTail (sortOf kind))) (within 22 (join (writeBasic i (hd .pool)) (plain (testTail (sortOf f))))) (marked (judgement v)))) (done-then d (judged-marked (judgement v) j k)) in
         let q : andDoes asked (sortOf kind) (meBasic (b .pool) i) ≡ join (plain (testTail (sortOf kind))) (join (within 22 (join (writeBasic i (hd .pool)) (plain (testTail (sortOf f))))) (marked (judgement v))) =
         rw (e, h .flag, r .pool) refl in
-        let s₁ : Start 24 s P₄ L' m = start-tailed (sortOf f) (and-behind h) p in
+        let s₁ : Asks 24 s P₄ L' m = asks-tailed (sortOf f) (and-behind h) p in
         record {
           loop = loop-more (ands asked) (lp .loop) (r .sep) (ready-reads r o (j .0 ∙ p .at) h)
-              (done-is q g) (omega (arith, r .from, h .from, p .at, j .0)) (start-less (lit≤ tt) (start-judged (start-wrote s₁ w) j));
+              (done-is q g) (omega (arith, r .from, h .from, p .at, j .0)) (asks-less (lit≤ tt) (asks-judged (asks-wrote s₁ w) j));
           small = lit≤ tt;
         }
 
@@ -303,14 +294,14 @@ unfolding writeMoreOr sortMoreOr skip
 no-or a σ p f e = ap (λ (n : ℕ). (empty, n)) e
 
 -- what is known at the head of the loop
-pub record OrLoop (sort : ℕ) (asked : Bool) (s P P' Q Q' : List ℕ) (a b : State) (kind : ℕ) : Type 0 where
+pub record OrLoop (sort : ℕ) (asked : Bool) (s P P' Q Q' : List ℕ) (a b : Cursor) (kind : ℕ) : Type 0 where
   pub loop : Loop spellMoreOr (λ t. writeMoreOr t (sortOf sort) asked) (λ t. sortNumber (sortMoreOr t (sortOf sort))) (λ σ p. meMoreOr σ asked p) 4 s P P' Q Q' a b (sortOf kind)
   pub small : kind ≤ 4
 
-pub or-loop : {s P Q : List ℕ} {a : State} (sort : ℕ) (asked : Bool) → sort ≤ 4 → Start 0 s P Q a → OrLoop sort asked s P P Q Q a a sort
+pub or-loop : {s P Q : List ℕ} {a : Cursor} (sort : ℕ) (asked : Bool) → sort ≤ 4 → Asks 0 s P Q a → OrLoop sort asked s P P Q Q a a sort
 or-loop sort asked h st = record { loop = loop-start (sortOf sort) (λ t. refl) st; small = h }
 
-module _ {sort kind : ℕ} {asked : Bool} {s P P' Q Q' : List ℕ} {a b : State} (lp : OrLoop sort asked s P P' Q Q' a b kind) where
+module _ {sort kind : ℕ} {asked : Bool} {s P P' Q Q' : List ℕ} {a b : Cursor} (lp : OrLoop sort asked s P P' Q Q' a b kind) where
   abbrev OrPost : Step → List ℕ → List ℕ → Type 0
   OrPost r P'' Q'' = Post spellMoreOr (λ t. writeMoreOr t (sortOf sort) asked) (λ t. sortNumber (sortMoreOr t (sortOf sort))) 4 s P P'' Q Q'' a r
 
@@ -319,42 +310,42 @@ module _ {sort kind : ℕ} {asked : Bool} {s P P' Q Q' : List ℕ} {a b : State}
   unfolding ors
   or-end k n = next {b = b} {f = kind} (loop-end (ors asked) (lp .loop) (λ s₁ e. n s₁ (k .rest ∙ e)) (no-or asked (sortOf kind) (b .pool) kind (number-sort kind (lp .small))))
 
-  module _ {P₁ P₂ : List ℕ} {left hd : State} (r : Ready 0x7C 23 (testTail (sortOf kind)) s P' P₁ P₂ Q' b left hd) where
+  module _ {P₁ P₂ : List ℕ} {left hd : Cursor} (r : Ready 0x7C 23 (testTail (sortOf kind)) s P' P₁ P₂ Q' b left hd) where
     -- an operator with no operand behind it
     pub or-stop : {i : ℕ} {P'' Q'' : List ℕ} → ReadsNone spellLogicalAnd (After 3) (drop (hd .at) s) → OrPost (step.Stop i) P'' Q''
     unfolding ors
     or-stop n = stop (loop-none (ors asked) (lp .loop) (r .sep) (subst (ReadsNone spellLogicalAnd (After 3)) (r .here) n))
 
     -- behind the operand there is room for its tail
-    pub or-behind : {f : ℕ} {P₃ L' : List ℕ} {n : State} → Read spellLogicalAnd (λ t. writeAnd t asked) (λ t. sortNumber (sortAnd t)) 3 s P₂ P₃ Q' L' hd n f → Start 27 s P₃ L' n
-    or-behind h = start-read (λ t l. sizedAnd t asked l) (r .start) h (lit≤ tt)
+    pub or-behind : {f : ℕ} {P₃ L' : List ℕ} {n : Cursor} → Read spellLogicalAnd (λ t. writeAnd t asked) (λ t. sortNumber (sortAnd t)) 3 s P₂ P₃ Q' L' hd n f → Asks 27 s P₃ L' n
+    or-behind h = asks-read (λ t l. sizedAnd t asked l) (r .start) h (lit≤ tt)
 
     -- and the frame is open
-    pub or-framed : {f : ℕ} {P₃ P₄ L' : List ℕ} {n m : State} → Read spellLogicalAnd (λ t. writeAnd t asked) (λ t. sortNumber (sortAnd t)) 3 s P₂ P₃ Q' L' hd n f → Put P₃ P₄ n m (testTail (sortOf f)) → Framed P₄ left m
-    or-framed {f} h p = framed-fits r h p (start-tailed (sortOf f) {x = 24} (or-behind h) p)
+    pub or-framed : {f : ℕ} {P₃ P₄ L' : List ℕ} {n m : Cursor} → Read spellLogicalAnd (λ t. writeAnd t asked) (λ t. sortNumber (sortAnd t)) 3 s P₂ P₃ Q' L' hd n f → Put P₃ P₄ n m (testTail (sortOf f)) → Framed P₄ left m
+    or-framed {f} h p = framed-fits r h p (asks-tailed (sortOf f) {x = 24} (or-behind h) p)
 
     -- one operand more
-    pub or-more : {f : ℕ} {P₃ P₄ P₅ L' : List ℕ} {n m : State} → Read spellLogicalAnd (λ t. writeAnd t asked) (λ t. sortNumber (sortAnd t)) 3 s P₂ P₃ Q' L' hd n f → Put P₃ P₄ n m (testTail (sortOf f))
+    pub or-more : {f : ℕ} {P₃ P₄ P₅ L' : List ℕ} {n m : Cursor} → Read spellLogicalAnd (λ t. writeAnd t asked) (λ t. sortNumber (sortAnd t)) 3 s P₂ P₃ Q' L' hd n f → Put P₃ P₄ n m (testTail (sortOf f))
         → Wrote P₄ (left .len + 1) (two (m .len - left .len - 3)) P₅ → OrLoop sort asked s P P₅ Q L' a m 4
     unfolding ors
     or-more {f = f} {P₄ = P₄} {L' = L'} {m = m} h p w =
         let i : G.LogicalAnd = h .tree in
         let q : orDoes (sortOf kind) (meAnd asked (b .pool) i) ≡ join (plain (testTail (sortOf kind))) (within 23 (join (writeAnd i asked (hd .pool)) (plain (testTail (sortOf f))))) = rw (h .flag, r .pool) refl in
-        let s₁ : Start 24 s P₄ L' m = start-tailed (sortOf f) (or-behind h) p in
+        let s₁ : Asks 24 s P₄ L' m = asks-tailed (sortOf f) (or-behind h) p in
         record {
-          loop = loop-more (ors asked) (lp .loop) (r .sep) (ready-reads r m (p .at) h) (done-is q (framed-done r (h .done) p w)) (omega (arith, r .from, h .from, p .at)) (start-less (lit≤ tt) (start-wrote s₁ w));
+          loop = loop-more (ors asked) (lp .loop) (r .sep) (ready-reads r m (p .at) h) (done-is q (framed-done r (h .done) p w)) (omega (arith, r .from, h .from, p .at)) (asks-less (lit≤ tt) (asks-wrote s₁ w));
           small = lit≤ tt;
         }
 
 -- ---- logical-and-expr
 
-module _ {s P P' L L' : List ℕ} {a n : State} {f : ℕ} (h : Read spellBasic writeBasic (λ t. sortNumber (sortBasic t)) 2 s P P' L L' a n f) where
+module _ {s P P' L L' : List ℕ} {a n : Cursor} {f : ℕ} (h : Read spellBasic writeBasic (λ t. sortNumber (sortBasic t)) 2 s P P' L L' a n f) where
   -- behind the first operand
-  pub start-operand : {o : State} → Start 0 s P L a → Stays n o → Start 0 s P' L' o
-  start-operand st j = start-judged (start-read sizedBasic st h (lit≤ tt)) j
+  pub asks-operand : {o : Cursor} → Asks 0 s P L a → Stays n o → Asks 0 s P' L' o
+  asks-operand st j = asks-judged (asks-read sizedBasic st h (lit≤ tt)) j
 
   -- the first operand with its verdict, and the chain behind it
-  pub and-post : (asked : Bool) {v : ℕ} {P'' L'' : List ℕ} {o : State} {r : Step} → v ≡ comparedVerdict asked (sortOf f) → Stays n o → marksOf o ≡ joinMarks (marksOf n) (judgement v)
+  pub and-post : (asked : Bool) {v : ℕ} {P'' L'' : List ℕ} {o : Cursor} {r : Step} → v ≡ comparedVerdict asked (sortOf f) → Stays n o → marksOf o ≡ joinMarks (marksOf n) (judgement v)
       → Post spellMoreAnd (λ t. writeMoreAnd t (sortOf f) asked) (λ t. sortNumber (sortMoreAnd t (sortOf f))) 3 s P' P'' L' L'' o r → Post spellLogicalAnd (λ t. writeAnd t asked) (λ t. sortNumber (sortAnd t)) 3 s P P'' L L'' a r
   and-post asked e j k (stop q) = stop (and-none-rest (a .pool) (h .reads) (subst (λ (c : ℕ). ReadsNone spellMoreAnd (After 3) (drop c s)) (j .0) q))
   and-post asked {v} {P''} {L''} {o} e j k (next {b = b} {f = g} q) =
@@ -379,10 +370,10 @@ module _ {s P P' L L' : List ℕ} {a n : State} {f : ℕ} (h : Read spellBasic w
 
 -- ---- logical-or-expr
 
-module _ (asked : Bool) {s P P' L L' : List ℕ} {a n : State} {f : ℕ} (h : Read spellLogicalAnd (λ t. writeAnd t asked) (λ t. sortNumber (sortAnd t)) 3 s P P' L L' a n f) where
+module _ (asked : Bool) {s P P' L L' : List ℕ} {a n : Cursor} {f : ℕ} (h : Read spellLogicalAnd (λ t. writeAnd t asked) (λ t. sortNumber (sortAnd t)) 3 s P P' L L' a n f) where
   -- behind the first operand
-  pub start-chain : Start 0 s P L a → Start 0 s P' L' n
-  start-chain st = start-read (λ t l. sizedAnd t asked l) st h (lit≤ tt)
+  pub asks-chain : Asks 0 s P L a → Asks 0 s P' L' n
+  asks-chain st = asks-read (λ t l. sizedAnd t asked l) st h (lit≤ tt)
 
   -- the first operand and the chain behind it
   pub or-post : {P'' L'' : List ℕ} {r : Step} → Post spellMoreOr (λ t. writeMoreOr t (sortOf f) asked) (λ t. sortNumber (sortMoreOr t (sortOf f))) 4 s P' P'' L' L'' n r → Post spellLogicalOr (λ t. writeOr t asked) (λ t. sortNumber (sortOr t)) 4 s P P'' L L'' a r
@@ -402,180 +393,3 @@ module _ (asked : Bool) {s P P' L L' : List ℕ} {a n : State} {f : ℕ} (h : Re
         flag = q' .flag ∙ ap sortNumber (sym (sort-or x u));
         utf8 = q' .utf8;
       })
-
--- ---- blanks and brackets around
-
--- a place behind blanks
-behind-blanks : {b at : ℕ} {s : List ℕ} (a : State) {o : State} → Skipped s b at → Moved a o at → drop (o .at) s ≡ unblank (drop b s)
-behind-blanks {s = s} a k m = ap (λ (n : ℕ). drop n s) (m .0) ∙ k .rest
-
--- what is read from a place behind blanks, with the state before them
-reads-behind : {T : Type 0} {sp : T → List ℕ → List ℕ} {w : T → Writer} {fl : T → ℕ} {k f b at : ℕ} {s P P' L L' : List ℕ} (a : State) {o n : State} → Skipped s b at → Moved a o at → (h : Read sp w fl k s P P' L L' o n f)
-    → Reads {M = Effect × ℕ} sp (λ t. (w t (a .pool), fl t)) (After k) (unblank (drop b s)) (h .tree) (drop (n .at) s)
-reads-behind {sp = sp} {w = w} {fl = fl} {k = k} {s = s} a {o = o} {n = n} g m h =
-    subst (λ (l : List ℕ). Reads {M = Effect × ℕ} sp (λ t. (w t (a .pool), fl t)) (After k) l (h .tree) (drop (n .at) s)) (behind-blanks a g m)
-    (subst (λ (c : ℕ). Reads {M = Effect × ℕ} sp (λ t. (w t c, fl t)) (After k) (drop (o .at) s) (h .tree) (drop (n .at) s)) (m .1 .0 .1) (h .reads))
-
-none-behind : {T : Type 0} {sp : T → List ℕ → List ℕ} {k b at : ℕ} {s : List ℕ} (a : State) {o : State} → Skipped s b at → Moved a o at → ReadsNone sp (After k) (drop (o .at) s) → ReadsNone sp (After k) (unblank (drop b s))
-none-behind {sp = sp} {k = k} a g m n = subst (ReadsNone sp (After k)) (behind-blanks a g m) n
-
-done-behind : (w : Writer) {at : ℕ} {P P' L L' : List ℕ} {a o n : State} → Moved a o at → Done P P' L L' o n (w (o .pool)) → Done P P' L L' a n (w (a .pool))
-done-behind w {P = P} {P' = P'} {L = L} {L' = L'} {o = o} {n = n} m d = done-moved m (subst (λ (c : ℕ). Done P P' L L' o n (w c)) (m .1 .0 .1) d)
-
--- behind a byte and blanks
-pub start-byte : (x : ℕ) {b at : ℕ} {s P L : List ℕ} {a o : State} → x < 0x80 → Start 0 s P L a → a .at ≤ b → isUtf8 (drop b s) ≡ true → Is s b x true → Skipped s (b + 1) at → Moved a o at → Start 15 s P L o
-start-byte x {b = b} {s = s} h st g u i k m = start-moved st m (omega (arith, k .from)) (k .to) (k .utf8 (utf8-is x b s h i u)) (omega (arith, k .from))
-
--- behind blanks and a byte
-pub start-closed : (x : ℕ) {e : ℕ} {s P L : List ℕ} {a o : State} → x < 0x80 → Start 0 s P L a → Skipped s (a .at) e → Is s e x true → Moved a o (e + 1) → Start 15 s P L o
-start-closed x {e = e} {s = s} h st k i m = start-moved st m (omega (arith, k .from)) (i .0) (utf8-is x e s h i (k .utf8 (st .utf8))) (omega (arith, k .from))
-
--- ---- "(" S logical-expr S ")"
-
-module _ {x : ℕ} {s : List ℕ} {a o : State} (g : Opens 0x28 s a) (k : Skipped s (a .at + 1) x) (m : Moved a o x) where
-  pub start-paren : {P L : List ℕ} → Start 0 s P L a → Start 0 s P L o
-  start-paren st = start-less (lit≤ tt) (start-byte 0x28 (lit< tt) st (omega arith) (st .utf8) (opens-is g) k m)
-
-  -- nothing is read behind the parenthesis
-  pub paren-stop : ReadsNone spellLogicalOr (After 4) (drop (o .at) s) → ReadsNone spellParen (After 0) (drop (a .at) s)
-  paren-stop n = paren-none (opens-is g .1) (none-behind a k m n)
-
-  module _ {P P' L L' : List ℕ} {n : State} {f e : ℕ} (h : Read spellLogicalOr (λ t. writeOr t true) (λ t. sortNumber (sortOr t)) 4 s P P' L L' o n f) (j : Skipped s (n .at) e) where
-    -- nothing closes it
-    pub paren-unclosed : Is s e 0x29 false → ReadsNone spellParen (After 0) (drop (a .at) s)
-    paren-unclosed z = paren-open (a .pool) (opens-is g .1) (reads-behind a k m h) (λ l q. z l (j .rest ∙ q))
-
-    pub paren-closed : {c : State} → Is s e 0x29 true → Moved n c (e + 1) → Read spellParen writeParen (λ t. sortNumber (sortParen t)) 0 s P P' L L' a c f
-    paren-closed {c} i m' =
-        let r = paren-reads (a .pool) (opens-is g .1) (reads-behind a k m h) (sym (j .rest) ∙ i .1) in
-        let q = paren-means (a .pool) (split-blanks (drop (a .at + 1) s) .0) (h .tree) (split-blanks (drop (n .at) s) .0) in
-        record {
-          tree = paren (split-blanks (drop (a .at + 1) s) .0) (h .tree) (split-blanks (drop (n .at) s) .0);
-          reads = subst (λ (y : ℕ). Reads spellParen (meParen (a .pool)) (After 0) (drop (a .at) s) (paren (split-blanks (drop (a .at + 1) s) .0) (h .tree) (split-blanks (drop (n .at) s) .0)) (drop y s)) (sym (m' .0)) r;
-          from = omega (arith, k .from, m .0, h .from, j .from, m' .0);
-          to = omega (arith, i .0, m' .0);
-          done = done-is (ap (λ (y : Effect × ℕ). y .0) q) (moved-done (done-behind (writeOr (h .tree) true) m (h .done)) m');
-          flag = h .flag ∙ sym (ap (λ (y : Effect × ℕ). y .1) q);
-          utf8 = subst (λ (y : ℕ). isUtf8 (drop y s) ≡ true) (sym (m' .0)) (utf8-is 0x29 e s (lit< tt) i (j .utf8 (h .utf8)));
-        }
-
--- ---- *( S "," S function-argument )
-
-no-more : (n p : ℕ) → meMoreArguments n p noMore ≡ (empty, n)
-unfolding writeMoreArguments sortsMore argumentsFrom skip
-no-more n p = refl
-
--- what is known at the head of the loop
-pub record ArgumentsLoop (sorts : ℕ) (s P P' Q Q' : List ℕ) (a b : State) (known : ℕ) : Type 0 where
-  pub loop : Loop spellMoreArguments writeMoreArguments (λ t. argumentsFrom sorts (sortsMore t)) meMoreArguments 5 s P P' Q Q' a b known
-  pub small : known ≤ 31
-
-pub arguments-loop : {s P Q : List ℕ} {a : State} (sorts : ℕ) → sorts ≤ 31 → Start 0 s P Q a → ArgumentsLoop sorts s P P Q Q a a sorts
-arguments-loop sorts h st = record { loop = loop-start sorts (λ t. refl) st; small = h }
-
-module _ {sorts known : ℕ} {s P P' Q Q' : List ℕ} {a b : State} (lp : ArgumentsLoop sorts s P P' Q Q' a b known) {e : ℕ} (k : Skipped s (b .at) e) where
-  -- no comma stands there
-  pub arguments-last : Is s e 0x2C false → Read spellMoreArguments writeMoreArguments (λ t. argumentsFrom sorts (sortsMore t)) 5 s P P' Q Q' a b known
-  unfolding furthers
-  arguments-last n = loop-end furthers (lp .loop) (λ s₁ q. n s₁ (k .rest ∙ q)) (no-more known (b .pool))
-
-  module _ {g : ℕ} {o : State} (i : Is s e 0x2C true) (j : Skipped s (e + 1) g) (m : Moved b o g) where
-    -- behind the comma
-    pub start-comma : Start 0 s P' Q' o
-    start-comma = start-less (lit≤ tt) (start-byte 0x2C (lit< tt) (lp .loop .start) (k .from) (k .utf8 (lp .loop .start .utf8)) i j m)
-
-    -- a comma with no argument behind it
-    pub arguments-stop : ReadsNone spellArgument (After 4) (drop (o .at) s) → ReadsNone spellMoreArguments (After 5) (drop (a .at) s)
-    unfolding furthers
-    arguments-stop n = loop-none furthers (lp .loop) (sym (k .rest) ∙ i .1) (none-behind b j m n)
-
-    -- behind the argument less is unread
-    pub arguments-less : {f : ℕ} {P'' Q'' : List ℕ} {n : State} → Read spellArgument writeArgument (λ t. sortNumber (sortArgument t)) 4 s P' P'' Q' Q'' o n f → length s - n .at < length s - b .at
-    arguments-less h = omega (arith, k .from, j .from, m .0, h .from, h .to)
-
-    -- one argument more
-    pub arguments-more : {f x : ℕ} {P'' Q'' : List ℕ} {n : State} → Read spellArgument writeArgument (λ t. sortNumber (sortArgument t)) 4 s P' P'' Q' Q'' o n f → (x ≡ oneMore known f) × (x ≤ 31) → ArgumentsLoop sorts s P P'' Q Q'' a n x
-    unfolding furthers
-    arguments-more {f} {x} {P''} {Q''} {n} h q =
-        let c = loop-more furthers (lp .loop) (sym (k .rest) ∙ i .1) (reads-behind b j m h) (done-behind (writeArgument (h .tree)) m (h .done)) (omega (arith, k .from, j .from, m .0, h .from)) (start-read sizedArgument start-comma h (lit≤ tt)) in
-        record {
-          loop = subst (λ (y : ℕ). Loop spellMoreArguments writeMoreArguments (λ t. argumentsFrom sorts (sortsMore t)) meMoreArguments 5 s P P'' Q Q'' a n y) (sym (q .0 ∙ ap (oneMore known) (h .flag))) c;
-          small = q .1;
-        }
-
--- ---- [ function-argument *( S "," S function-argument ) ]
-
--- none, before a closing parenthesis
-pub arguments-nothing : {s P L : List ℕ} {a : State} → Start 0 s P L a → Is s (a .at) 0x29 true → Read spellArguments writeArguments (λ t. argumentsFrom 0 (sortsOf t)) 6 s P P L L a a 0
-unfolding writeArguments sortsOf argumentsFrom
-arguments-nothing {a = a} st i = record { tree = noArgument; reads = arguments-end (a .pool) (i .1); from = omega arith; to = st .text; done = done-skip; flag = refl; utf8 = st .utf8 }
-
-more-is : (p : ℕ) (x : G.Argument) (xs : G.MoreArguments) → meArguments p (arguments x xs) ≡ (join (writeArgument x p) (writeMoreArguments xs (p + length (writeArgument x p .pool))), argumentsFrom (oneMore 0 (sortNumber (sortArgument x))) (sortsMore xs))
-unfolding writeArguments seq sortsOf argumentsFrom
-more-is p x xs = refl
-
-module _ {s P P' L L' : List ℕ} {a n : State} {f : ℕ} (h : Read spellArgument writeArgument (λ t. sortNumber (sortArgument t)) 4 s P P' L L' a n f) where
-  -- behind the first argument
-  pub start-argument : Start 0 s P L a → Start 0 s P' L' n
-  start-argument st = start-read sizedArgument st h (lit≤ tt)
-
-  -- the first argument and the further ones
-  pub arguments-post : {x : ℕ} {P'' L'' : List ℕ} {r : Step} → (x ≡ oneMore 0 f) × (x ≤ 31) → Post spellMoreArguments writeMoreArguments (λ t. argumentsFrom x (sortsMore t)) 5 s P' P'' L' L'' n r
-      → Post spellArguments writeArguments (λ t. argumentsFrom 0 (sortsOf t)) 6 s P P'' L L'' a r
-  arguments-post e (stop q) = stop (arguments-none-more (a .pool) (h .reads) q)
-  arguments-post {x} {P''} {L''} e (next {b = b} {f = g} q) =
-      let y : G.Argument = h .tree in
-      let p : n .pool ≡ a .pool + length (writeArgument y (a .pool) .pool) = h .done .pool in
-      let z : x ≡ oneMore 0 (sortNumber (sortArgument y)) = e .0 ∙ ap (oneMore 0) (h .flag) in
-      let q' : Read spellMoreArguments writeMoreArguments (λ t. argumentsFrom (oneMore 0 (sortNumber (sortArgument y))) (sortsMore t)) 5 s P' P'' L' L'' n b g =
-      subst (λ (c : ℕ). Read spellMoreArguments writeMoreArguments (λ t. argumentsFrom c (sortsMore t)) 5 s P' P'' L' L'' n b g) z q in
-      let u : G.MoreArguments = q' .tree in
-      let i = more-is (a .pool) y u in
-      next {b = b} {f = g} (record {
-        tree = arguments y u;
-        reads = arguments-reads (a .pool) (h .reads) (subst (λ (c : ℕ). Reads spellMoreArguments (meMoreArguments (oneMore 0 (sortNumber (sortArgument y))) c) (After 5) (drop (n .at) s) u (drop (b .at) s)) p (q' .reads));
-        from = omega (arith, h .from, q' .from);
-        to = q' .to;
-        done = done-is (ap (λ (w : Effect × ℕ). w .0) i) (done-then (h .done) (subst (λ (c : ℕ). Done P' P'' L' L'' n b (writeMoreArguments u c)) p (q' .done)));
-        flag = q' .flag ∙ sym (ap (λ (w : Effect × ℕ). w .1) i);
-        utf8 = q' .utf8;
-      })
-
--- ---- a call behind its name and "("
-
-module _ {x : ℕ} {s : List ℕ} {a o : State} (k : Skipped s (a .at) x) (m : Moved a o x) where
-  -- no arguments are read
-  pub call-stop : ReadsNone spellArguments (After 6) (drop (o .at) s) → ReadsNone spellCall (After 0) (drop (a .at) s)
-  call-stop n = call-none (none-behind a k m n)
-
-  -- arguments are read from where no blank stands
-  pub call-start : unblank (drop (o .at) s) ≡ drop (o .at) s
-  call-start = rw (behind-blanks a k m) (unblank-twice (drop (a .at) s))
-
-  module _ (name : ℕ) {P P' L L' : List ℕ} {n : State} {f e : ℕ} (h : Read spellArguments writeArguments (λ t. argumentsFrom 0 (sortsOf t)) 6 s P P' L L' o n f) (j : Skipped s (n .at) e) where
-    -- nothing closes them
-    pub call-unclosed : Is s e 0x29 false → ReadsNone spellCall (After 0) (drop (a .at) s)
-    call-unclosed z = call-open name (a .pool) (reads-behind a k m h) (λ l q. z l (j .rest ∙ q))
-
-    -- behind the closing parenthesis
-    pub start-call : {c : State} → Start 0 s P L a → Is s e 0x29 true → Moved n c (e + 1) → Start 15 s P' L' c
-    start-call st i m' = start-closed 0x29 (lit< tt) (start-read sizedArguments (start-skipped st k m) h (lit≤ tt)) j i m'
-
-    pub call-closed : {P'' : List ℕ} {c d : State} {y : ℕ} → Is s e 0x29 true → Moved n c (e + 1) → PutMarked P' P'' c d (callBytes (nameOf name)) (callMarks name f) → y ≡ sortNumber (namedSort (nameOf name))
-        → Read spellCall (writeCall name) (callSort name) 0 s P P'' L L' a d y
-    call-closed {P''} {c} {d} i m' p q =
-        let t : Call = record { before = split-blanks (drop (a .at) s) .0; arguments = h .tree; after = split-blanks (drop (n .at) s) .0 } in
-        let at : d .at ≡ e + 1 = p .at ∙ m' .0 in
-        let z : callMarks name f ≡ record { verdict = callVerdict (nameOf name) (sortsOf (h .tree)); beyond = false } =
-        ap (λ (v : ℕ). record { verdict = v; beyond = false }) (ap (λ (v : ℕ). callVerdict (nameOf name) (sortsFrom v)) (h .flag) ∙ sym (verdict-told (sortsOf (h .tree)) (nameOf name))) in
-        let w : Marks → Writer = λ v. seq (mark v) (bytes (callBytes (nameOf name))) in
-        let g : Done P' P'' L' L' n d (w (callMarks name f) (n .pool)) = done-behind (w (callMarks name f)) m' (marked-done p) in
-        record {
-          tree = t;
-          reads = subst (λ (v : ℕ). Reads spellCall (meCall name (a .pool)) (After 0) (drop (a .at) s) t (drop v s)) (sym at) (call-reads name (a .pool) (reads-behind a k m h) (sym (j .rest) ∙ i .1));
-          from = omega (arith, k .from, m .0, h .from, j .from);
-          to = omega (arith, i .0);
-          done = done-seq (writeArguments (h .tree)) (w (record { verdict = callVerdict (nameOf name) (sortsOf (h .tree)); beyond = false })) (done-behind (writeArguments (h .tree)) m (h .done)) (subst (λ (v : Marks). Done P' P'' L' L' n d (w v (n .pool))) z g);
-          flag = q;
-          utf8 = subst (λ (v : ℕ). isUtf8 (drop v s) ≡ true) (sym at) (utf8-is 0x29 e s (lit< tt) i (j .utf8 (h .utf8)));
-        }

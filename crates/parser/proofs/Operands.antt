@@ -15,7 +15,7 @@ use Rattle.definition.specs.Walk.{Named, named}
 use Rattle.definition.specs.Walk.Named.{count, valueName, match, search, unknown}
 use Rattle.utf8_laws.specs.Encode.{utf8-ascii}
 use Rattle.basics.specs.Reads.{Reads, ReadsNone, StartsNot}
-use Rattle.parser_scan.specs.Text.{Is, Skipped, WordAt, operatorNumber, namedNumber}
+use Rattle.parser_scan.specs.Text.{Is, Skipped, WordAt, namedNumber}
 use Rattle.compile_writes.specs.Effects.{Effect, Writer, join, seq, mark, bytes, skip}
 use Rattle.compile_writes.specs.Sorts.{Sort, singularSegments, tightSegments, querySort, sortParen, sortFunction}
 use Rattle.compile_writes.specs.Sorts.Sort.{literalSort, singularSort, nodesSort, valueSort, logicalSort}
@@ -23,19 +23,19 @@ use Rattle.compile_writes.specs.Writes.{writeFrom, writeSegments, writeParen, w
 use Rattle.compile_writes.specs.Spellings.{operator-spends}
 use Rattle.compile_writes.specs.Sizes.{Sized, sizedLiteral, sizedFilterQuery, sizedFunction, sizedComparable, sizedParen, sizedSegments}
 use Rattle.parser_follow.specs.Follow.{unblank, After}
-use Rattle.parser_follow.specs.Numbers.{sortNumber, sortOf, segmentsFlag, pathNumber, flagOfPath, nameOf, noFlag, Known}
+use Rattle.parser_follow.specs.Numbers.{sortNumber, sortOf, segmentsFlag, pathNumber, flagOfPath, nameOf, noFlag, Known, operatorNumber}
 use Rattle.parser_follow.specs.Leaves.{spellConstant, writeConstant, spellKeyword, writeKeyword}
 use Rattle.parser_follow.specs.Pieces.{Operand, spellOperand, writeOperand, operandFlag, queryFlag, Side, spellSide, writeSide, Behind, spellBehind, writeBehind, BehindOf, spellBehindOf, writeBehindOf, behindOfSort, spellCall, writeCall, callSort}
 use Rattle.parser_follow.specs.Pieces.Operand.{literalOperand, queryOperand, functionOperand}
 use Rattle.parser_follow.specs.Pieces.Behind.{alone, compared}
-use Rattle.parser_items.specs.Reads.{Start, Done, Read, Post, Put, Opens, Room, next, stop}
-use Rattle.parser_items.specs.Laws.{Moved, done-then, start-go, start-room}
-use Rattle.parser_items.specs.declared.State.{State}
+use Rattle.parser_items.specs.Reads.{Asks, Done, Read, Post, Put, Opens, Room, next, stop}
+use Rattle.parser_items.specs.Laws.{Moved, done-then, asks-go, asks-room}
+use Rattle.parser_items.specs.declared.Cursor.{Cursor}
 use Rattle.parser_items.specs.declared.Step.{Step}
 use Rattle.parser_items.specs.declared.Step.the-variants as step
 use Rattle.parser_laws.specs.Query.{queryEffect, query-means, operand-current, operand-root}
 use Rattle.parser_laws.specs.Words.{operand-call, operand-keyword, operand-constant}
-use Rattle.parser.proofs.Steps.{start-moved, start-read, done-is, post-so, stay, put-plain}
+use Rattle.parser.proofs.Steps.{asks-moved, asks-read, done-is, post-so, stay, put-plain}
 
 -- ---- numbers that are told
 
@@ -77,10 +77,10 @@ behind-small f alone w e = rw e (sort-small (sortOf f))
 behind-small f (compared b o x) w e = rw e (omega arith)
 
 -- what is told of a tree that was read is known
-pub known-read : {T : Type 0} {sp : T → List ℕ → List ℕ} {w : T → Writer} {fl : T → ℕ} {k : ℕ} {s P P' L L' : List ℕ} {a b : State} {f : ℕ} → ((t : T) → fl t ≤ 5) → Read sp w fl k s P P' L L' a b f → Known f
+pub known-read : {T : Type 0} {sp : T → List ℕ → List ℕ} {w : T → Writer} {fl : T → ℕ} {k : ℕ} {s P P' L L' : List ℕ} {a b : Cursor} {f : ℕ} → ((t : T) → fl t ≤ 5) → Read sp w fl k s P P' L L' a b f → Known f
 known-read z h = record { small = omega (arith, z (h .tree), h .flag) }
 
-module _ {k : ℕ} {s P P' L L' : List ℕ} {a b : State} {f : ℕ} where
+module _ {k : ℕ} {s P P' L L' : List ℕ} {a b : Cursor} {f : ℕ} where
   -- what is told of an operand, of a parenthesis, and of what stands behind an operand
   pub known-operand : Read spellOperand writeOperand operandFlag k s P P' L L' a b f → Known f
   known-operand h = known-read operand-small h
@@ -139,57 +139,57 @@ behind-length f p (compared b o x) r =
 -- ---- room
 
 -- behind a byte of the query that is a character by itself
-pub start-byte : {x y c : ℕ} {s P L : List ℕ} {a b : State} → Start x s P L a → c < 0x80 → Is s (a .at) c true → Moved a b (a .at + 1) → y ≤ 15 + x → Start y s P L b
-start-byte {c = c} {s = s} {a = a} st h i m l =
-    start-moved st m (omega arith) (omega (arith, i .0)) (sym (utf8-ascii c (drop (a .at + 1) s) h) ∙ ap isUtf8 (sym (i .1)) ∙ st .utf8) (omega arith)
+pub asks-byte : {x y c : ℕ} {s P L : List ℕ} {a b : Cursor} → Asks x s P L a → c < 0x80 → Is s (a .at) c true → Moved a b (a .at + 1) → y ≤ 15 + x → Asks y s P L b
+asks-byte {c = c} {s = s} {a = a} st h i m l =
+    asks-moved st m (omega arith) (omega (arith, i .0)) (sym (utf8-ascii c (drop (a .at + 1) s) h) ∙ ap isUtf8 (sym (i .1)) ∙ st .utf8) (omega arith)
 
 -- behind a function's name and "("
-pub start-call : {e name : ℕ} {s P L : List ℕ} {a b : State} → Start 0 s P L a → WordAt s (a .at) e → Is s e 0x28 true → Moved a b (e + 1) → name ≡ namedNumber (named (part s (a .at) (e - a .at))) → Start 0 s P L b × (name ≤ 5)
-start-call {e = e} {s = s} {a = a} st w i m n = (
-  start-moved st m (omega (arith, w .from)) (omega (arith, i .0)) (sym (utf8-ascii 0x28 (drop (e + 1) s) (omega arith)) ∙ ap isUtf8 (sym (i .1)) ∙ w .utf8 (st .utf8)) (omega (arith, w .from)),
+pub asks-call : {e name : ℕ} {s P L : List ℕ} {a b : Cursor} → Asks 0 s P L a → WordAt s (a .at) e → Is s e 0x28 true → Moved a b (e + 1) → name ≡ namedNumber (named (part s (a .at) (e - a .at))) → Asks 0 s P L b × (name ≤ 5)
+asks-call {e = e} {s = s} {a = a} st w i m n = (
+  asks-moved st m (omega (arith, w .from)) (omega (arith, i .0)) (sym (utf8-ascii 0x28 (drop (e + 1) s) (omega arith)) ∙ ap isUtf8 (sym (i .1)) ∙ w .utf8 (st .utf8)) (omega (arith, w .from)),
   omega (arith, n, named-of (named (part s (a .at) (e - a .at))) .1),
 )
 
 -- a word has a byte at least
-pub word-room : {e : ℕ} {s P L : List ℕ} {a : State} (n : ℕ) → Start 0 s P L a → WordAt s (a .at) e → n ≤ 15 → Room n P a
+pub word-room : {e : ℕ} {s P L : List ℕ} {a : Cursor} (n : ℕ) → Asks 0 s P L a → WordAt s (a .at) e → n ≤ 15 → Room n P a
 word-room {e} {s} {a = a} n st w h =
     let l = length-drop (a .at) s in
     let q = ap length (w .reads .eq) in
-    start-room n 1 st (omega arith) (omega arith)
+    asks-room n 1 st (omega arith) (omega arith)
 
 -- behind what stands behind an operand
-pub start-behind : {n : ℕ} {f : ℕ} {s P P' L L' : List ℕ} {a b : State} → Start 0 s P L a → Read (spellBehindOf f) (writeBehindOf f) (behindOfSort f) 2 s P P' L L' a b n → Start 0 s P' L' b
-start-behind {f = f} {s = s} {a = a} {b = b} st h =
+pub asks-behind : {n : ℕ} {f : ℕ} {s P P' L L' : List ℕ} {a b : Cursor} → Asks 0 s P L a → Read (spellBehindOf f) (writeBehindOf f) (behindOfSort f) 2 s P P' L L' a b n → Asks 0 s P' L' b
+asks-behind {f = f} {s = s} {a = a} {b = b} st h =
     let q = behind-length f (a .pool) (h .tree .tree) (drop (b .at) s) in
     let e = ap length (h .reads .eq) in
     let l = length-drop (a .at) s in
     let m = length-drop (b .at) s in
-    start-go st (h .done) (h .from) (h .to) (h .utf8) (omega (arith, q .0, e, l, m, h .from, h .to)) (omega (arith, q .1, e, l, m, h .from, h .to))
+    asks-go st (h .done) (h .from) (h .to) (h .utf8) (omega (arith, q .0, e, l, m, h .from, h .to)) (omega (arith, q .1, e, l, m, h .from, h .to))
 
 -- where more room is left than is asked
-room-left : {x : ℕ} {s P L : List ℕ} {a : State} (n : ℕ) → Start x s P L a → n ≤ x → Room n P a
-room-left n st h = start-room n 0 st (omega (arith, st .text)) (omega arith)
+room-left : {x : ℕ} {s P L : List ℕ} {a : Cursor} (n : ℕ) → Asks x s P L a → n ≤ x → Room n P a
+room-left n st h = asks-room n 0 st (omega (arith, st .text)) (omega arith)
 
-module _ {s P P' L L' : List ℕ} {a b : State} {f : ℕ} where
+module _ {s P P' L L' : List ℕ} {a b : Cursor} {f : ℕ} where
   -- behind an operand there is room for the end of a comparison or a negation
-  pub operand-room : Start 0 s P L a → Read spellOperand writeOperand operandFlag 1 s P P' L L' a b f → Room 2 P' b
-  operand-room st h = room-left 2 (start-read sizedOperand {y = 2} st h (omega arith)) (omega arith)
+  pub operand-room : Asks 0 s P L a → Read spellOperand writeOperand operandFlag 1 s P P' L L' a b f → Room 2 P' b
+  operand-room st h = room-left 2 (asks-read sizedOperand {y = 2} st h (omega arith)) (omega arith)
 
   -- and for what is read behind it
-  pub start-operand : Start 0 s P L a → Read spellOperand writeOperand operandFlag 1 s P P' L L' a b f → Start 0 s P' L' b
-  start-operand st h = start-read sizedOperand st h (omega arith)
+  pub asks-operand : Asks 0 s P L a → Read spellOperand writeOperand operandFlag 1 s P P' L L' a b f → Asks 0 s P' L' b
+  asks-operand st h = asks-read sizedOperand st h (omega arith)
 
   -- the same behind a parenthesis
-  pub paren-room : Start 0 s P L a → Read spellParen writeParen (λ t. sortNumber (sortParen t)) 0 s P P' L L' a b f → Room 2 P' b
-  paren-room st h = room-left 2 (start-read sizedParen {y = 2} st h (omega arith)) (omega arith)
+  pub paren-room : Asks 0 s P L a → Read spellParen writeParen (λ t. sortNumber (sortParen t)) 0 s P P' L L' a b f → Room 2 P' b
+  paren-room st h = room-left 2 (asks-read sizedParen {y = 2} st h (omega arith)) (omega arith)
 
   -- behind segments there is the room that was left before them
-  pub segments-room : Start 1 s P L a → Read spellSegments writeSegments segmentsFlag 1 s P P' L L' a b f → Room 1 P' b
-  segments-room st h = room-left 1 (start-read sizedSegments {y = 1} st h (omega arith)) (omega arith)
+  pub segments-room : Asks 1 s P L a → Read spellSegments writeSegments segmentsFlag 1 s P P' L L' a b f → Room 1 P' b
+  segments-room st h = room-left 1 (asks-read sizedSegments {y = 1} st h (omega arith)) (omega arith)
 
 -- ---- what was read, said of another place and another pool
 
-module _ {T : Type 0} {sp : T → List ℕ → List ℕ} {w : T → Writer} {fl : T → ℕ} {k : ℕ} {s P P' L L' : List ℕ} {a b : State} {f : ℕ} (h : Read sp w fl k s P P' L L' a b f) where
+module _ {T : Type 0} {sp : T → List ℕ → List ℕ} {w : T → Writer} {fl : T → ℕ} {k : ℕ} {s P P' L L' : List ℕ} {a b : Cursor} {f : ℕ} (h : Read sp w fl k s P P' L L' a b f) where
   -- that it was read, with the pool and the text named otherwise
   pub reads-at : {p : ℕ} {z : List ℕ} → a .pool ≡ p → drop (a .at) s ≡ z → Reads {M = Effect × ℕ} sp (λ t. (w t p, fl t)) (After k) z (h .tree) (drop (b .at) s)
   reads-at {p} e g =
@@ -200,8 +200,8 @@ module _ {T : Type 0} {sp : T → List ℕ → List ℕ} {w : T → Writer} {fl 
   pub done-at : {p : ℕ} → a .pool ≡ p → Done P P' L L' a b (w (h .tree) p)
   done-at e = subst (λ (q : ℕ). Done P P' L L' a b (w (h .tree) q)) e (h .done)
 
--- the byte that stands at a state, and what is left behind it
-pub opens : {x at : ℕ} {s : List ℕ} {b : State} → Is s at x true → b .at ≡ at → Opens x s b
+-- the byte that stands at a cursor, and what is left behind it
+pub opens : {x at : ℕ} {s : List ℕ} {b : Cursor} → Is s at x true → b .at ≡ at → Opens x s b
 opens {at = at} {s = s} i m = record { rest = drop (at + 1) s; is = ap (λ (n : ℕ). drop n s) m ∙ i .1 }
 
 -- the text at a byte, where what is left stands at the place n
@@ -214,13 +214,13 @@ behind-blanks {s = s} k e = ap (λ (j : ℕ). drop j s) e ∙ k .rest
 
 -- ---- a query
 
-module _ {start : ℕ} {s P P₁ : List ℕ} {a b : State} (g : Put P P₁ a b (start ∷ [])) where
+module _ {start : ℕ} {s P P₁ : List ℕ} {a b : Cursor} (g : Put P P₁ a b (start ∷ [])) where
   -- no segments stand there
   pub query-none : {P' L L' : List ℕ} {i : ℕ} → ReadsNone spellSegments (After 1) (drop (b .at) s) → Post spellSegments (λ t. writeFrom start (writeSegments t)) queryFlag 1 s P P' L L' a (step.Stop i)
   query-none n = stop (subst (λ (j : ℕ). ReadsNone spellSegments (After 1) (drop j s)) (g .at) n)
 
   -- the start was put, then segments were read, then the end was put
-  pub query-read : {P₂ P₃ L L₁ : List ℕ} {c d : State} {f n : ℕ} → Read spellSegments writeSegments segmentsFlag 1 s P₁ P₂ L L₁ b c f → Put P₂ P₃ c d (0x0A ∷ []) → n ≡ flagOfPath f
+  pub query-read : {P₂ P₃ L L₁ : List ℕ} {c d : Cursor} {f n : ℕ} → Read spellSegments writeSegments segmentsFlag 1 s P₁ P₂ L L₁ b c f → Put P₂ P₃ c d (0x0A ∷ []) → n ≡ flagOfPath f
       → Read spellSegments (λ t. writeFrom start (writeSegments t)) queryFlag 1 s P P₃ L L₁ a d n
   query-read {c = c} {d = d} h q e =
       let p = a .pool in
@@ -243,7 +243,7 @@ module _ {start : ℕ} {s P P₁ : List ℕ} {a b : State} (g : Put P P₁ a b (
 
 -- ---- an operand
 
-module _ {s P P' L L' : List ℕ} {a b : State} {r : Step} where
+module _ {s P P' L L' : List ℕ} {a b : Cursor} {r : Step} where
   -- behind "@" and behind "$"
   pub operand-at-current : Is s (a .at) 0x40 true → Moved a b (a .at + 1) → Post spellSegments (λ t. writeFrom 0x02 (writeSegments t)) queryFlag 1 s P P' L L' b r → Post spellOperand writeOperand operandFlag 1 s P P' L L' a r
   operand-at-current i m h = post-so 1 (operand-current (a .pool) (byte-then 0x40 (a .at) (b .at) s i (m .0))) (omega arith) m (omega (arith, m .0)) h
@@ -258,7 +258,7 @@ module _ {s P P' L L' : List ℕ} {a b : State} {r : Step} where
       let q : named (functionBytes (w .word)) ≡ nameOf name = sym (named-of (named (functionBytes (w .word))) .0) ∙ ap (λ l. nameOf (namedNumber (named l))) (sym (w .bytes)) ∙ ap nameOf (sym n) in
       post-so 0 (operand-call (a .pool) (w .reads) name q (byte-then 0x28 e (b .at) s i (m .0))) (omega arith) m (omega (arith, m .0, w .from)) h
 
-module _ {s P P' L L' : List ℕ} {a : State} {r : Step} where
+module _ {s P P' L L' : List ℕ} {a : Cursor} {r : Step} where
   -- a word that is no function's name
   pub operand-at-keyword : {e : ℕ} → WordAt s (a .at) e → Is s e 0x28 false → Post spellKeyword writeKeyword noFlag 1 s P P' L L' a r → Post spellOperand writeOperand operandFlag 1 s P P' L L' a r
   operand-at-keyword w n h = post-so 1 (operand-keyword (a .pool) (w .reads) n) (omega arith) (stay a) (omega arith) h
@@ -279,7 +279,7 @@ module _ (R : ℕ → Type 0) (spR : (f : ℕ) → R f → List ℕ → List ℕ
     → Reads {M = Effect × ℕ} (spR (operandFlag x)) (λ t. (wR (operandFlag x) t (p + length (writeOperand x p .pool)), flR (operandFlag x) t)) (After k) r y r₁ → Reads {M = Effect × ℕ} spW (λ t. (wW t p, flW t)) (After k) s (make x y) r₁)
     (none : (p : ℕ) (s r : List ℕ) (x : Operand) → Reads {M = Effect × ℕ} spellOperand (λ t. (writeOperand t p, operandFlag t)) (After 1) s x r → ReadsNone (spR (operandFlag x)) (After k) r → ReadsNone spW (After k) s) where
   -- both were read, or what stands behind the operand was not
-  pub operand-then : {s P P₁ P₂ L L₁ L₂ : List ℕ} {a b : State} {f : ℕ} {r : Step} → Read spellOperand writeOperand operandFlag 1 s P P₁ L L₁ a b f → Post (spR f) (wR f) (flR f) k s P₁ P₂ L₁ L₂ b r → Post spW wW flW k s P P₂ L L₂ a r
+  pub operand-then : {s P P₁ P₂ L L₁ L₂ : List ℕ} {a b : Cursor} {f : ℕ} {r : Step} → Read spellOperand writeOperand operandFlag 1 s P P₁ L L₁ a b f → Post (spR f) (wR f) (flR f) k s P₁ P₂ L₁ L₂ b r → Post spW wW flW k s P P₂ L L₂ a r
   operand-then {s} {P} {P₁} {P₂} {L} {L₁} {L₂} {a} {b} {f} {r} h g = go (subst (λ (n : ℕ). Post (spR n) (wR n) (flR n) k s P₁ P₂ L₁ L₂ b r) (h .flag) g)
     where
       go : {q : Step} → Post (spR (operandFlag (h .tree))) (wR (operandFlag (h .tree))) (flR (operandFlag (h .tree))) k s P₁ P₂ L₁ L₂ b q → Post spW wW flW k s P P₂ L L₂ a q

@@ -1,35 +1,30 @@
-// Compile: from any bytes to a plan and a pool, or the right refusal.
 // The rules of the grammar that nest, one function for each, in the order of the grammar. Repetition is a loop, nesting a call.
-// Each function reads at the state's place, writes what it reads, and answers the state behind it or the place where reading stopped.
-ghost use mathlib.Core.Path.{_≡_};
-ghost use Rattle.definition.specs.Grammar.{spellSegments, spellSegment, spellBracketed, spellSelectors, spellSelector, spellLogicalOr, spellMoreOr, spellLogicalAnd, spellMoreAnd, spellBasic, spellParen, spellArguments, spellMoreArguments, spellArgument};
-ghost use Rattle.compile_writes.specs.Sorts.{sortMoreOr, sortMoreAnd, sortOr, sortAnd, sortBasic, sortParen, sortArgument, sortsOf, sortsMore};
-ghost use Rattle.compile_writes.specs.Writes.{writeSegments, writeSegment, writeSelectors, writeSelector, writeOr, writeMoreOr, writeAnd, writeMoreAnd, writeBasic, writeParen, writeArguments, writeMoreArguments, writeArgument, writeFrom, countMore};
+// Each function reads at the cursor's place, writes what it reads, and answers the cursor behind it or the place where reading stopped.
+mod calls;
+
+ghost use Rattle.definition.specs.Grammar.{spellSegments, spellSegment, spellBracketed, spellSelectors, spellSelector, spellLogicalOr, spellMoreOr, spellLogicalAnd, spellMoreAnd, spellBasic, spellParen};
+ghost use Rattle.compile_writes.specs.Sorts.{sortMoreOr, sortMoreAnd, sortOr, sortAnd, sortBasic, sortParen};
+ghost use Rattle.compile_writes.specs.Writes.{writeSegments, writeSegment, writeSelectors, writeSelector, writeOr, writeMoreOr, writeAnd, writeMoreAnd, writeBasic, writeParen, writeFrom, countMore};
 ghost use Prim.Native.Nat.{_≤_};
-ghost use lib.ListN.{drop};
-ghost use Rattle.parser_follow.specs.Follow.{unblank};
-ghost use Rattle.parser_items.specs.Reads.{Start, Post, LoosePost, noFlag, sortNumber, sortOf, segmentsFlag, segmentFlag, bracketedFlag, plainFlag, argumentsFrom, writeSelection, Known, Opens};
-ghost use Rattle.parser_follow.specs.Pieces.{spellFilter, writeFilter, spellNegation, writeNegation, spellBehindOf, writeBehindOf, behindOfSort, spellSide, writeSide, spellOperand, writeOperand, operandFlag, queryFlag, spellCall, writeCall, callSort, spellChainedOf, writeChainedOf, chainedOfSort};
-use parser_items::State;
+ghost use Rattle.parser_items.specs.Reads.{Asks, Post, LoosePost, noFlag, sortNumber, sortOf, segmentsFlag, segmentFlag, bracketedFlag, plainFlag, writeSelection, Known, Opens};
+ghost use Rattle.parser_follow.specs.Pieces.{spellFilter, writeFilter, spellNegation, writeNegation, spellBehindOf, writeBehindOf, behindOfSort, spellSide, writeSide, spellOperand, writeOperand, operandFlag, queryFlag};
+use calls::function;
+use parser_items::Cursor;
 use parser_items::Step;
-use parser_items::begins_operator;
 use parser_items::begins_segment;
-use parser_items::brackets_flag;
-use parser_items::call_sort;
-use parser_items::comparable;
-use parser_items::compared;
 use parser_items::item;
 use parser_items::judged;
-use parser_items::least;
 use parser_items::lowered;
 use parser_items::moved;
 use parser_items::not_tail;
-use parser_items::one_more;
 use parser_items::opened;
-use parser_items::plain_sort;
-use parser_items::query_flag;
 use parser_items::test_tail;
-use parser_items::write_call;
+use parser_items::verdicts::brackets_flag;
+use parser_items::verdicts::comparable;
+use parser_items::verdicts::compared;
+use parser_items::verdicts::least;
+use parser_items::verdicts::plain_sort;
+use parser_items::verdicts::query_flag;
 use parser_items::write_compare;
 use parser_items::write_dotted;
 use parser_items::write_keyword;
@@ -47,8 +42,8 @@ use plan_format::kinds;
 use text::bytes::put16;
 
 // segments = *( S segment ); tells whether all of them are those of a singular query
-fn segments(s: &[u8], plan: &mut [u8], pool: &mut [u8], st: State) -> Step
-    requires { ⌜ Start 0 (now s) (now plan) (now pool) st ⌝ }
+fn segments(s: &[u8], plan: &mut [u8], pool: &mut [u8], st: Cursor) -> Step
+    requires { ⌜ Asks 0 (now s) (now plan) (now pool) st ⌝ }
     ensures { λ r. ⌜ Post spellSegments writeSegments segmentsFlag 1 (now (s .entry)) (now (plan .entry)) (now (plan .exit)) (now (pool .entry)) (now (pool .exit)) st r ⌝ }
 {
     let mut now = st;
@@ -70,8 +65,8 @@ fn segments(s: &[u8], plan: &mut [u8], pool: &mut [u8], st: State) -> Step
 }
 
 // segment = child-segment / descendant-segment
-fn segment(s: &[u8], plan: &mut [u8], pool: &mut [u8], st: State) -> Step
-    requires { ⌜ Start 0 (now s) (now plan) (now pool) st ⌝ }
+fn segment(s: &[u8], plan: &mut [u8], pool: &mut [u8], st: Cursor) -> Step
+    requires { ⌜ Asks 0 (now s) (now plan) (now pool) st ⌝ }
     ensures { λ r. ⌜ Post spellSegment writeSegment segmentFlag 0 (now (s .entry)) (now (plan .entry)) (now (plan .exit)) (now (pool .entry)) (now (pool .exit)) st r ⌝ }
 {
     let at = st.at;
@@ -89,8 +84,8 @@ fn segment(s: &[u8], plan: &mut [u8], pool: &mut [u8], st: State) -> Step
 }
 
 // bracketed-selection = "[" S selector *( S "," S selector ) S "]", of a segment of the given kind
-fn bracketed(s: &[u8], plan: &mut [u8], pool: &mut [u8], st: State, kind: u8) -> Step
-    requires { ⌜ Start 0 (now s) (now plan) (now pool) st ⌝ }
+fn bracketed(s: &[u8], plan: &mut [u8], pool: &mut [u8], st: Cursor, kind: u8) -> Step
+    requires { ⌜ Asks 0 (now s) (now plan) (now pool) st ⌝ }
     ensures { λ r. ⌜ Post spellBracketed (writeSelection kind) bracketedFlag 0 (now (s .entry)) (now (plan .entry)) (now (plan .exit)) (now (pool .entry)) (now (pool .exit)) st r ⌝ }
 {
     let at = st.at;
@@ -121,8 +116,8 @@ fn bracketed(s: &[u8], plan: &mut [u8], pool: &mut [u8], st: State, kind: u8) ->
 }
 
 // *( S "," S selector ); tells how many
-fn selectors(s: &[u8], plan: &mut [u8], pool: &mut [u8], st: State) -> Step
-    requires { ⌜ Start 0 (now s) (now plan) (now pool) st ⌝ }
+fn selectors(s: &[u8], plan: &mut [u8], pool: &mut [u8], st: Cursor) -> Step
+    requires { ⌜ Asks 0 (now s) (now plan) (now pool) st ⌝ }
     ensures { λ r. ⌜ LoosePost spellSelectors writeSelectors countMore 0 5 (now (s .entry)) (now (plan .entry)) (now (plan .exit)) (now (pool .entry)) (now (pool .exit)) st r ⌝ }
 {
     let mut now = st;
@@ -145,8 +140,8 @@ fn selectors(s: &[u8], plan: &mut [u8], pool: &mut [u8], st: State) -> Step
 }
 
 // selector; tells whether it is a name or an index
-fn selector(s: &[u8], plan: &mut [u8], pool: &mut [u8], st: State) -> Step
-    requires { ⌜ Start 12 (now s) (now plan) (now pool) st ⌝ }
+fn selector(s: &[u8], plan: &mut [u8], pool: &mut [u8], st: Cursor) -> Step
+    requires { ⌜ Asks 12 (now s) (now plan) (now pool) st ⌝ }
     ensures { λ r. ⌜ LoosePost spellSelector writeSelector plainFlag 1 4 (now (s .entry)) (now (plan .entry)) (now (plan .exit)) (now (pool .entry)) (now (pool .exit)) st r ⌝ }
 {
     let at = st.at;
@@ -157,8 +152,8 @@ fn selector(s: &[u8], plan: &mut [u8], pool: &mut [u8], st: State) -> Step
 }
 
 // S logical-expr, behind the "?" of a filter-selector
-fn filter(s: &[u8], plan: &mut [u8], pool: &mut [u8], st: State) -> Step
-    requires { ⌜ Start 3 (now s) (now plan) (now pool) st ⌝ }
+fn filter(s: &[u8], plan: &mut [u8], pool: &mut [u8], st: Cursor) -> Step
+    requires { ⌜ Asks 3 (now s) (now plan) (now pool) st ⌝ }
     ensures { λ r. ⌜ Post spellFilter writeFilter noFlag 4 (now (s .entry)) (now (plan .entry)) (now (plan .exit)) (now (pool .entry)) (now (pool .exit)) st r ⌝ }
 {
     let at = st.at;
@@ -176,8 +171,8 @@ fn filter(s: &[u8], plan: &mut [u8], pool: &mut [u8], st: State) -> Step
 }
 
 // logical-or-expr = logical-and-expr *( S "||" S logical-and-expr ); tells its sort
-fn parse_or(s: &[u8], plan: &mut [u8], pool: &mut [u8], st: State, asked: bool) -> Step
-    requires { ⌜ Start 0 (now s) (now plan) (now pool) st ⌝ }
+fn parse_or(s: &[u8], plan: &mut [u8], pool: &mut [u8], st: Cursor, asked: bool) -> Step
+    requires { ⌜ Asks 0 (now s) (now plan) (now pool) st ⌝ }
     ensures { λ r. ⌜ Post spellLogicalOr (λ t. writeOr t asked) (λ t. sortNumber (sortOr t)) 4 (now (s .entry)) (now (plan .entry)) (now (plan .exit)) (now (pool .entry)) (now (pool .exit)) st r ⌝ }
 {
     let r = parse_and(s, plan, pool, st, asked);
@@ -188,8 +183,8 @@ fn parse_or(s: &[u8], plan: &mut [u8], pool: &mut [u8], st: State, asked: bool) 
 }
 
 // *( S "||" S logical-and-expr ), behind an operand of the given sort
-fn more_or(s: &[u8], plan: &mut [u8], pool: &mut [u8], st: State, sort: usize, asked: bool) -> Step
-    requires { ⌜ Start 0 (now s) (now plan) (now pool) st × (sort ≤ 4) ⌝ }
+fn more_or(s: &[u8], plan: &mut [u8], pool: &mut [u8], st: Cursor, sort: usize, asked: bool) -> Step
+    requires { ⌜ Asks 0 (now s) (now plan) (now pool) st × (sort ≤ 4) ⌝ }
     ensures { λ r. ⌜ Post spellMoreOr (λ t. writeMoreOr t (sortOf sort) asked) (λ t. sortNumber (sortMoreOr t (sortOf sort))) 4 (now (s .entry)) (now (plan .entry)) (now (plan .exit)) (now (pool .entry)) (now (pool .exit)) st r ⌝ }
 {
     let mut now = st;
@@ -218,8 +213,8 @@ fn more_or(s: &[u8], plan: &mut [u8], pool: &mut [u8], st: State, sort: usize, a
 }
 
 // logical-and-expr = basic-expr *( S "&&" S basic-expr ); tells its sort
-fn parse_and(s: &[u8], plan: &mut [u8], pool: &mut [u8], st: State, asked: bool) -> Step
-    requires { ⌜ Start 0 (now s) (now plan) (now pool) st ⌝ }
+fn parse_and(s: &[u8], plan: &mut [u8], pool: &mut [u8], st: Cursor, asked: bool) -> Step
+    requires { ⌜ Asks 0 (now s) (now plan) (now pool) st ⌝ }
     ensures { λ r. ⌜ Post spellLogicalAnd (λ t. writeAnd t asked) (λ t. sortNumber (sortAnd t)) 3 (now (s .entry)) (now (plan .entry)) (now (plan .exit)) (now (pool .entry)) (now (pool .exit)) st r ⌝ }
 {
     let r = basic(s, plan, pool, st);
@@ -230,8 +225,15 @@ fn parse_and(s: &[u8], plan: &mut [u8], pool: &mut [u8], st: State, asked: bool)
 }
 
 // *( S "&&" S basic-expr ), behind an operand of the given sort
-fn more_and(s: &[u8], plan: &mut [u8], pool: &mut [u8], st: State, sort: usize, asked: bool) -> Step
-    requires { ⌜ Start 0 (now s) (now plan) (now pool) st × (sort ≤ 4) ⌝ }
+fn more_and(
+    s: &[u8],
+    plan: &mut [u8],
+    pool: &mut [u8],
+    st: Cursor,
+    sort: usize,
+    asked: bool,
+) -> Step
+    requires { ⌜ Asks 0 (now s) (now plan) (now pool) st × (sort ≤ 4) ⌝ }
     ensures { λ r. ⌜ Post spellMoreAnd (λ t. writeMoreAnd t (sortOf sort) asked) (λ t. sortNumber (sortMoreAnd t (sortOf sort))) 3 (now (s .entry)) (now (plan .entry)) (now (plan .exit)) (now (pool .entry)) (now (pool .exit)) st r ⌝ }
 {
     let mut now = st;
@@ -260,8 +262,8 @@ fn more_and(s: &[u8], plan: &mut [u8], pool: &mut [u8], st: State, sort: usize, 
 }
 
 // basic-expr = paren-expr / comparison-expr / test-expr; tells its sort
-fn basic(s: &[u8], plan: &mut [u8], pool: &mut [u8], st: State) -> Step
-    requires { ⌜ Start 0 (now s) (now plan) (now pool) st ⌝ }
+fn basic(s: &[u8], plan: &mut [u8], pool: &mut [u8], st: Cursor) -> Step
+    requires { ⌜ Asks 0 (now s) (now plan) (now pool) st ⌝ }
     ensures { λ r. ⌜ Post spellBasic writeBasic (λ t. sortNumber (sortBasic t)) 2 (now (s .entry)) (now (plan .entry)) (now (plan .exit)) (now (pool .entry)) (now (pool .exit)) st r ⌝ }
 {
     let at = st.at;
@@ -279,8 +281,8 @@ fn basic(s: &[u8], plan: &mut [u8], pool: &mut [u8], st: State) -> Step
 }
 
 // S ( paren / filter-query / function-expr ), behind a "!"
-fn negation(s: &[u8], plan: &mut [u8], pool: &mut [u8], st: State) -> Step
-    requires { ⌜ Start 0 (now s) (now plan) (now pool) st ⌝ }
+fn negation(s: &[u8], plan: &mut [u8], pool: &mut [u8], st: Cursor) -> Step
+    requires { ⌜ Asks 0 (now s) (now plan) (now pool) st ⌝ }
     ensures { λ r. ⌜ Post spellNegation writeNegation (λ t. 4) 2 (now (s .entry)) (now (plan .entry)) (now (plan .exit)) (now (pool .entry)) (now (pool .exit)) st r ⌝ }
 {
     let at = st.at;
@@ -303,8 +305,8 @@ fn negation(s: &[u8], plan: &mut [u8], pool: &mut [u8], st: State) -> Step
 }
 
 // [ S comparison-op S comparable ], behind an operand with the given flag; tells the sort of the whole
-fn behind(s: &[u8], plan: &mut [u8], pool: &mut [u8], st: State, flag: usize) -> Step
-    requires { ⌜ Start 0 (now s) (now plan) (now pool) st × Known flag ⌝ }
+fn behind(s: &[u8], plan: &mut [u8], pool: &mut [u8], st: Cursor, flag: usize) -> Step
+    requires { ⌜ Asks 0 (now s) (now plan) (now pool) st × Known flag ⌝ }
     ensures { λ r. ⌜ Post (spellBehindOf flag) (writeBehindOf flag) (behindOfSort flag) 2 (now (s .entry)) (now (plan .entry)) (now (plan .exit)) (now (pool .entry)) (now (pool .exit)) st r ⌝ }
 {
     let at = st.at;
@@ -326,8 +328,8 @@ fn behind(s: &[u8], plan: &mut [u8], pool: &mut [u8], st: State, flag: usize) ->
 }
 
 // S comparable, behind a left side of the given sort and the operator op
-fn right(s: &[u8], plan: &mut [u8], pool: &mut [u8], st: State, sort: usize, op: u8) -> Step
-    requires { ⌜ Start 0 (now s) (now plan) (now pool) st × Known sort ⌝ }
+fn right(s: &[u8], plan: &mut [u8], pool: &mut [u8], st: Cursor, sort: usize, op: u8) -> Step
+    requires { ⌜ Asks 0 (now s) (now plan) (now pool) st × Known sort ⌝ }
     ensures { λ r. ⌜ Post spellSide (writeSide sort op) (λ t. 4) 2 (now (s .entry)) (now (plan .entry)) (now (plan .exit)) (now (pool .entry)) (now (pool .exit)) st r ⌝ }
 {
     let at = st.at;
@@ -343,8 +345,8 @@ fn right(s: &[u8], plan: &mut [u8], pool: &mut [u8], st: State, sort: usize, op:
 }
 
 // "(" S logical-expr S ")"; tells the sort of what is inside
-fn paren(s: &[u8], plan: &mut [u8], pool: &mut [u8], st: State) -> Step
-    requires { ⌜ Start 0 (now s) (now plan) (now pool) st × Opens 0x28 (now s) st ⌝ }
+fn paren(s: &[u8], plan: &mut [u8], pool: &mut [u8], st: Cursor) -> Step
+    requires { ⌜ Asks 0 (now s) (now plan) (now pool) st × Opens 0x28 (now s) st ⌝ }
     ensures { λ r. ⌜ Post spellParen writeParen (λ t. sortNumber (sortParen t)) 0 (now (s .entry)) (now (plan .entry)) (now (plan .exit)) (now (pool .entry)) (now (pool .exit)) st r ⌝ }
 {
     let at = st.at;
@@ -362,8 +364,8 @@ fn paren(s: &[u8], plan: &mut [u8], pool: &mut [u8], st: State) -> Step
 }
 
 // literal / filter-query / function-expr; tells the flag: 0 a literal, 1 to 4 the sort, 5 a query that a singular-query spells
-fn operand(s: &[u8], plan: &mut [u8], pool: &mut [u8], st: State) -> Step
-    requires { ⌜ Start 0 (now s) (now plan) (now pool) st ⌝ }
+fn operand(s: &[u8], plan: &mut [u8], pool: &mut [u8], st: Cursor) -> Step
+    requires { ⌜ Asks 0 (now s) (now plan) (now pool) st ⌝ }
     ensures { λ r. ⌜ Post spellOperand writeOperand operandFlag 1 (now (s .entry)) (now (plan .entry)) (now (plan .exit)) (now (pool .entry)) (now (pool .exit)) st r ⌝ }
 {
     let at = st.at;
@@ -383,8 +385,8 @@ fn operand(s: &[u8], plan: &mut [u8], pool: &mut [u8], st: State) -> Step
 }
 
 // segments behind "@" or "$", as a query that starts with the given item; tells the flag of an operand
-pub fn query(s: &[u8], plan: &mut [u8], pool: &mut [u8], st: State, start: u8) -> Step
-    requires { ⌜ Start 2 (now s) (now plan) (now pool) st ⌝ }
+pub fn query(s: &[u8], plan: &mut [u8], pool: &mut [u8], st: Cursor, start: u8) -> Step
+    requires { ⌜ Asks 2 (now s) (now plan) (now pool) st ⌝ }
     ensures { λ r. ⌜ Post spellSegments (λ t. writeFrom start (writeSegments t)) queryFlag 1 (now (s .entry)) (now (plan .entry)) (now (plan .exit)) (now (pool .entry)) (now (pool .exit)) st r ⌝ }
 {
     let head = item(plan, st, start);
@@ -393,116 +395,4 @@ pub fn query(s: &[u8], plan: &mut [u8], pool: &mut [u8], st: State, start: u8) -
         return r;
     };
     Step::Next(item(plan, n, kinds::END), query_flag(flag))
-}
-
-// S [ arguments ] S ")", behind the name and "(" of a call of the function with the given number; tells its sort
-fn function(s: &[u8], plan: &mut [u8], pool: &mut [u8], st: State, name: u8) -> Step
-    requires { ⌜ Start 0 (now s) (now plan) (now pool) st × (name ≤ 5) ⌝ }
-    ensures { λ r. ⌜ Post spellCall (writeCall name) (callSort name) 0 (now (s .entry)) (now (plan .entry)) (now (plan .exit)) (now (pool .entry)) (now (pool .exit)) st r ⌝ }
-{
-    let at = st.at;
-    let a = skip_blanks(s, at);
-    let r = arguments(s, plan, pool, moved(st, a));
-    let Step::Next(n, sorts) = r else {
-        return r;
-    };
-    let here = n.at;
-    let e = skip_blanks(s, here);
-    if !is(s, e, b')') {
-        return Step::Stop(e);
-    }
-    Step::Next(
-        write_call(plan, moved(n, e + 1), name, sorts),
-        call_sort(name),
-    )
-}
-
-// [ function-argument *( S "," S function-argument ) ]; tells the sorts
-fn arguments(s: &[u8], plan: &mut [u8], pool: &mut [u8], st: State) -> Step
-    requires { ⌜ Start 0 (now s) (now plan) (now pool) st × (unblank (drop (st .at) (now s)) ≡ drop (st .at) (now s)) ⌝ }
-    ensures { λ r. ⌜ Post spellArguments writeArguments (λ t. argumentsFrom 0 (sortsOf t)) 6 (now (s .entry)) (now (plan .entry)) (now (plan .exit)) (now (pool .entry)) (now (pool .exit)) st r ⌝ }
-{
-    let at = st.at;
-    if is(s, at, b')') {
-        return Step::Next(st, 0);
-    }
-    let r = argument(s, plan, pool, st);
-    let Step::Next(n, sort) = r else {
-        return r;
-    };
-    more_arguments(s, plan, pool, n, one_more(0, sort))
-}
-
-// *( S "," S function-argument ), behind arguments of the given sorts
-fn more_arguments(s: &[u8], plan: &mut [u8], pool: &mut [u8], st: State, sorts: usize) -> Step
-    requires { ⌜ Start 0 (now s) (now plan) (now pool) st × (sorts ≤ 31) ⌝ }
-    ensures { λ r. ⌜ Post spellMoreArguments writeMoreArguments (λ t. argumentsFrom sorts (sortsMore t)) 5 (now (s .entry)) (now (plan .entry)) (now (plan .exit)) (now (pool .entry)) (now (pool .exit)) st r ⌝ }
-{
-    let mut now = st;
-    let mut known = sorts;
-    loop {
-        let here = now.at;
-        let a = skip_blanks(s, here);
-        if !is(s, a, b',') {
-            return Step::Next(now, known);
-        }
-        let b = skip_blanks(s, a + 1);
-        match argument(s, plan, pool, moved(now, b)) {
-            Step::Stop(i) => return Step::Stop(i),
-            Step::Next(n, sort) => {
-                now = n;
-                known = one_more(known, sort);
-            }
-        }
-    }
-}
-
-// function-argument = literal / filter-query / logical-expr / function-expr; tells its sort
-fn argument(s: &[u8], plan: &mut [u8], pool: &mut [u8], st: State) -> Step
-    requires { ⌜ Start 0 (now s) (now plan) (now pool) st ⌝ }
-    ensures { λ r. ⌜ Post spellArgument writeArgument (λ t. sortNumber (sortArgument t)) 4 (now (s .entry)) (now (plan .entry)) (now (plan .exit)) (now (pool .entry)) (now (pool .exit)) st r ⌝ }
-{
-    let at = st.at;
-    if is(s, at, b'(') {
-        return parse_or(&s[0..], plan, pool, st, false);
-    }
-    if is(s, at, b'!') {
-        return parse_or(&s[0..], plan, pool, st, false);
-    }
-    let r = operand(&s[0..], plan, pool, st);
-    let Step::Next(n, flag) = r else {
-        return r;
-    };
-    if flag == 0 {
-        let here = n.at;
-        let a = skip_blanks(s, here);
-        if !begins_operator(s, a) {
-            return Step::Next(n, 0);
-        }
-    }
-    chained(&s[0..], plan, pool, n, flag)
-}
-
-// what is left of a logical-expr behind its first operand, straight in an argument
-fn chained(s: &[u8], plan: &mut [u8], pool: &mut [u8], st: State, flag: usize) -> Step
-    requires { ⌜ Start 0 (now s) (now plan) (now pool) st × Known flag ⌝ }
-    ensures { λ r. ⌜ Post (spellChainedOf flag) (writeChainedOf flag) (chainedOfSort flag) 4 (now (s .entry)) (now (plan .entry)) (now (plan .exit)) (now (pool .entry)) (now (pool .exit)) st r ⌝ }
-{
-    // Most arguments that are no literals are queries alone, with the end of the call behind them.
-    if flag != 0 {
-        let at = st.at;
-        let a = skip_blanks(s, at);
-        if is(s, a, b')') {
-            return Step::Next(st, plain_sort(flag));
-        }
-    }
-    let r = behind(s, plan, pool, st, flag);
-    let Step::Next(n, sort) = r else {
-        return r;
-    };
-    let q = more_and(s, plan, pool, n, sort, false);
-    let Step::Next(m, kind) = q else {
-        return q;
-    };
-    more_or(s, plan, pool, m, kind, false)
 }

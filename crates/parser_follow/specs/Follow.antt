@@ -19,11 +19,15 @@ unblank (c ∷ s) = cond (isBlank c) (unblank s) (c ∷ s)
 abbrev pub isNameByte : ℕ → Bool
 isNameByte c = isAlpha c || (eqb c 0x5F || (isDigit c || leb 0x80 c))
 
--- A tree of level k is followed by a byte of a higher rank.
+-- `.` or `[`: what a segment begins with
+abbrev pub isSegmentByte : ℕ → Bool
+isSegmentByte c = eqb c 0x2E || eqb c 0x5B
+
+-- A tree of level k is followed by a byte of a higher level.
 -- `.` `[` 1; `=` `!` `<` `>` 2; `&` 3; `|` 4; `,` 5; `]` and the end 6; `)` 7; any other byte 0.
 
-abbrev pub rank : ℕ → ℕ
-rank c =
+abbrev pub levelOf : ℕ → ℕ
+levelOf c =
     cond (eqb c 0x2E || eqb c 0x5B) 1
     (cond (eqb c 0x3D || (eqb c 0x21 || (eqb c 0x3C || eqb c 0x3E))) 2
     (cond (eqb c 0x26) 3
@@ -33,4 +37,4 @@ rank c =
     (cond (eqb c 0x29) 7 0))))))
 
 pub record After (k : ℕ) (r : List ℕ) : Type 0 where
-  pub above : k < rank (hd (unblank r))
+  pub above : k < levelOf (hd (unblank r))

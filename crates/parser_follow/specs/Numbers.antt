@@ -4,15 +4,20 @@ use mathlib.Core.List.{List, [], _∷_}
 use Prim.Native.Nat.{ℕ, _+_, _*_, _-_, _/_, _%_, _≤_}
 use lib.Dec.{eqb, leb}
 use Rattle.definition.specs.Grammar as G
-use Rattle.definition.specs.Walk.{Named}
+use Rattle.definition.specs.Walk.{Named, operatorForm}
 use Rattle.definition.specs.Walk.Named.{count, valueName, match, search, unknown}
 use Rattle.compile_writes.specs.Effects.{Marks, Writer, counted}
 use Rattle.compile_writes.specs.Sorts.{Sort, singularSegments, tightSegments, singularSegment, tightSegment, singularBrackets, tightBrackets, isPlainSelector, callVerdict}
 use Rattle.compile_writes.specs.Sorts.Sort.{literalSort, singularSort, nodesSort, valueSort, logicalSort}
 use Rattle.compile_writes.specs.Writes.{writeBracketed, countBracketed}
+use Rattle.definition.specs.Plans.{operatorByte}
 
 abbrev pub noFlag : {T : Type 0} → T → ℕ
 noFlag t = 0
+
+-- the byte of a comparison-op
+abbrev pub operatorNumber : G.Operator → ℕ
+operatorNumber o = operatorByte (operatorForm o)
 
 abbrev pub sortNumber : Sort → ℕ
 sortNumber literalSort = 0

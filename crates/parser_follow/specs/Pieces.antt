@@ -10,7 +10,7 @@ use Rattle.definition.specs.Grammar.FilterQuery.{relQuery, absQuery}
 use Rattle.definition.specs.Walk.{operatorForm}
 use Rattle.definition.specs.Plans.{operatorByte}
 use Rattle.compile_writes.specs.Effects.{Writer, first, skip, bytes, seq, frame, mark, verdict}
-use Rattle.compile_writes.specs.Sorts.{Sort, singularSegments, tightSegments, querySort, namedSort, sortOr, sortMoreOr, sortMoreAnd, sortParen, sortTest, sortComparable, sortFunction, sortsOf, valueVerdict, callVerdict}
+use Rattle.compile_writes.specs.Sorts.{singularSegments, tightSegments, querySort, namedSort, sortOr, sortMoreOr, sortMoreAnd, sortParen, sortTest, sortComparable, sortFunction, sortsOf, valueVerdict, callVerdict}
 use Rattle.compile_writes.specs.Writes.{writeOr, writeMoreOr, writeMoreAnd, writeParen, writeTest, writeComparable, writeLiteral, writeFilterQuery, writeFunction, writeArguments, testTail, writeNot, callBytes}
 use Rattle.parser_follow.specs.Numbers.{sortOf, sortNumber, nameOf, isComparable}
 

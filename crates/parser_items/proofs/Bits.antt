@@ -1,16 +1,13 @@
 -- A number in range as the machine holds it, and the bits of a slice's flags. Assumes nothing.
-use mathlib.Core.Path.{_≡_, refl, sym, ap, subst, _∙_}
-use mathlib.Core.Bool.{Bool, true, false, true≢false}
-use Prim.Native.Nat.{ℕ, suc, _+_, _-_, _^_, _≤_, _<_}
+use mathlib.Core.Path.{_≡_}
+use mathlib.Core.Bool.{Bool, true, false}
+use Prim.Native.Nat.{ℕ, suc, _≤_}
 use native.Mathlib.Omega.{arith}
-use borrow.Author.Tests.{ltb-true, leb-true}
-use lib.Dec.{T, ltb}
-use lib.IntN.{ℤ, pos, negsuc, natAbs}
-use lib.Signed.{ltZ, nonNeg}
+use borrow.Author.Tests.{leb-true}
+use lib.IntN.{ℤ, pos, negsuc}
 use mir.Syntax.{w64}
-use mir.Val.{Fits, SFits, toZ, ofZ}
-use mir.ValLaws.{toZ-pos, toZ-ofZ}
-use Rattle.definition.specs.Bytes.{unsigned64}
+use mir.Val.{toZ, ofZ}
+use mir.ValLaws.{toZ-ofZ}
 use Rattle.definition.specs.Limits.{maxInt}
 use Rattle.definition.specs.Literals.{inRange}
 use Rattle.parser_items.specs.Ranges.{bitOf}

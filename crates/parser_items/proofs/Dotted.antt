@@ -1,13 +1,13 @@
 -- What stands behind the dots of a segment: a `*`, or a name with all its bytes.
 -- Assumes nothing.
 use mathlib.Core.Path.{_≡_, refl, sym, ap, _∙_}
-use mathlib.Core.Bool.{Bool, true, false, false≢true}
+use mathlib.Core.Bool.{true, false, false≢true}
 use mathlib.Core.List.{List, [], _∷_, _++_, append-assoc}
-use Prim.Native.Nat.{ℕ, _+_, _-_, _≤_, _<_}
+use Prim.Native.Nat.{ℕ, _+_, _-_, _<_}
 use native.Mathlib.Omega.{arith}
 use lib.ListN.{length, drop, length-append}
 use lib.Seq.{sets}
-use Rattle.definition.specs.Bytes.{part, littleEndian}
+use Rattle.definition.specs.Bytes.{part}
 use Rattle.definition.specs.Lexical.{Name, nameBytes, spellName}
 use Rattle.definition.specs.Utf8.{isUtf8, encode, encodeAll}
 use Rattle.definition_bytes.specs.Same.{part-length}
@@ -15,14 +15,14 @@ use Rattle.utf8_laws.specs.Texts.{name-scalars}
 use Rattle.basics.specs.Reads.{Reads, ReadsNone, StartsNot, Wrote}
 use Rattle.utf8_laws.specs.Encode.{utf8-ascii, utf8-encode, utf8-encodeAll}
 use Rattle.utf8_laws.specs.Decode.{encode-long}
-use Rattle.utf8_laws.specs.Names.{firstByte, name-begins, name-scalar, first-char}
+use Rattle.utf8_laws.specs.Names.{name-begins, name-scalar, first-char}
 use Rattle.parser_scan.specs.Text.{isNameByte, Is, NameAt}
-use Rattle.compile_writes.specs.Effects.{Effect, Writer, bytes, pooling, counted}
+use Rattle.compile_writes.specs.Effects.{Effect, bytes, pooling, counted}
 use Rattle.parser_follow.specs.Leaves.{wildDotted, nameDotted}
-use Rattle.parser_items.specs.Reads.{After, Start, Done, Post, next, stop, Put, Pooled, Dotted, spellDotted, writeDotted, dottedFlag}
-use Rattle.parser_items.specs.Laws.{Moved, moved-done, put-put, put-done, pooled-done, done-single}
+use Rattle.parser_items.specs.Reads.{After, Asks, Post, next, stop, Put, Pooled, Dotted, spellDotted, writeDotted, dottedFlag}
+use Rattle.parser_items.specs.Laws.{Moved, moved-done, put-done, pooled-done, done-single}
 use Rattle.parser_items.specs.Follow.{after-name}
-use Rattle.parser_items.specs.declared.State.{State}
+use Rattle.parser_items.specs.declared.Cursor.{Cursor}
 use Rattle.parser_items.specs.declared.Step.the-variants as step
 
 -- ---- names and UTF-8
@@ -49,7 +49,7 @@ name-long {s} {a} {e} n =
 
 -- ---- a `*`
 
-module _ {s P L : List ℕ} {a : State} (kind : ℕ) (st : Start 0 s P L a) where
+module _ {s P L : List ℕ} {a : Cursor} (kind : ℕ) (st : Asks 0 s P L a) where
   wild-reads : (p : ℕ) → Is s (a .at) 0x2A true → Reads {M = Effect × ℕ} spellDotted (λ t. (writeDotted kind t p, dottedFlag t)) (After 0) (drop (a .at) s) wildDotted (drop (a .at + 1) s)
   wild-reads p i = record { eq = i .1; only = only }
     where
@@ -58,7 +58,7 @@ module _ {s P L : List ℕ} {a : State} (kind : ℕ) (st : Start 0 s P L a) wher
       only (nameDotted n) r m e = absurd (no-star n r (drop (a .at + 1) s) (sym (i .1) ∙ e))
 
   -- a `*` is read and written
-  pub dotted-wild : {P₁ P₂ : List ℕ} {b c d : State} → Is s (a .at) 0x2A true → Put P P₁ a b (kind ∷ 1 ∷ 0 ∷ []) → Put P₁ P₂ b c (0x08 ∷ []) → Moved c d (a .at + 1) →
+  pub dotted-wild : {P₁ P₂ : List ℕ} {b c d : Cursor} → Is s (a .at) 0x2A true → Put P P₁ a b (kind ∷ 1 ∷ 0 ∷ []) → Put P₁ P₂ b c (0x08 ∷ []) → Moved c d (a .at + 1) →
       Post spellDotted (writeDotted kind) dottedFlag 0 s P P₂ L L a (step.Next d 0)
   dotted-wild {d = d} i g h m =
       next {b = d} (record {
@@ -73,7 +73,7 @@ module _ {s P L : List ℕ} {a : State} (kind : ℕ) (st : Start 0 s P L a) wher
 
 -- ---- a name
 
-module _ {s P L : List ℕ} {a : State} (kind : ℕ) (st : Start 0 s P L a) (i : Is s (a .at) 0x2A false) where
+module _ {s P L : List ℕ} {a : Cursor} (kind : ℕ) (st : Asks 0 s P L a) (i : Is s (a .at) 0x2A false) where
   name-reads : (p e : ℕ) (n : NameAt s (a .at) e) → Reads {M = Effect × ℕ} spellDotted (λ t. (writeDotted kind t p, dottedFlag t)) (After 0) (drop (a .at) s) (nameDotted (n .name)) (drop e s)
   name-reads p e n = record { eq = n .reads .eq; only = only }
     where
@@ -85,7 +85,7 @@ module _ {s P L : List ℕ} {a : State} (kind : ℕ) (st : Start 0 s P L a) (i :
           (ap (λ (k : List ℕ). (counted kind 1 (pooling 0x05 k) p, 2)) (o .0), o .1)
 
   -- a name is read and written
-  pub dotted-name : {L' P₁ P₂ : List ℕ} {b c d : State} {e : ℕ} → NameAt s (a .at) e → Wrote L (a .pool) (part s (a .at) (e - a .at)) L' →
+  pub dotted-name : {L' P₁ P₂ : List ℕ} {b c d : Cursor} {e : ℕ} → NameAt s (a .at) e → Wrote L (a .pool) (part s (a .at) (e - a .at)) L' →
       Put P P₁ a b (kind ∷ 1 ∷ 0 ∷ []) → Pooled P₁ P₂ b c 0x05 (e - a .at) → Moved c d e → Post spellDotted (writeDotted kind) dottedFlag 0 s P P₂ L L' a (step.Next d 2)
   dotted-name {d = d} {e = e} n w g h m =
       let t : List ℕ = nameBytes (n .name) in

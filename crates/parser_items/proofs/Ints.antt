@@ -1,11 +1,11 @@
 -- Ints in a text: what they begin with, what may follow them, and the bounds that they make with the blanks behind them.
 -- Assumes nothing.
 use mathlib.Core.Path.{_≡_, refl, sym, ap, subst, _∙_}
-use mathlib.Core.Bool.{Bool, true, false, cond, _||_, true≢false, and-eq-true-iff}
+use mathlib.Core.Bool.{Bool, true, false, true≢false, and-eq-true-iff}
 use mathlib.Core.List.{List, [], _∷_, _++_}
-use Prim.Native.Nat.{ℕ, _+_, _≤_, _<_}
+use Prim.Native.Nat.{ℕ, _≤_, _<_}
 use native.Mathlib.Omega.{arith}
-use lib.IntN.{ℤ, pos}
+use lib.IntN.{ℤ}
 use lib.ListN.{length, drop}
 use mir.Syntax.{w64}
 use mir.Val.{toZ, ofZ}
@@ -14,10 +14,9 @@ use Rattle.definition.specs.Lexical.{isBlank, isDigit, isDigit1, Natural, Int, 
 use Rattle.definition.specs.Lexical.Int.{zeroInt, plainInt, minusInt}
 use Rattle.definition.specs.Lexical.Bound.{noBound, bound}
 use Rattle.definition.specs.Literals.{intValue, inRange}
-use Rattle.definition.specs.Plans.{eight}
 use Rattle.definition.specs.Utf8.{isUtf8}
 use Rattle.parser_follow.specs.Blanks.{split-blanks, unblank-blanks, unblank-byte}
-use Rattle.basics.specs.Reads.{Reads, ReadsNone, StartsNot}
+use Rattle.basics.specs.Reads.{ReadsNone, StartsNot}
 use Rattle.number_parse.specs.Ints as N
 use Rattle.number_parse.specs.Ints.{IntAt, IntAnswer}
 use Rattle.number_parse.specs.declared.IntRead.{IntRead}
@@ -26,10 +25,10 @@ use Rattle.utf8_laws.specs.Bytes.{by-test, inside, inside-low, inside-high}
 use Rattle.utf8_laws.specs.Encode.{utf8-ascii}
 use Rattle.parser_scan.specs.Text.{Skipped, unblank}
 use Rattle.compile_writes.specs.Writes.{keptInt, verdictInt}
-use Rattle.parser_items.specs.Reads.{rank, After}
+use Rattle.parser_items.specs.Reads.{levelOf, After}
 use Rattle.parser_items.specs.Laws.{unblank-twice}
 use Rattle.parser_items.specs.Follow.{Inner, isIntStart, inner-int, inner-digit}
-use Rattle.parser_items.specs.Ranges.{Field, intField, noField, boundField, fieldOf, IntThere, NoInt, IntOrNot}
+use Rattle.parser_items.specs.Ranges.{intField, noField, boundField, fieldOf, IntThere, NoInt, IntOrNot}
 use Rattle.parser_items.specs.declared.ranges.Piece.{Piece}
 use Rattle.parser_items.proofs.Bits.{range-bits}
 
@@ -80,8 +79,8 @@ pub after-no-int : {k : ℕ} (i : Int) (r l : List ℕ) → unblank l ≡ spellI
 after-no-int {k} i r l e a =
     let g = int-begun i r in
     let n = inner-int (g .byte) (g .good) in
-    let f : k < rank (g .byte) = rw (e ∙ g .is) at (a .above) in
-    omega (arith, n .rankless)
+    let f : k < levelOf (g .byte) = rw (e ∙ g .is) at (a .above) in
+    omega (arith, n .unlevelled)
 
 -- ---- UTF-8 behind an int
 

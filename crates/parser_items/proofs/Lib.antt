@@ -1,4 +1,4 @@
-pub mod Verdicts
+pub mod Typing
 pub mod Begins
 pub mod Stores
 pub mod Marks

@@ -1,4 +1,4 @@
--- The marks of a state as one number: what a verdict and a literal beyond the range of literals add to it. Assumes nothing.
+-- The marks of a cursor as one number: what a verdict and a literal beyond the range of literals add to it. Assumes nothing.
 use mathlib.Core.Path.{_≡_, sym}
 use mathlib.Core.Logic.{_≢_}
 use mathlib.Core.Bool.{true, false, or-false}

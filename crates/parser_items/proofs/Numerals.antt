@@ -1,14 +1,14 @@
 -- Number literals: what stands for each is written, and what may follow a number goes on with none of its characters.
 -- Assumes nothing.
 use mathlib.Core.Path.{_≡_, refl, sym, ap, subst, _∙_}
-use mathlib.Core.Bool.{Bool, true, false, cond, _||_, true≢false, and-eq-true-iff}
+use mathlib.Core.Bool.{true, false, true≢false}
 use mathlib.Core.List.{List, [], _∷_, _++_}
 use Prim.Native.Nat.{ℕ, _+_, _≤_, _<_}
 use native.Mathlib.Omega.{arith}
 use borrow.Author.Tests.{eqb-true}
 use lib.Dec.{eqb}
 use lib.IntN.{ℤ}
-use lib.ListN.{length, drop}
+use lib.ListN.{drop}
 use mir.Syntax.{w64}
 use mir.Val.{SFits, toZ, ofZ}
 use mir.ValLaws.{toZ-ofZ}
@@ -21,7 +21,7 @@ use Rattle.definition.specs.Lexical.Sign.{noSign, plusSign, minusSign}
 use Rattle.definition.specs.Lexical.Exponent.{noExponent, exponent}
 use Rattle.definition.specs.Literals.{Numeral, numeral, textBytes}
 use Rattle.definition.specs.Utf8.{isUtf8}
-use Rattle.basics.specs.Reads.{Reads, ReadsNone, StartsNot}
+use Rattle.basics.specs.Reads.{ReadsNone, StartsNot}
 use Rattle.number_literals.specs.Values.{meaning}
 use Rattle.number_literals.specs.declared.Literal.{Literal}
 use Rattle.number_literals.specs.declared.Literal.the-variants as literal
@@ -36,10 +36,10 @@ use Rattle.parser_scan.specs.Text.{Is}
 use Rattle.compile_writes.specs.Effects.{Effect, pooling}
 use Rattle.compile_writes.specs.Writes.{writeNumeral}
 use Rattle.parser_follow.specs.Leaves.{numberConstant, textConstant}
-use Rattle.parser_items.specs.Reads.{rank, After, Done, Post, next, stop, noFlag, Put, Constant, spellConstant, writeConstant}
+use Rattle.parser_items.specs.Reads.{levelOf, After, Done, Post, next, stop, noFlag, Put, Constant, spellConstant, writeConstant}
 use Rattle.parser_items.specs.Laws.{Moved, moved-done, put-put, put-done, Marked, marked-put, done-marked, after-starts, after-weaken}
 use Rattle.parser_items.specs.Follow.{inner-digit, isIntStart}
-use Rattle.parser_items.specs.declared.State.{State}
+use Rattle.parser_items.specs.declared.Cursor.{Cursor}
 use Rattle.parser_items.specs.declared.Step.{Step}
 use Rattle.parser_items.specs.declared.Step.the-variants as step
 use Rattle.parser_items.proofs.Ints.{digit-ascii, every-utf8, int-utf8, int-not}
@@ -47,7 +47,7 @@ use Rattle.parser_items.proofs.Quotes.{no-quoted}
 
 -- ---- what is written
 
-module _ {P P' P'' : List ℕ} {a b c : State} (v : Literal) where
+module _ {P P' P'' : List ℕ} {a b c : Cursor} (v : Literal) where
   -- an integer
   pub put-integer : {z : ℤ} {n : ℕ} (L : List ℕ) → v ≡ literal.Int z → SFits w64 z → n ≡ unsigned64 (toZ w64 (ofZ w64 z)) → Put P P' a b (0x10 ∷ []) → Put P' P'' b c (littleEndian 8 n) → Done P P'' L L a c (writeNumeral (meaning v) (a .pool))
   unfolding writeNumeral
@@ -59,7 +59,7 @@ module _ {P P' P'' : List ℕ} {a b c : State} (v : Literal) where
   put-float L e g h = rw e (put-done (put-put g h))
 
   -- a float beyond the range of literals
-  pub put-beyond : {d : State} (L : List ℕ) → v ≡ literal.Beyond → Marked a b (record { verdict = 0; beyond = true }) → Put P P' b c (0x13 ∷ []) → Put P' P'' c d (2 ∷ []) → Done P P'' L L a d (writeNumeral (meaning v) (a .pool))
+  pub put-beyond : {d : Cursor} (L : List ℕ) → v ≡ literal.Beyond → Marked a b (record { verdict = 0; beyond = true }) → Put P P' b c (0x13 ∷ []) → Put P' P'' c d (2 ∷ []) → Done P P'' L L a d (writeNumeral (meaning v) (a .pool))
   unfolding writeNumeral
   put-beyond L e k g h = rw e (done-marked (marked-put k (put-put g h)))
 
@@ -68,10 +68,10 @@ module _ {P P' P'' : List ℕ} {a b c : State} (v : Literal) where
 letter-ascii : (c : ℕ) → isE c ≡ true → c < 0x80
 letter-ascii c e = by-test (eqb c 0x65) (λ t. let q = eqb-true c 0x65 t in omega arith) (λ f. let q = eqb-true c 0x45 (rw f at e) in omega arith)
 
--- neither a blank nor a byte of a rank above 1 goes on with a number
-number-apart : (c : ℕ) → isNumberChar c ≡ true → (isBlank c ≡ false) × (rank c ≤ 1)
+-- neither a blank nor a byte of a level above 1 goes on with a number
+number-apart : (c : ℕ) → isNumberChar c ≡ true → (isBlank c ≡ false) × (levelOf c ≤ 1)
 number-apart c e =
-    by-test (isDigit c) (λ t. let i = inner-digit c t in (i .solid, rw (i .rankless) (omega arith))) (λ f.
+    by-test (isDigit c) (λ t. let i = inner-digit c t in (i .solid, rw (i .unlevelled) (omega arith))) (λ f.
     by-test (isPoint c) (λ t. let q : c ≡ 0x2E = eqb-true c 0x2E t in rw q (refl, omega arith)) (λ g.
     by-test (eqb c 0x65) (λ t. let q : c ≡ 0x65 = eqb-true c 0x65 t in rw q (refl, omega arith)) (λ h.
     let q : c ≡ 0x45 = eqb-true c 0x45 (rw (f, g, h) at e) in rw q (refl, omega arith))))
@@ -122,7 +122,7 @@ module _ {s : List ℕ} {a : ℕ} {r : NumberRead} (h : NumberAnswer s a r) wher
   pub no-number-of : {i : ℕ} → r ≡ read.Nothing i → ReadsNone spellNumber (StartsNot isNumberChar) (drop a s)
   no-number-of q = number-nothing (rw q at h)
 
-module _ {s : List ℕ} (a : State) (f : Is s (a .at) 0x22 false) (g : Is s (a .at) 0x27 false) where
+module _ {s : List ℕ} (a : Cursor) (f : Is s (a .at) 0x22 false) (g : Is s (a .at) 0x27 false) where
   -- neither a number nor a quoted text stands there
   pub constant-none : {P P' L L' : List ℕ} {i : ℕ} → ReadsNone spellNumber (StartsNot isNumberChar) (drop (a .at) s) → Post spellConstant writeConstant noFlag 1 s P P' L L' a (step.Stop i)
   constant-none n = stop (record { none = none })
@@ -132,7 +132,7 @@ module _ {s : List ℕ} (a : State) (f : Is s (a .at) 0x22 false) (g : Is s (a .
       none (textConstant x) r m e = no-quoted s (a .at) f g x r e
 
   -- a number is read and written
-  pub constant-number : {P P' L : List ℕ} {c d : State} {e : ℕ} {v : Numeral} → NumberAt s (a .at) e v → isUtf8 (drop (a .at) s) ≡ true → Done P P' L L a c (writeNumeral v (a .pool)) → Moved c d e →
+  pub constant-number : {P P' L : List ℕ} {c d : Cursor} {e : ℕ} {v : Numeral} → NumberAt s (a .at) e v → isUtf8 (drop (a .at) s) ≡ true → Done P P' L L a c (writeNumeral v (a .pool)) → Moved c d e →
       Post spellConstant writeConstant noFlag 1 s P P' L L a (step.Next d 0)
   constant-number {P} {P'} {L} {c} {d} {e} {v} n u h m =
       next {b = d} (record {
@@ -160,7 +160,7 @@ number-not {s} n r x l f e q = by (n .whole) q
     by minusZero g = let h : x ≡ 0x2D = cc in true≢false (rw h at f)
 
 -- a quoted text is a literal
-pub constant-text : {s P P' L L' : List ℕ} (a : State) {r : Step} (x : ℕ) → isIntStart x ≡ false → Is s (a .at) x true → Post spellText (λ t. pooling 0x12 (textBytes t)) (λ t. 0) 0 s P P' L L' a r →
+pub constant-text : {s P P' L L' : List ℕ} (a : Cursor) {r : Step} (x : ℕ) → isIntStart x ≡ false → Is s (a .at) x true → Post spellText (λ t. pooling 0x12 (textBytes t)) (λ t. 0) 0 s P P' L L' a r →
     Post spellConstant writeConstant noFlag 1 s P P' L L' a r
 constant-text {s} a x f i (stop h) = stop (record { none = none })
   where

@@ -1,15 +1,15 @@
 -- Quoted texts: a quote begins one, and where neither quote stands there is none.
 -- Assumes nothing.
 use mathlib.Core.Path.{_≡_, refl, sym, ap, subst, _∙_}
-use mathlib.Core.List.{List, [], _∷_, _++_}
-use mathlib.Core.Bool.{Bool, true, false}
-use Prim.Native.Nat.{ℕ, _+_, _-_, _≤_, _<_}
+use mathlib.Core.List.{List, _∷_}
+use mathlib.Core.Bool.{true, false}
+use Prim.Native.Nat.{ℕ, _+_, _-_, _<_}
 use native.Mathlib.Omega.{arith}
 use lib.ListN.{length, drop}
-use Rattle.definition.specs.Lexical.{Char, Text, Quote, ownByte, spellChars, spellText}
+use Rattle.definition.specs.Lexical.{Text, Quote, ownByte, spellChars, spellText}
 use Rattle.definition.specs.Lexical.Quote.{double, single}
 use Rattle.definition.specs.Literals.{charsBytes, textBytes}
-use Rattle.basics.specs.Reads.{Reads, ReadsNone}
+use Rattle.basics.specs.Reads.{ReadsNone}
 use Rattle.text_quoted.specs.Quoted.{quoteOf, Opened, spellClosed, Any, Unescapes, Refuses, Unescaping}
 use Rattle.text_quoted.specs.Laws.{quote-of-own}
 use Rattle.text_quoted.specs.declared.Unescaped.{Unescaped}
@@ -17,9 +17,9 @@ use Rattle.text_quoted.specs.declared.Unescaped.the-variants as unescaped
 use Rattle.utf8_laws.specs.Encode.{utf8-ascii}
 use Rattle.parser_scan.specs.Text.{Is}
 use Rattle.compile_writes.specs.Effects.{pooling}
-use Rattle.parser_items.specs.Reads.{After, Start, Post, next, stop, Pooled}
+use Rattle.parser_items.specs.Reads.{Asks, Post, next, stop, Pooled}
 use Rattle.parser_items.specs.Laws.{Moved, moved-done, pooled-done}
-use Rattle.parser_items.specs.declared.State.{State}
+use Rattle.parser_items.specs.declared.Cursor.{Cursor}
 use Rattle.parser_items.specs.declared.Step.the-variants as step
 
 -- no quoted text begins where neither quote stands
@@ -41,7 +41,7 @@ own-ascii single c e = omega arith
 own-same : (p q : Quote) → ownByte p ≡ ownByte q → p ≡ q
 own-same p q e = sym (quote-of-own p) ∙ ap quoteOf e ∙ quote-of-own q
 
-module _ {s P L : List ℕ} {a : State} (quote kind told : ℕ) (st : Start 0 s P L a) (own : ownByte (quoteOf quote) ≡ quote) (i : Is s (a .at) quote true) where
+module _ {s P L : List ℕ} {a : Cursor} (quote kind told : ℕ) (st : Asks 0 s P L a) (own : ownByte (quoteOf quote) ≡ quote) (i : Is s (a .at) quote true) where
   -- what follows the quote may be read
   pub text-opened : Opened quote s (a .at + 1) L (a .pool)
   text-opened =
@@ -69,7 +69,7 @@ module _ {s P L : List ℕ} {a : State} (quote kind told : ℕ) (st : Start 0 s 
   text-none n = stop (record { none = λ t r m e. n .none (t .chars) r tt (closed t r e) })
 
   -- a text is read and written
-  pub text-done : {P' L' : List ℕ} {b d : State} {e end : ℕ} → Unescapes (quoteOf quote) s (a .at + 1) L (a .pool) L' e end → Pooled P P' a b kind (end - a .pool) → Moved b d e →
+  pub text-done : {P' L' : List ℕ} {b d : Cursor} {e end : ℕ} → Unescapes (quoteOf quote) s (a .at + 1) L (a .pool) L' e end → Pooled P P' a b kind (end - a .pool) → Moved b d e →
       Post spellText (λ t. pooling kind (textBytes t)) (λ t. told) 0 s P P' L L' a (step.Next d told)
   unfolding textBytes
   text-done {P'} {L'} {b} {d} {e} {end} u h m =

@@ -1,27 +1,25 @@
 -- The selectors that do not nest, by their first byte: a quote begins a name, and `*` is the wildcard.
 -- Assumes nothing.
 use mathlib.Core.Path.{_≡_, refl, sym, ap, _∙_}
-use mathlib.Core.Bool.{Bool, true, false, true≢false}
+use mathlib.Core.Bool.{true, false}
 use mathlib.Core.List.{List, [], _∷_}
-use Prim.Native.Nat.{ℕ, _+_, _≤_, _<_}
+use Prim.Native.Nat.{ℕ, _+_}
 use native.Mathlib.Omega.{arith}
 use borrow.Author.Tests.{eqb-false}
 use lib.Dec.{eqb}
-use lib.ListN.{length, drop}
-use Rattle.definition.specs.Lexical.{Bound, Slice, Text, Quote, ownByte, spellBlanks, spellBound, spellStep, spellSlice, spellText, spellInt}
+use lib.ListN.{drop}
+use Rattle.definition.specs.Lexical.{Bound, Slice, spellBlanks, spellBound, spellStep, spellSlice, spellText}
 use Rattle.definition.specs.Lexical.Bound.{noBound, bound}
-use Rattle.definition.specs.Lexical.Quote.{double, single}
 use Rattle.definition.specs.Literals.{textBytes}
 use Rattle.definition.specs.Utf8.{isUtf8}
-use Rattle.basics.specs.Reads.{Reads, ReadsNone}
 use Rattle.utf8_laws.specs.Encode.{utf8-ascii}
 use Rattle.parser_scan.specs.Text.{Is, unblank}
-use Rattle.compile_writes.specs.Effects.{Effect, pooling, bytes}
+use Rattle.compile_writes.specs.Effects.{Effect, pooling}
 use Rattle.parser_follow.specs.Leaves.{textPlain, wildPlain, slicePlain, indexPlain}
-use Rattle.parser_items.specs.Reads.{After, Start, Post, LooseRead, LoosePost, next, stop, Put, Plain, spellPlain, writePlain, isPlain}
+use Rattle.parser_items.specs.Reads.{After, Post, LoosePost, next, stop, Put, Plain, spellPlain, writePlain, isPlain}
 use Rattle.parser_items.specs.Laws.{Moved, moved-done, put-done, after-weaken}
 use Rattle.parser_items.specs.Follow.{isIntStart}
-use Rattle.parser_items.specs.declared.State.{State}
+use Rattle.parser_items.specs.declared.Cursor.{Cursor}
 use Rattle.parser_items.specs.declared.Step.{Step}
 use Rattle.parser_items.specs.declared.Step.the-variants as step
 use Rattle.parser_items.proofs.Ints.{int-not}
@@ -43,7 +41,7 @@ slice-not {s} t r x l f g e q = by (t .start) (spellBlanks (t .blanks) (spellBou
 wild-not : {s : List ℕ} (r : List ℕ) (x : ℕ) (l : List ℕ) → eqb x 0x2A ≡ false → s ≡ x ∷ l → s ≡ 0x2A ∷ r → ⊥
 wild-not r x l w e q = let k : x ≡ 0x2A = cc in eqb-false x 0x2A w k
 
-module _ {s P P' L L' : List ℕ} (a : State) (x : ℕ) (f : isIntStart x ≡ false) (g : eqb x 0x3A ≡ false) (w : eqb x 0x2A ≡ false) (i : Is s (a .at) x true) where
+module _ {s P P' L L' : List ℕ} (a : Cursor) (x : ℕ) (f : isIntStart x ≡ false) (g : eqb x 0x3A ≡ false) (w : eqb x 0x2A ≡ false) (i : Is s (a .at) x true) where
   -- a quoted text is a selector
   pub selector-text : {r : Step} → Post spellText (λ t. pooling 0x05 (textBytes t)) (λ t. 1) 0 s P P' L L' a r → LoosePost spellPlain writePlain isPlain 1 4 s P P' L L' a r
   selector-text (stop h) = stop (record { none = none })
@@ -75,7 +73,7 @@ module _ {s P P' L L' : List ℕ} (a : State) (x : ℕ) (f : isIntStart x ≡ fa
 
 -- ---- the wildcard
 
-pub selector-wild : {s P P' L : List ℕ} (a : State) {b d : State} → isUtf8 (drop (a .at) s) ≡ true → Is s (a .at) 0x22 false → Is s (a .at) 0x27 false → Is s (a .at) 0x2A true → Put P P' a b (0x08 ∷ []) → Moved b d (a .at + 1) →
+pub selector-wild : {s P P' L : List ℕ} (a : Cursor) {b d : Cursor} → isUtf8 (drop (a .at) s) ≡ true → Is s (a .at) 0x22 false → Is s (a .at) 0x27 false → Is s (a .at) 0x2A true → Put P P' a b (0x08 ∷ []) → Moved b d (a .at + 1) →
     LoosePost spellPlain writePlain isPlain 1 4 s P P' L L a (step.Next d 0)
 selector-wild {s} a {d = d} u f g i h m =
     next {b = d} (record {

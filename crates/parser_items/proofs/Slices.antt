@@ -1,34 +1,33 @@
 -- Slices and indices: an int with a colon behind its blanks begins a slice, and any other is an index.
 -- Assumes nothing.
 use mathlib.Core.Path.{_≡_, refl, sym, ap, subst, _∙_}
-use mathlib.Core.Bool.{Bool, true, false, cond, not, true≢false}
-use mathlib.Core.List.{List, [], _∷_, _++_}
-use Prim.Native.Nat.{ℕ, _+_, _-_, _*_, _≤_, _<_}
+use mathlib.Core.Bool.{Bool, true, false}
+use mathlib.Core.List.{List, _∷_}
+use Prim.Native.Nat.{ℕ, _+_, _≤_}
 use native.Mathlib.Omega.{arith}
 use lib.ListN.{length, drop}
 use Rattle.definition.specs.Bytes.{littleEndian}
 use Rattle.definition.specs.Lexical as X
-use Rattle.definition.specs.Lexical.{isBlank, isDigit, Int, Bound, Blanks, Slice, spellBlanks, spellInt, spellBound, spellStep, spellSlice}
+use Rattle.definition.specs.Lexical.{isDigit, Int, Bound, Slice, spellBlanks, spellInt, spellBound, spellStep, spellSlice}
 use Rattle.definition.specs.Lexical.Bound.{noBound, bound}
 use Rattle.definition.specs.Lexical.Step.{noStep, colon, step}
-use Rattle.definition.specs.Literals.{intValue}
 use Rattle.definition.specs.Utf8.{isUtf8}
-use Rattle.parser_follow.specs.Blanks.{split-blanks, unblank-blanks, unblank-byte}
-use Rattle.basics.specs.Reads.{Reads, ReadsNone, StartsNot}
+use Rattle.parser_follow.specs.Blanks.{split-blanks, unblank-blanks}
+use Rattle.basics.specs.Reads.{StartsNot}
 use Rattle.utf8_laws.specs.Encode.{utf8-ascii}
 use Rattle.parser_scan.specs.Text.{Is, Skipped, unblank}
-use Rattle.compile_writes.specs.Effects.{Effect, Writer, Marks, first, bytes, mark, verdict, seq}
-use Rattle.compile_writes.specs.Writes.{keptInt, verdictInt, writeIndex, writeSlice, boundBit, boundBytes, boundVerdict, stepBit, stepBytes, stepVerdict}
+use Rattle.compile_writes.specs.Effects.{Effect, Writer, bytes, mark, verdict, seq}
+use Rattle.compile_writes.specs.Writes.{writeIndex, writeSlice, boundBit, boundBytes, boundVerdict, stepBit, stepBytes, stepVerdict}
 use Rattle.parser_follow.specs.Leaves.{textPlain, wildPlain, slicePlain, indexPlain}
-use Rattle.parser_items.specs.Reads.{rank, After, Done, LooseRead, LoosePost, next, stop, PutMarked, Plain, spellPlain, writePlain, isPlain}
-use Rattle.parser_items.specs.Laws.{Moved, moved-done, done-marked, unblank-twice, unblank-not, unblank-starts, after-not}
+use Rattle.parser_items.specs.Reads.{After, Done, LoosePost, next, stop, PutMarked, Plain, spellPlain, writePlain, isPlain}
+use Rattle.parser_items.specs.Laws.{Moved, moved-done, done-marked, unblank-twice, after-not}
 use Rattle.parser_items.specs.Follow.{isIntStart, inner-digit, after-digit, after-int}
 use Rattle.parser_items.specs.Ranges.{Field, intField, noField, boundField, stepField, fieldOf, IntThere, NoInt, IntOrNot, StepThere, NoText, bitOf, sliceBytes, sliceMarks}
 use Rattle.parser_items.specs.declared.ranges.Piece.{Piece}
-use Rattle.parser_items.specs.declared.State.{State}
+use Rattle.parser_items.specs.declared.Cursor.{Cursor}
 use Rattle.parser_items.specs.declared.Step.the-variants as answer
 use Rattle.parser_items.proofs.Quotes.{no-quoted}
-use Rattle.parser_items.proofs.Ints.{int-begun, int-not, int-starts, int-unblank, int-utf8, after-no-int, starts-digit, starts-blanks, field-same, BoundThere, bound-there}
+use Rattle.parser_items.proofs.Ints.{int-not, int-unblank, int-utf8, after-no-int, starts-digit, starts-blanks, field-same, BoundThere, bound-there}
 
 -- a colon is no blank, and nothing that begins with one may follow a tree
 after-no-colon : {k : ℕ} (l r : List ℕ) → unblank l ≡ 0x3A ∷ r → After k l → ⊥
@@ -202,7 +201,7 @@ index-written i n = refl
 
 -- ---- the answers
 
-module _ {s : List ℕ} (a : State) (no : NoText s (a .at)) where
+module _ {s : List ℕ} (a : Cursor) (no : NoText s (a .at)) where
   module _ (p : Piece) (colonThere : Is s (p .at) 0x3A true) where
     -- where a colon stands behind the blanks of an int, or with no int, there is no index
     no-index : (g : Bool) → IntOrNot s (a .at) p g → (i : Int) (r : List ℕ) → After 4 r → drop (a .at) s ≡ spellInt i r → ⊥
@@ -223,7 +222,7 @@ module _ {s : List ℕ} (a : State) (no : NoText s (a .at)) where
           (ap (λ (w : Effect). (w, 0)) (slice-written t (a .pool) ∙ rw (o .0 ∙ sym (x .field), o .1 .0 ∙ sym (y .field), o .1 .1 .0 ∙ sym (z .field))), o .1 .1 .1)
 
       -- a slice is read and written
-      pub slice-post : {P P' : List ℕ} (L : List ℕ) {c d : State} → isUtf8 (drop (a .at) s) ≡ true → PutMarked P P' a c (sliceBytes (fieldOf p) (fieldOf q) (fieldOf u)) (sliceMarks (fieldOf p) (fieldOf q) (fieldOf u)) → Moved c d (u .at) →
+      pub slice-post : {P P' : List ℕ} (L : List ℕ) {c d : Cursor} → isUtf8 (drop (a .at) s) ≡ true → PutMarked P P' a c (sliceBytes (fieldOf p) (fieldOf q) (fieldOf u)) (sliceMarks (fieldOf p) (fieldOf q) (fieldOf u)) → Moved c d (u .at) →
           LoosePost spellPlain writePlain isPlain 1 4 s P P' L L a (answer.Next d 0)
       slice-post {P} {P'} L {c} {d} v w m =
           let x = bound-there g h in
@@ -278,7 +277,7 @@ module _ {s : List ℕ} (a : State) (no : NoText s (a .at)) where
           (ap (λ (w : Effect). (w, 1)) (index-written i (a .pool) ∙ ap (λ (f : Field). indexWriter f (a .pool)) (field-same i (h .int) (o .0) ∙ sym (h .field))), o .1)
 
       -- an index is read and written
-      pub index-post : {P P' : List ℕ} (L : List ℕ) {c d : State} → isUtf8 (drop (a .at) s) ≡ true → PutMarked P P' a c (0x06 ∷ littleEndian 8 (p .bits)) (record { verdict = p .verdict; beyond = false }) → Moved c d (p .end) →
+      pub index-post : {P P' : List ℕ} (L : List ℕ) {c d : Cursor} → isUtf8 (drop (a .at) s) ≡ true → PutMarked P P' a c (0x06 ∷ littleEndian 8 (p .bits)) (record { verdict = p .verdict; beyond = false }) → Moved c d (p .end) →
           LoosePost spellPlain writePlain isPlain 1 4 s P P' L L a (answer.Next d 1)
       index-post {P} {P'} L {c} {d} v w m =
           let f : indexWriter (fieldOf p) (a .pool) ≡ writeIndex (h .int) (a .pool) = sym (index-written (h .int) (a .pool) ∙ ap (λ (g : Field). indexWriter g (a .pool)) (sym (h .field))) in

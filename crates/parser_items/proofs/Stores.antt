@@ -1,11 +1,11 @@
 -- Runs of stores one behind the other. Assumes nothing.
 use mathlib.Core.Path.{_≡_, refl, sym, ap, _∙_}
 use mathlib.Core.Bool.{false}
-use mathlib.Core.List.{List, [], _∷_, _++_}
-use Prim.Native.Nat.{ℕ, suc, _+_, _≤_, _<_}
+use mathlib.Core.List.{List, _∷_, _++_}
+use Prim.Native.Nat.{ℕ, _+_}
 use native.Mathlib.Numerals.{add-one}
 use native.Mathlib.Omega.{arith}
-use lib.ListN.{length, set, length-append}
+use lib.ListN.{length, set}
 use lib.Seq.{sets}
 use Rattle.basics.specs.Reads.{Wrote}
 use Rattle.definition.specs.Bytes.{littleEndian}
@@ -15,7 +15,7 @@ use Rattle.basics.specs.Lists.{sets-append}
 use Rattle.compile_writes.specs.Effects.{first, joinMarks}
 use Rattle.parser_items.specs.Reads.{Put, Pooled}
 use Rattle.parser_items.specs.Laws.{Marked, marked-then}
-use Rattle.parser_items.specs.declared.State.{State}
+use Rattle.parser_items.specs.declared.Cursor.{Cursor}
 
 -- a byte and then a run
 pub set-run : {p q : List ℕ} {n x : ℕ} {c : List ℕ} → Wrote (set p n x) (n + 1) c q → Wrote p n (x ∷ c) q
@@ -26,7 +26,7 @@ pub run-run : {p q r : List ℕ} {n m : ℕ} {c d : List ℕ} → Wrote p n c q 
 run-run {p} {q} {r} {n} {m} {c} {d} v e w = record { is = w .is ∙ rw (e, v .is) (sets-append p n c d) }
 
 -- a byte and two numbers of two bytes
-pub pooled-put : (P : List ℕ) (a : State) (kind n : ℕ) {Q R : List ℕ} → Wrote (set P (a .len) kind) (a .len + 1) (two (a .pool)) Q → Wrote Q (a .len + 3) (two n) R →
+pub pooled-put : (P : List ℕ) (a : Cursor) (kind n : ℕ) {Q R : List ℕ} → Wrote (set P (a .len) kind) (a .len + 1) (two (a .pool)) Q → Wrote Q (a .len + 3) (two n) R →
     Pooled P R a (record { at = a .at; len = a .len + 5; pool = a .pool + n; marks = a .marks }) kind n
 pooled-put P a kind n g h =
     record {
@@ -38,12 +38,12 @@ pooled-put P a kind n g h =
     }
 
 -- eight bytes at the end of the plan
-pub eight-put : (P : List ℕ) (a : State) (n : ℕ) {Q : List ℕ} → Wrote P (a .len) (littleEndian 8 n) Q →
+pub eight-put : (P : List ℕ) (a : Cursor) (n : ℕ) {Q : List ℕ} → Wrote P (a .len) (littleEndian 8 n) Q →
     Put P Q a (record { at = a .at; len = a .len + 8; pool = a .pool; marks = a .marks }) (littleEndian 8 n)
 eight-put P a n w = record { at = refl; len = ap (λ (k : ℕ). a .len + k) (sym (little-endian-length 8 n)); pool = refl; marks = refl; plan = w .is }
 
 -- three verdicts in a row
-pub marked-three : {a b c d : State} {u v w : ℕ} → Marked a b (record { verdict = u; beyond = false }) → Marked b c (record { verdict = v; beyond = false }) →
+pub marked-three : {a b c d : Cursor} {u v w : ℕ} → Marked a b (record { verdict = u; beyond = false }) → Marked b c (record { verdict = v; beyond = false }) →
     Marked c d (record { verdict = w; beyond = false }) → Marked a d (record { verdict = first u (first v w); beyond = false })
 unfolding joinMarks
 marked-three g h k = marked-then g (marked-then h k)

@@ -2,17 +2,16 @@
 -- Assumes nothing.
 use mathlib.Core.Path.{_≡_, refl, sym, ap, subst, _∙_}
 use mathlib.Core.Logic.{_≢_}
-use mathlib.Core.Bool.{Bool, true, false, cond}
+use mathlib.Core.Bool.{true, cond}
 use mathlib.Core.List.{List, [], _∷_, _++_}
-use Prim.Native.Nat.{ℕ, _+_, _-_, _≤_, _<_}
+use Prim.Native.Nat.{ℕ, _-_}
 use native.Mathlib.Omega.{arith}
 use lib.Dec.{eqb}
-use lib.ListN.{length, drop}
+use lib.ListN.{drop}
 use Rattle.definition.specs.Bytes.{part, sameBytes}
-use Rattle.definition.specs.Lexical.{FunctionName, isFunctionChar, functionBytes, spellFunctionName}
+use Rattle.definition.specs.Lexical.{FunctionName, functionBytes, spellFunctionName}
 use Rattle.definition.specs.Utf8.{isUtf8}
 use Rattle.definition_bytes.specs.Same.{same-true}
-use Rattle.basics.specs.Reads.{Reads, ReadsNone}
 use Rattle.utf8_laws.specs.Bytes.{by-test}
 use Rattle.parser_scan.specs.Text.{WordAt, keywordNumber}
 use Rattle.compile_writes.specs.Effects.{Effect, bytes}
@@ -21,7 +20,7 @@ use Rattle.parser_follow.specs.Leaves.{trueWord, falseWord, nullWord}
 use Rattle.parser_items.specs.Reads.{After, Done, Post, next, stop, Put, noFlag, Keyword, spellKeyword, writeKeyword, wordByte}
 use Rattle.parser_items.specs.Laws.{Moved, moved-done, put-put, put-done}
 use Rattle.parser_items.specs.Follow.{after-word}
-use Rattle.parser_items.specs.declared.State.{State}
+use Rattle.parser_items.specs.declared.Cursor.{Cursor}
 use Rattle.parser_items.specs.declared.Step.the-variants as step
 
 -- a word as a function name, and its number
@@ -75,7 +74,7 @@ found l h =
     by-test (sameBytes l (functionBytes (wordOf nullWord))) (λ t. (nullWord, same-true l (functionBytes (wordOf nullWord)) t)) (λ k.
     absurd (h (rw (f, g, k))))))
 
-module _ {s : List ℕ} (a : State) {e : ℕ} (w : WordAt s (a .at) e) where
+module _ {s : List ℕ} (a : Cursor) {e : ℕ} (w : WordAt s (a .at) e) where
   -- whatever word is read there has the number of the bytes that stand there
   alike : (t : Keyword) (r : List ℕ) → After 1 r → drop (a .at) s ≡ spellKeyword t r → (numberOf t ≡ keywordNumber (part s (a .at) (e - a .at))) × (r ≡ drop e s)
   alike t r m q =
@@ -87,7 +86,7 @@ module _ {s : List ℕ} (a : State) {e : ℕ} (w : WordAt s (a .at) e) where
   word-none h z = stop (record { none = λ t r m q. word-some t (alike t r m q .0 ∙ sym h ∙ z) })
 
   -- the word is read and written
-  pub word-done : {P P' P'' : List ℕ} (L : List ℕ) {k : ℕ} {b c d : State} → k ≡ keywordNumber (part s (a .at) (e - a .at)) → k ≢ 0 → isUtf8 (drop (a .at) s) ≡ true →
+  pub word-done : {P P' P'' : List ℕ} (L : List ℕ) {k : ℕ} {b c d : Cursor} → k ≡ keywordNumber (part s (a .at) (e - a .at)) → k ≢ 0 → isUtf8 (drop (a .at) s) ≡ true →
       Put P P' a b (0x13 ∷ []) → Put P' P'' b c (wordByte k ∷ []) → Moved c d e → Post spellKeyword writeKeyword noFlag 1 s P P'' L L a (step.Next d 0)
   word-done {P} {P'' = P''} L {k} {c = c} {d = d} h z u g j m =
       let f = found (part s (a .at) (e - a .at)) (λ q. z (h ∙ q)) in

@@ -1,9 +1,9 @@
 -- What follows a tree, by classes of bytes: behind a name, a word, an int or a number none of its own characters follows.
 -- Assumes nothing.
 use mathlib.Core.Path.{_≡_, refl, sym, _∙_}
-use mathlib.Core.Bool.{Bool, true, false, cond, not, _||_, false≢true, and-eq-true-iff}
-use mathlib.Core.List.{List, [], _∷_, _++_}
-use Prim.Native.Nat.{ℕ, _+_, _≤_, _<_}
+use mathlib.Core.Bool.{Bool, true, false, not, _||_, false≢true, and-eq-true-iff}
+use mathlib.Core.List.{List, [], _∷_}
+use Prim.Native.Nat.{ℕ, _<_}
 use native.Mathlib.Omega.{arith}
 use borrow.Author.Tests.{not-true, ne-eqb, eqb-true, leb-true, leb-false}
 use lib.Dec.{eqb, leb}
@@ -14,17 +14,17 @@ use Rattle.parser_follow.specs.Blanks.{unblank-byte}
 use Rattle.basics.specs.Reads.{StartsNot}
 use Rattle.utf8_laws.specs.Bytes.{by-test, inside, after-high, stays-bad}
 use Rattle.parser_scan.specs.Text.{isNameByte}
-use Rattle.parser_items.specs.Reads.{rank, After}
+use Rattle.parser_items.specs.Reads.{levelOf, After}
 use Rattle.parser_items.specs.Laws.{after-not, after-starts}
 
 -- ---- bytes that begin nothing that may follow
 
--- a byte that is no blank and has no rank
+-- a byte that is no blank and has no level
 pub record Inner (c : ℕ) : Type 0 where
   pub solid : isBlank c ≡ false
-  pub rankless : rank c ≡ 0
+  pub unlevelled : levelOf c ≡ 0
 
--- the blanks, the bytes of a rank, and 256, which stands for the end
+-- the blanks, the bytes of a level, and 256, which stands for the end
 abbrev pub outer : List ℕ
 outer = 0x20 ∷ 0x09 ∷ 0x0A ∷ 0x0D ∷ 0x2E ∷ 0x5B ∷ 0x3D ∷ 0x21 ∷ 0x3C ∷ 0x3E ∷ 0x26 ∷ 0x7C ∷ 0x2C ∷ 0x5D ∷ 0x29 ∷ 256 ∷ []
 
@@ -51,7 +51,7 @@ inner c h =
     let t15 = and-eq-true-iff (not (eqb c 256)) (every (differs c) ([])) .0 (t14 .1) in
     record {
       solid = rw (not-true (eqb c 0x20) (t0 .0), not-true (eqb c 0x09) (t1 .0), not-true (eqb c 0x0A) (t2 .0), not-true (eqb c 0x0D) (t3 .0));
-      rankless = rw (not-true (eqb c 0x2E) (t4 .0), not-true (eqb c 0x5B) (t5 .0), not-true (eqb c 0x3D) (t6 .0), not-true (eqb c 0x21) (t7 .0), not-true (eqb c 0x3C) (t8 .0), not-true (eqb c 0x3E) (t9 .0), not-true (eqb c 0x26) (t10 .0), not-true (eqb c 0x7C) (t11 .0), not-true (eqb c 0x2C) (t12 .0), not-true (eqb c 0x5D) (t13 .0), not-true (eqb c 0x29) (t14 .0), not-true (eqb c 256) (t15 .0));
+      unlevelled = rw (not-true (eqb c 0x2E) (t4 .0), not-true (eqb c 0x5B) (t5 .0), not-true (eqb c 0x3D) (t6 .0), not-true (eqb c 0x21) (t7 .0), not-true (eqb c 0x3C) (t8 .0), not-true (eqb c 0x3E) (t9 .0), not-true (eqb c 0x26) (t10 .0), not-true (eqb c 0x7C) (t11 .0), not-true (eqb c 0x2C) (t12 .0), not-true (eqb c 0x5D) (t13 .0), not-true (eqb c 0x29) (t14 .0), not-true (eqb c 256) (t15 .0));
     }
 
 -- none of some bytes lies between two bounds
@@ -104,10 +104,10 @@ inner-name c h e =
 
 -- a text that begins with such a byte may not follow
 pub inner-not : {k : ℕ} (c : ℕ) (r : List ℕ) → Inner c → After k (c ∷ r) → ⊥
-inner-not c r i a = after-not (c ∷ r) c r (unblank-byte c r (i .solid)) (rw (i .rankless) (omega arith)) a
+inner-not c r i a = after-not (c ∷ r) c r (unblank-byte c r (i .solid)) (rw (i .unlevelled) (omega arith)) a
 
 pub after-inner : (p : ℕ → Bool) {k : ℕ} (r : List ℕ) → ((c : ℕ) → p c ≡ true → Inner c) → After k r → StartsNot p r
-after-inner p {k} r f a = after-starts p r (λ c e. (f c e .solid, rw (f c e .rankless) (omega arith))) a
+after-inner p {k} r f a = after-starts p r (λ c e. (f c e .solid, rw (f c e .unlevelled) (omega arith))) a
 
 -- what follows a tree begins with no digit
 pub after-digit : {k : ℕ} (r : List ℕ) → After k r → StartsNot isDigit r

@@ -3,7 +3,7 @@
 use mathlib.Core.Path.{_≡_, refl, sym, ap, subst, _∙_}
 use mathlib.Core.Bool.{Bool, true, false}
 use mathlib.Core.List.{List, [], _∷_, _++_, append-nil}
-use Prim.Native.Nat.{ℕ, zero, suc, _+_, _*_, _-_, _≤_, _<_}
+use Prim.Native.Nat.{ℕ, suc, _+_, _*_, _-_, _≤_, _<_}
 use native.Mathlib.Nat.{add-assoc, add-zero}
 use native.Mathlib.Omega.{arith}
 use lib.Dec.{eqb}
@@ -21,14 +21,14 @@ use Rattle.parser_follow.specs.Blanks.{unblank-blanks, unblank-byte}
 use Rattle.basics.specs.Reads.{ReadsNone, StartsNot, Wrote}
 use Rattle.utf8_laws.specs.Bytes.{by-test}
 use Rattle.parser_scan.specs.Text as scanned
-use Rattle.parser_scan.specs.Text.{hd, unblank, isNameByte, NameAt, ReadsName, WordAt, ReadsWord, OperatorAt, ReadsOperator}
+use Rattle.parser_scan.specs.Text.{unblank, isNameByte, NameAt, ReadsName, WordAt, ReadsWord, OperatorAt, ReadsOperator}
 use Rattle.parser_scan.specs.declared.End.{End}
 use Rattle.parser_scan.specs.declared.End.the-variants as end
 use Rattle.parser_scan.specs.declared.Sign.{Sign}
 use Rattle.parser_scan.specs.declared.Sign.the-variants as sign
-use Rattle.compile_writes.specs.Effects.{Marks, noMarks, first, joinMarks, Effect, join, Writer, skip, bytes, pooling, mark, seq, frame, counted}
-use Rattle.parser_items.specs.Reads.{rank, After, marksAt, marksOf, Start, Done, Read, Post, LooseRead, LoosePost, next, stop, noFlag, Put, PutMarked, Pooled, low}
-use Rattle.parser_items.specs.declared.State.{State}
+use Rattle.compile_writes.specs.Effects.{Marks, noMarks, joinMarks, Effect, join, Writer, skip, bytes, pooling, mark, seq, frame, counted}
+use Rattle.parser_items.specs.Reads.{levelOf, After, marksAt, marksOf, Asks, Done, Read, Post, LooseRead, LoosePost, next, stop, noFlag, Put, PutMarked, Pooled, low}
+use Rattle.parser_items.specs.declared.Cursor.{Cursor}
 use Rattle.parser_items.specs.declared.Step.{Step}
 use Rattle.parser_items.specs.declared.Step.the-variants as step
 
@@ -89,11 +89,11 @@ pub seq-skip : (f : Writer) (p : ℕ) → seq f skip p ≡ f p
 unfolding seq skip join
 seq-skip f p = rw (append-nil (f p .plan), append-nil (f p .pool), join-noMarks (f p .marks))
 
--- ---- steps: from state to state with an effect
+-- ---- steps: from cursor to cursor with an effect
 
-module _ {P P' L L' : List ℕ} {a b : State} {e : Effect} where
+module _ {P P' L L' : List ℕ} {a b : Cursor} {e : Effect} where
   -- two steps in a row bring about both effects
-  pub done-then : {P'' L'' : List ℕ} {c : State} {f : Effect} → Done P P' L L' a b e → Done P' P'' L' L'' b c f → Done P P'' L L'' a c (join e f)
+  pub done-then : {P'' L'' : List ℕ} {c : Cursor} {f : Effect} → Done P P' L L' a b e → Done P' P'' L' L'' b c f → Done P P'' L L'' a c (join e f)
   unfolding join
   done-then {f = f} d g =
       record {
@@ -111,8 +111,8 @@ module _ {P P' L L' : List ℕ} {a b : State} {e : Effect} where
   pub done-pool : Done P P' L L' a b e → length L' ≡ length L
   done-pool d = ap length (d .text) ∙ length-sets L (a .pool) (e .pool)
 
-  -- a step may begin at a state that differs in its place alone
-  pub done-from : {o : State} → (a .len ≡ o .len) × (a .pool ≡ o .pool) → marksOf a ≡ marksOf o → Done P P' L L' a b e → Done P P' L L' o b e
+  -- a step may begin at a cursor that differs in its place alone
+  pub done-from : {o : Cursor} → (a .len ≡ o .len) × (a .pool ≡ o .pool) → marksOf a ≡ marksOf o → Done P P' L L' a b e → Done P P' L L' o b e
   done-from h m d =
       record {
         len = d .len ∙ ap (λ (n : ℕ). n + length (e .plan)) (h .0);
@@ -122,31 +122,31 @@ module _ {P P' L L' : List ℕ} {a b : State} {e : Effect} where
         marks = d .marks ∙ ap (λ (n : Marks). joinMarks n (e .marks)) m;
       }
 
-  -- a step may end at a state that differs in its place alone
-  pub done-to : {o : State} → (o .len ≡ b .len) × (o .pool ≡ b .pool) → marksOf o ≡ marksOf b → Done P P' L L' a b e → Done P P' L L' a o e
+  -- a step may end at a cursor that differs in its place alone
+  pub done-to : {o : Cursor} → (o .len ≡ b .len) × (o .pool ≡ b .pool) → marksOf o ≡ marksOf b → Done P P' L L' a b e → Done P P' L L' a o e
   done-to h m d = record { len = h .0 ∙ d .len; pool = h .1 ∙ d .pool; plan = d .plan; text = d .text; marks = m ∙ d .marks }
 
 -- two writers in a row, the second at the place where the first left the pool
-pub done-seq : (f g : Writer) {P P' P'' L L' L'' : List ℕ} {a b c : State} → Done P P' L L' a b (f (a .pool)) → Done P' P'' L' L'' b c (g (b .pool)) → Done P P'' L L'' a c (seq f g (a .pool))
+pub done-seq : (f g : Writer) {P P' P'' L L' L'' : List ℕ} {a b c : Cursor} → Done P P' L L' a b (f (a .pool)) → Done P' P'' L' L'' b c (g (b .pool)) → Done P P'' L L'' a c (seq f g (a .pool))
 unfolding seq
 done-seq f g {P' = P'} {P'' = P''} {L' = L'} {L'' = L''} {b = b} {c = c} d h = done-then d (subst (λ (n : ℕ). Done P' P'' L' L'' b c (g n)) (d .pool) h)
 
--- a state that stays brings about nothing
-pub done-skip : {P L : List ℕ} {a : State} → Done P P L L a a (skip (a .pool))
+-- a cursor that stays brings about nothing
+pub done-skip : {P L : List ℕ} {a : Cursor} → Done P P L L a a (skip (a .pool))
 unfolding skip
 done-skip {a = a} = record { len = sym (add-zero (a .len)); pool = sym (add-zero (a .pool)); plan = refl; text = refl; marks = sym (join-noMarks (marksOf a)) }
 
 -- bytes at the end of the plan
-pub put-done : {P P' L : List ℕ} {a b : State} {c : List ℕ} → Put P P' a b c → Done P P' L L a b (bytes c (a .pool))
+pub put-done : {P P' L : List ℕ} {a b : Cursor} {c : List ℕ} → Put P P' a b c → Done P P' L L a b (bytes c (a .pool))
 unfolding bytes
 put-done {a = a} h = record { len = h .len; pool = h .pool ∙ sym (add-zero (a .pool)); plan = h .plan; text = refl; marks = h .marks ∙ sym (join-noMarks (marksOf a)) }
 
 -- a mark alone
-pub mark-done : (m : Marks) {P L : List ℕ} {a b : State} → (b .len ≡ a .len) × (b .pool ≡ a .pool) → marksOf b ≡ joinMarks (marksOf a) m → Done P P L L a b (mark m (a .pool))
+pub mark-done : (m : Marks) {P L : List ℕ} {a b : Cursor} → (b .len ≡ a .len) × (b .pool ≡ a .pool) → marksOf b ≡ joinMarks (marksOf a) m → Done P P L L a b (mark m (a .pool))
 unfolding mark
 mark-done m {a = a} h k = record { len = h .0 ∙ sym (add-zero (a .len)); pool = h .1 ∙ sym (add-zero (a .pool)); plan = refl; text = refl; marks = k }
 
-module _ {P P' L : List ℕ} {a b : State} {c : List ℕ} {m : Marks} where
+module _ {P P' L : List ℕ} {a b : Cursor} {c : List ℕ} {m : Marks} where
   -- bytes at the end of the plan, behind a mark
   pub marked-done : PutMarked P P' a b c m → Done P P' L L a b (seq (mark m) (bytes c) (a .pool))
   unfolding seq join mark bytes
@@ -165,11 +165,11 @@ module _ {P P' L : List ℕ} {a b : State} {c : List ℕ} {m : Marks} where
       }
 
 -- nothing put
-pub put-none : {P : List ℕ} {a : State} → Put P P a a []
+pub put-none : {P : List ℕ} {a : Cursor} → Put P P a a []
 put-none {a = a} = record { at = refl; len = sym (add-zero (a .len)); pool = refl; marks = refl; plan = refl }
 
 -- bytes put behind bytes
-pub put-put : {P P' P'' : List ℕ} {a b c : State} {x y : List ℕ} → Put P P' a b x → Put P' P'' b c y → Put P P'' a c (x ++ y)
+pub put-put : {P P' P'' : List ℕ} {a b c : Cursor} {x y : List ℕ} → Put P P' a b x → Put P' P'' b c y → Put P P'' a c (x ++ y)
 put-put {P} {a = a} {x = x} {y = y} g h =
     record {
       at = h .at ∙ g .at;
@@ -180,17 +180,17 @@ put-put {P} {a = a} {x = x} {y = y} g h =
     }
 
 -- from a to b nothing changed but that a mark was set
-pub record Marked (a b : State) (m : Marks) : Type 0 where
+pub record Marked (a b : Cursor) (m : Marks) : Type 0 where
   pub at : b .at ≡ a .at
   pub len : b .len ≡ a .len
   pub pool : b .pool ≡ a .pool
   pub marks : marksOf b ≡ joinMarks (marksOf a) m
 
-pub marked-of : {a b : State} {m : Marks} → (b .at ≡ a .at) × (b .len ≡ a .len) × (b .pool ≡ a .pool) → marksOf b ≡ joinMarks (marksOf a) m → Marked a b m
+pub marked-of : {a b : Cursor} {m : Marks} → (b .at ≡ a .at) × (b .len ≡ a .len) × (b .pool ≡ a .pool) → marksOf b ≡ joinMarks (marksOf a) m → Marked a b m
 marked-of h k = record { at = h .0; len = h .1; pool = h .2; marks = k }
 
 -- a mark and bytes
-pub marked-put : {P P' : List ℕ} {a b c : State} {m : Marks} {x : List ℕ} → Marked a b m → Put P P' b c x → PutMarked P P' a c x m
+pub marked-put : {P P' : List ℕ} {a b c : Cursor} {m : Marks} {x : List ℕ} → Marked a b m → Put P P' b c x → PutMarked P P' a c x m
 marked-put {P} {x = x} g h =
     record {
       at = h .at ∙ g .at;
@@ -201,12 +201,12 @@ marked-put {P} {x = x} g h =
     }
 
 -- a mark and another
-pub marked-then : {a b c : State} {m n : Marks} → Marked a b m → Marked b c n → Marked a c (joinMarks m n)
+pub marked-then : {a b c : Cursor} {m n : Marks} → Marked a b m → Marked b c n → Marked a c (joinMarks m n)
 marked-then {a} {m = m} {n = n} g h =
     record { at = h .at ∙ g .at; len = h .len ∙ g .len; pool = h .pool ∙ g .pool; marks = h .marks ∙ ap (λ (k : Marks). joinMarks k n) (g .marks) ∙ joinMarks-assoc (marksOf a) m n }
 
 -- a kind with two bytes behind it, then a step, and then the two bytes are set to a count
-pub done-counted : (kind n : ℕ) (f : Writer) {P P' P'' P''' L L' : List ℕ} {a b c : State} →
+pub done-counted : (kind n : ℕ) (f : Writer) {P P' P'' P''' L L' : List ℕ} {a b c : Cursor} →
     Put P P' a b (kind ∷ 0 ∷ 0 ∷ []) → Done P' P'' L L' b c (f (b .pool)) → Wrote P'' (a .len + 1) (two n) P''' → Done P P''' L L' a c (counted kind n f (a .pool))
 unfolding counted
 done-counted kind n f {P} {P'} {P''} {P'''} {L} {L'} {a} {b} {c} h d w =
@@ -223,16 +223,12 @@ done-counted kind n f {P} {P'} {P''} {P'''} {L} {L'} {a} {b} {c} h d w =
     }
 
 -- the same with the length of what the step wrote
-pub done-frame : (kind : ℕ) (f : Writer) {n : ℕ} {P P' P'' P''' L L' : List ℕ} {a b c : State} →
+pub done-frame : (kind : ℕ) (f : Writer) {n : ℕ} {P P' P'' P''' L L' : List ℕ} {a b c : Cursor} →
     Put P P' a b (kind ∷ 0 ∷ 0 ∷ []) → Done P' P'' L L' b c (f (b .pool)) → n ≡ length (f (b .pool) .plan) → Wrote P'' (a .len + 1) (two n) P''' → Done P P''' L L' a c (frame kind f (a .pool))
 unfolding counted frame
 done-frame kind f {a = a} h d e w = done-counted kind (length (f (a .pool) .plan)) f h d (rw (e, h .pool) at w)
 
 -- ---- blanks
-
--- no blanks
-abbrev pub noBlanks : Blanks
-noBlanks = record { bytes = []; good = refl }
 
 pub unblank-starts : (s : List ℕ) → StartsNot isBlank s → unblank s ≡ s
 unfolding StartsNot
@@ -262,22 +258,22 @@ after-blanks b {r} a = record { above = rw (unblank-blanks b r) (a .above) }
 pub after-unblanks : {k : ℕ} (b : Blanks) {r : List ℕ} → After k (spellBlanks b r) → After k r
 after-unblanks b {r} a = record { above = rw (unblank-blanks b r) at (a .above) }
 
--- a byte of a higher rank may follow
-pub after-byte : {k : ℕ} (c : ℕ) (r : List ℕ) → isBlank c ≡ false → k < rank c → After k (c ∷ r)
+-- a byte of a higher level may follow
+pub after-byte : {k : ℕ} (c : ℕ) (r : List ℕ) → isBlank c ≡ false → k < levelOf c → After k (c ∷ r)
 after-byte c r e h = record { above = rw e h }
 
 -- the end may follow
 pub after-end : {k : ℕ} → k < 6 → After k []
 after-end h = record { above = h }
 
--- a byte of no higher rank may not follow, with blanks before it or without
-pub after-not : {k : ℕ} (s : List ℕ) (c : ℕ) (r : List ℕ) → unblank s ≡ c ∷ r → rank c ≤ k → After k s → ⊥
+-- a byte of no higher level may not follow, with blanks before it or without
+pub after-not : {k : ℕ} (s : List ℕ) (c : ℕ) (r : List ℕ) → unblank s ≡ c ∷ r → levelOf c ≤ k → After k s → ⊥
 after-not {k} s c r e h a =
-    let f : k < rank c = rw e at (a .above) in
+    let f : k < levelOf c = rw e at (a .above) in
     omega arith
 
--- where the bytes that pass a test are no blanks and have no higher rank, what follows begins with none of them
-pub after-starts : (p : ℕ → Bool) {k : ℕ} (r : List ℕ) → ((c : ℕ) → p c ≡ true → (isBlank c ≡ false) × (rank c ≤ k)) → After k r → StartsNot p r
+-- where the bytes that pass a test are no blanks and have no higher level, what follows begins with none of them
+pub after-starts : (p : ℕ → Bool) {k : ℕ} (r : List ℕ) → ((c : ℕ) → p c ≡ true → (isBlank c ≡ false) × (levelOf c ≤ k)) → After k r → StartsNot p r
 unfolding StartsNot
 after-starts p [] f a = tt
 after-starts p (c ∷ r) f a =
@@ -287,15 +283,15 @@ after-starts p (c ∷ r) f a =
 
 -- ---- what a function tells of its reading
 
-module _ {T : Type 0} {sp : T → List ℕ → List ℕ} {w : T → Writer} {fl : T → ℕ} {k : ℕ} {s P P' L L' : List ℕ} {a : State} where
-  read-next : {b : State} {f : ℕ} → Post sp w fl k s P P' L L' a (step.Next b f) → Read sp w fl k s P P' L L' a b f
+module _ {T : Type 0} {sp : T → List ℕ → List ℕ} {w : T → Writer} {fl : T → ℕ} {k : ℕ} {s P P' L L' : List ℕ} {a : Cursor} where
+  read-next : {b : Cursor} {f : ℕ} → Post sp w fl k s P P' L L' a (step.Next b f) → Read sp w fl k s P P' L L' a b f
   read-next (next h) = h
 
   none-stop : {i : ℕ} → Post sp w fl k s P P' L L' a (step.Stop i) → ReadsNone sp (After k) (drop (a .at) s)
   none-stop (stop h) = h
 
   -- the tree that was read, from the answer that tells it
-  pub read-of : {r : Step} {b : State} {f : ℕ} → Post sp w fl k s P P' L L' a r → r ≡ step.Next b f → Read sp w fl k s P P' L L' a b f
+  pub read-of : {r : Step} {b : Cursor} {f : ℕ} → Post sp w fl k s P P' L L' a r → r ≡ step.Next b f → Read sp w fl k s P P' L L' a b f
   read-of h e = read-next (rw e at h)
 
   -- that there is no tree, from the answer that tells it
@@ -305,9 +301,9 @@ module _ {T : Type 0} {sp : T → List ℕ → List ℕ} {w : T → Writer} {fl 
 -- ---- room
 
 -- Behind a step a function may start with what is left: 15 bytes of plan for each byte that was read, less those that were written.
-pub start-go : {x y : ℕ} {s P P' L L' : List ℕ} {a b : State} {e : Effect} → Start x s P L a → Done P P' L L' a b e → a .at ≤ b .at → b .at ≤ length s → isUtf8 (drop (b .at) s) ≡ true →
-    length (e .plan) + y ≤ 15 * (b .at - a .at) + x → length (e .pool) ≤ b .at - a .at → Start y s P' L' b
-start-go st d from to u h g =
+pub asks-go : {x y : ℕ} {s P P' L L' : List ℕ} {a b : Cursor} {e : Effect} → Asks x s P L a → Done P P' L L' a b e → a .at ≤ b .at → b .at ≤ length s → isUtf8 (drop (b .at) s) ≡ true →
+    length (e .plan) + y ≤ 15 * (b .at - a .at) + x → length (e .pool) ≤ b .at - a .at → Asks y s P' L' b
+asks-go st d from to u h g =
     let p = done-plan d in
     let q = done-pool d in
     record {
@@ -324,25 +320,25 @@ start-go st d from to u h g =
 pub whole : (l : List ℕ) → take (length l - 0) (drop 0 l) ≡ l
 whole l = take-all (length l - 0) l (omega arith)
 
-pub start-whole : {x : ℕ} {s s' P L : List ℕ} {a : State} → s' ≡ s → Start x s P L a → Start x s' P L a
-start-whole {x} {P = P} {L = L} {a = a} e h = subst (λ (z : List ℕ). Start x z P L a) (sym e) h
+pub asks-whole : {x : ℕ} {s s' P L : List ℕ} {a : Cursor} → s' ≡ s → Asks x s P L a → Asks x s' P L a
+asks-whole {x} {P = P} {L = L} {a = a} e h = subst (λ (z : List ℕ). Asks x z P L a) (sym e) h
 
-pub post-whole : {T : Type 0} {sp : T → List ℕ → List ℕ} {w : T → Writer} {fl : T → ℕ} {k : ℕ} {s s' P P' L L' : List ℕ} {a : State} {r : Step} → s' ≡ s → Post sp w fl k s' P P' L L' a r → Post sp w fl k s P P' L L' a r
+pub post-whole : {T : Type 0} {sp : T → List ℕ → List ℕ} {w : T → Writer} {fl : T → ℕ} {k : ℕ} {s s' P P' L L' : List ℕ} {a : Cursor} {r : Step} → s' ≡ s → Post sp w fl k s' P P' L L' a r → Post sp w fl k s P P' L L' a r
 post-whole {sp = sp} {w = w} {fl = fl} {k = k} {P = P} {P' = P'} {L = L} {L' = L'} {a = a} {r = r} e h = subst (λ (z : List ℕ). Post sp w fl k z P P' L L' a r) e h
 
 -- ---- places
 
--- what `moved` ensures: the state at another place
-abbrev pub Moved : State → State → ℕ → Type 0
+-- what `moved` ensures: the cursor at another place
+abbrev pub Moved : Cursor → Cursor → ℕ → Type 0
 Moved a b at = (b .at ≡ at) × (((b .len ≡ a .len) × (b .pool ≡ a .pool)) × (b .marks ≡ a .marks))
 
-pub moved-done : {P P' L L' : List ℕ} {a b c : State} {e : Effect} {at : ℕ} → Done P P' L L' a b e → Moved b c at → Done P P' L L' a c e
+pub moved-done : {P P' L L' : List ℕ} {a b c : Cursor} {e : Effect} {at : ℕ} → Done P P' L L' a b e → Moved b c at → Done P P' L L' a c e
 moved-done d m = done-to (m .1 .0) (ap marksAt (m .1 .1)) d
 
 -- ---- names and texts
 
 -- the item of a name or a text, and its bytes in the pool
-pub pooled-done : (kind : ℕ) (t : List ℕ) {n : ℕ} {P P' L L' : List ℕ} {a b : State} → Pooled P P' a b kind n → Wrote L (a .pool) t L' → n ≡ length t → Done P P' L L' a b (pooling kind t (a .pool))
+pub pooled-done : (kind : ℕ) (t : List ℕ) {n : ℕ} {P P' L L' : List ℕ} {a b : Cursor} → Pooled P P' a b kind n → Wrote L (a .pool) t L' → n ≡ length t → Done P P' L L' a b (pooling kind t (a .pool))
 unfolding pooling pooled
 pooled-done kind t {P = P} {a = a} h w e =
     let l = length-append (two (a .pool)) (two (length t)) in
@@ -357,12 +353,12 @@ pooled-done kind t {P = P} {a = a} h w e =
     }
 
 -- a kind with the count 1, and then a step
-pub done-single : (kind : ℕ) (f : Writer) {P P' P'' L L' : List ℕ} {a b c : State} → Put P P' a b (kind ∷ 1 ∷ 0 ∷ []) → Done P' P'' L L' b c (f (b .pool)) → Done P P'' L L' a c (counted kind 1 f (a .pool))
+pub done-single : (kind : ℕ) (f : Writer) {P P' P'' L L' : List ℕ} {a b c : Cursor} → Put P P' a b (kind ∷ 1 ∷ 0 ∷ []) → Done P' P'' L L' b c (f (b .pool)) → Done P P'' L L' a c (counted kind 1 f (a .pool))
 unfolding counted join joinMarks bytes littleEndian
 done-single kind f {P' = P'} {P'' = P''} {L = L} {L' = L'} {b = b} {c = c} h d = done-then (put-done h) (subst (λ (n : ℕ). Done P' P'' L L' b c (f n)) (h .pool) d)
 
 -- the same answer with 0 told tells of the same tree
-pub post-low : {T : Type 0} {sp : T → List ℕ → List ℕ} {w : T → Writer} {fl : T → ℕ} {k : ℕ} {s P P' L L' : List ℕ} {a : State} {r : Step} → Post sp w fl k s P P' L L' a r → Post sp w noFlag k s P P' L L' a (low r)
+pub post-low : {T : Type 0} {sp : T → List ℕ → List ℕ} {w : T → Writer} {fl : T → ℕ} {k : ℕ} {s P P' L L' : List ℕ} {a : Cursor} {r : Step} → Post sp w fl k s P P' L L' a r → Post sp w noFlag k s P P' L L' a (low r)
 post-low (stop h) = stop h
 post-low (next {b = b} h) =
     next {b = b} (record {
@@ -424,30 +420,30 @@ module _ {s : List ℕ} {a : ℕ} {r : Sign} where
 -- ---- room
 
 -- where bytes are unread there is room
-pub start-room : {x : ℕ} {s P L : List ℕ} {a : State} (n m : ℕ) → Start x s P L a → a .at + m ≤ length s → n ≤ 15 * m + x → a .len + n ≤ length P
-start-room n m st h k = omega (arith, st .plan)
+pub asks-room : {x : ℕ} {s P L : List ℕ} {a : Cursor} (n m : ℕ) → Asks x s P L a → a .at + m ≤ length s → n ≤ 15 * m + x → a .len + n ≤ length P
+asks-room n m st h k = omega (arith, st .plan)
 
 -- behind bytes that were put there is the room that they left
-pub put-room : {P P' : List ℕ} {a b : State} {c : List ℕ} (n : ℕ) → Put P P' a b c → a .len + (length c + n) ≤ length P → b .len + n ≤ length P'
+pub put-room : {P P' : List ℕ} {a b : Cursor} {c : List ℕ} (n : ℕ) → Put P P' a b c → a .len + (length c + n) ≤ length P → b .len + n ≤ length P'
 put-room {P} {a = a} {c = c} n h k =
     let l = ap length (h .plan) ∙ length-sets P (a .len) c in
     omega (arith, h .len)
 
 -- a function that needs less room may start there too
-pub start-less : {x y : ℕ} {s P L : List ℕ} {a : State} → y ≤ x → Start x s P L a → Start y s P L a
-start-less h st = record { text = st .text; plan = omega (arith, st .plan); pool = st .pool; small = st .small; smallPool = st .smallPool; utf8 = st .utf8 }
+pub asks-less : {x y : ℕ} {s P L : List ℕ} {a : Cursor} → y ≤ x → Asks x s P L a → Asks y s P L a
+asks-less h st = record { text = st .text; plan = omega (arith, st .plan); pool = st .pool; small = st .small; smallPool = st .smallPool; utf8 = st .utf8 }
 
 -- ---- what is left up to blanks
 
-module _ {T : Type 0} {sp : T → List ℕ → List ℕ} {w : T → Writer} {fl : T → ℕ} {n k : ℕ} {s P P' L L' : List ℕ} {a : State} where
-  loose-next : {b : State} {f : ℕ} → LoosePost sp w fl n k s P P' L L' a (step.Next b f) → LooseRead sp w fl n k s P P' L L' a b f
+module _ {T : Type 0} {sp : T → List ℕ → List ℕ} {w : T → Writer} {fl : T → ℕ} {n k : ℕ} {s P P' L L' : List ℕ} {a : Cursor} where
+  loose-next : {b : Cursor} {f : ℕ} → LoosePost sp w fl n k s P P' L L' a (step.Next b f) → LooseRead sp w fl n k s P P' L L' a b f
   loose-next (next h) = h
 
   loose-stop : {i : ℕ} → LoosePost sp w fl n k s P P' L L' a (step.Stop i) → ReadsNone sp (After k) (drop (a .at) s)
   loose-stop (stop h) = h
 
   -- the tree that was read, or that there is none
-  pub loose-of : {r : Step} {b : State} {f : ℕ} → LoosePost sp w fl n k s P P' L L' a r → r ≡ step.Next b f → LooseRead sp w fl n k s P P' L L' a b f
+  pub loose-of : {r : Step} {b : Cursor} {f : ℕ} → LoosePost sp w fl n k s P P' L L' a r → r ≡ step.Next b f → LooseRead sp w fl n k s P P' L L' a b f
   loose-of h e = loose-next (rw e at h)
 
   pub loose-none-of : {r : Step} {i : ℕ} → LoosePost sp w fl n k s P P' L L' a r → r ≡ step.Stop i → ReadsNone sp (After k) (drop (a .at) s)

@@ -1,19 +1,19 @@
 -- What the contracts say of an index, and of the bounds and the step of a slice: what stands in the text, and the field that is written for it.
 use mathlib.Core.Path.{_≡_}
-use mathlib.Core.Bool.{Bool, true, false, cond}
-use mathlib.Core.List.{List, [], _∷_, _++_}
+use mathlib.Core.Bool.{Bool, true, false}
+use mathlib.Core.List.{List, _∷_, _++_}
 use Prim.Native.Nat.{ℕ, _+_, _≤_}
 use lib.ListN.{length, drop}
 use Rattle.definition.specs.Bytes.{littleEndian}
 use Rattle.definition.specs.Lexical as X
-use Rattle.definition.specs.Lexical.{Int, Bound, isDigit, spellInt, spellBound, spellStep}
+use Rattle.definition.specs.Lexical.{Int, Bound, isDigit, spellInt, spellStep}
 use Rattle.definition.specs.Lexical.Bound.{noBound, bound}
 use Rattle.definition.specs.Plans.{eight}
 use Rattle.definition.specs.Utf8.{isUtf8}
 use Rattle.basics.specs.Reads.{ReadsNone, StartsNot}
 use Rattle.number_parse.specs.Ints.{IntAt}
-use Rattle.parser_scan.specs.Text.{Is, Skipped, unblank}
-use Rattle.compile_writes.specs.Effects.{Marks, Writer, first, bytes, verdict, seq}
+use Rattle.parser_scan.specs.Text.{Is, Skipped}
+use Rattle.compile_writes.specs.Effects.{Marks, first, bytes, verdict}
 use Rattle.compile_writes.specs.Writes.{keptInt, verdictInt}
 use Rattle.parser_items.specs.Reads.{After}
 use Rattle.parser_items.specs.declared.ranges.Piece.{Piece}

@@ -1,6 +1,6 @@
 // Number literals, as they are written.
 use crate::BEYOND;
-use crate::State;
+use crate::Cursor;
 use crate::item;
 use crate::marked;
 use crate::ranges::eight;
@@ -9,17 +9,16 @@ use plan_format::kinds;
 use plan_format::words;
 use text::bytes::bits64;
 ghost use mathlib.Core.Path.{_≡_};
-ghost use mathlib.Core.Bool.{true, false};
+ghost use mathlib.Core.Bool.{true};
 ghost use mathlib.Core.List.{List};
-ghost use Prim.Native.Nat.{ℕ, _+_, _≤_};
-ghost use lib.ListN.{length};
+ghost use Prim.Native.Nat.{ℕ, _+_};
 ghost use Rattle.number_literals.specs.Values.{meaning};
 ghost use Rattle.compile_writes.specs.Effects.{joinMarks};
 ghost use Rattle.compile_writes.specs.Writes.{writeNumeral};
 ghost use Rattle.parser_items.specs.Reads.{Done, Room, marksOf};
 
-// The state with a literal beyond the range of literals.
-fn beyond(st: State) -> State
+// The cursor with a literal beyond the range of literals.
+fn beyond(st: Cursor) -> Cursor
     ensures place { λ r. ⌜ (r .at ≡ st .at) × (r .len ≡ st .len) × (r .pool ≡ st .pool) ⌝ }
     ensures marks { λ r. ⌜ marksOf r ≡ joinMarks (marksOf st) (record { verdict = 0; beyond = true }) ⌝ }
 {
@@ -31,7 +30,7 @@ fn beyond(st: State) -> State
 }
 
 // The item of what a number literal stands for. No pool is touched.
-pub fn put_numeral(plan: &mut [u8], st: State, v: Literal) -> State
+pub fn put_numeral(plan: &mut [u8], st: Cursor, v: Literal) -> Cursor
     requires { ⌜ Room 9 (now plan) st ⌝ }
     ensures { λ r. ⌜ ((L : List ℕ) → Done (now (plan .entry)) (now (plan .exit)) L L st r (writeNumeral (meaning v) (st .pool))) ⌝ }
 {

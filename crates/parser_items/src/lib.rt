@@ -1,19 +1,21 @@
-// The reader's state, and the items of a query that do not nest: each is read at the state's place, both ways, and written.
+// The reader's cursor, and the items of a query that do not nest: each is read at the cursor's place, both ways, and written.
 mod constants;
 mod ranges;
 mod texts;
+pub mod verdicts;
 
 ghost use mathlib.Core.Path.{_≡_};
-ghost use mathlib.Core.Bool.{true, false, cond};
+ghost use mathlib.Core.Bool.{true, false};
 ghost use mathlib.Core.List.{List, [], _∷_};
-ghost use Prim.Native.Nat.{ℕ, _+_, _≤_, _<_, min};
+ghost use Prim.Native.Nat.{ℕ, _+_, _≤_, _<_};
 ghost use lib.ListN.{length, drop};
 ghost use Rattle.definition.specs.Utf8.{isUtf8};
 ghost use Rattle.parser_scan.specs.Text.{Has, WordAt};
 ghost use Rattle.compile_writes.specs.Effects.{joinMarks, first};
-ghost use Rattle.compile_writes.specs.Sorts.{valueVerdict, nodesVerdict, comparedVerdict, callVerdict, namedSort};
+ghost use Rattle.compile_writes.specs.Sorts.{valueVerdict, comparedVerdict};
 ghost use Rattle.compile_writes.specs.Writes.{testTail, notTail, callBytes};
-ghost use Rattle.parser_items.specs.Reads.{Start, Post, LoosePost, Put, PutMarked, Room, Known, marksOf, noFlag, sortOf, sortNumber, spellDotted, writeDotted, dottedFlag, spellPlain, writePlain, isPlain, spellConstant, writeConstant, spellKeyword, writeKeyword, nameOf, callMarks, oneMore, sortsFrom, isComparable, flagOfPath, bracketsNumber, isSegmentByte, Operates, low, Pooled, wordByte};
+ghost use Rattle.parser_follow.specs.Follow.{isSegmentByte};
+ghost use Rattle.parser_items.specs.Reads.{Asks, Post, LoosePost, Put, PutMarked, Room, Known, marksOf, noFlag, sortOf, spellDotted, writeDotted, dottedFlag, spellPlain, writePlain, isPlain, spellConstant, writeConstant, spellKeyword, writeKeyword, nameOf, callMarks, Operates, low, Pooled, wordByte};
 use constants::put_numeral;
 use number_parse::NumberRead;
 use number_parse::parse_number;
@@ -29,10 +31,13 @@ use ranges::write_range;
 use text::bytes::put16;
 use text::parts::copy_part;
 use texts::write_text;
+use verdicts::call_verdict;
+use verdicts::compared;
+use verdicts::value_verdict;
 
 // Where the reader stands: its place in the query, the lengths of plan and pool so far, and the marks of what was read. The marks are one number, so that
-// a state is four words and is copied as such: below 256 the first verdict of 4, 5 and 6, and 256 more where a literal is beyond the range of literals.
-pub struct State {
+// a cursor is four words and is copied as such: below 256 the first verdict of 4, 5 and 6, and 256 more where a literal is beyond the range of literals.
+pub struct Cursor {
     pub at: usize,
     pub len: usize,
     pub pool: usize,
@@ -42,21 +47,21 @@ pub struct State {
 // What stands for a literal beyond the range of literals among the marks.
 pub const BEYOND: usize = 256;
 
-// The state behind a tree and the number that is told of it; or the place where reading stopped.
+// The cursor behind a tree and the number that is told of it; or the place where reading stopped.
 pub enum Step {
-    Next(State, usize),
+    Next(Cursor, usize),
     Stop(usize),
 }
 
-// ---- the state
+// ---- the cursor
 
-// The state at another place of the query.
-pub fn moved(st: State, at: usize) -> State
+// The cursor at another place of the query.
+pub fn moved(st: Cursor, at: usize) -> Cursor
     ensures place { λ r. ⌜ r .at ≡ at ⌝ }
     ensures lengths { λ r. ⌜ (r .len ≡ st .len) × (r .pool ≡ st .pool) ⌝ }
     ensures marks { λ r. ⌜ r .marks ≡ st .marks ⌝ }
 {
-    State {
+    Cursor {
         at,
         len: st.len,
         pool: st.pool,
@@ -64,12 +69,12 @@ pub fn moved(st: State, at: usize) -> State
     }
 }
 
-// The state with other marks.
-pub fn marked(st: State, marks: usize) -> State
+// The cursor with other marks.
+pub fn marked(st: Cursor, marks: usize) -> Cursor
     ensures place { λ r. ⌜ (r .at ≡ st .at) × (r .len ≡ st .len) × (r .pool ≡ st .pool) ⌝ }
     ensures marks { λ r. ⌜ r .marks ≡ marks ⌝ }
 {
-    State {
+    Cursor {
         at: st.at,
         len: st.len,
         pool: st.pool,
@@ -77,8 +82,8 @@ pub fn marked(st: State, marks: usize) -> State
     }
 }
 
-// The state with a verdict of the walk, which stands if it is the first.
-pub fn judged(st: State, verdict: u8) -> State
+// The cursor with a verdict of the walk, which stands if it is the first.
+pub fn judged(st: Cursor, verdict: u8) -> Cursor
     ensures place { λ r. ⌜ (r .at ≡ st .at) × (r .len ≡ st .len) × (r .pool ≡ st .pool) ⌝ }
     ensures marks { λ r. ⌜ marksOf r ≡ joinMarks (marksOf st) (record { verdict = verdict; beyond = false }) ⌝ }
 {
@@ -92,13 +97,13 @@ pub fn judged(st: State, verdict: u8) -> State
 // ---- stores at the end of the plan
 
 // One byte.
-pub fn item(plan: &mut [u8], st: State, x: u8) -> State
+pub fn item(plan: &mut [u8], st: Cursor, x: u8) -> Cursor
     requires { ⌜ Room 1 (now plan) st ⌝ }
     ensures { λ r. ⌜ Put (now (plan .entry)) (now (plan .exit)) st r (x ∷ []) ⌝ }
 {
     let len = st.len;
     plan[len] = x;
-    State {
+    Cursor {
         at: st.at,
         len: len + 1,
         pool: st.pool,
@@ -107,7 +112,7 @@ pub fn item(plan: &mut [u8], st: State, x: u8) -> State
 }
 
 // A kind with two bytes behind it that are set later.
-pub fn opened(plan: &mut [u8], st: State, kind: u8) -> State
+pub fn opened(plan: &mut [u8], st: Cursor, kind: u8) -> Cursor
     requires { ⌜ Room 3 (now plan) st ⌝ }
     ensures { λ r. ⌜ Put (now (plan .entry)) (now (plan .exit)) st r (kind ∷ 0 ∷ 0 ∷ []) ⌝ }
 {
@@ -117,7 +122,7 @@ pub fn opened(plan: &mut [u8], st: State, kind: u8) -> State
 }
 
 // What an expression of the given sort needs to stand as a test.
-pub fn test_tail(plan: &mut [u8], st: State, sort: usize) -> State
+pub fn test_tail(plan: &mut [u8], st: Cursor, sort: usize) -> Cursor
     requires { ⌜ Room 3 (now plan) st × Known sort ⌝ }
     ensures { λ r. ⌜ Put (now (plan .entry)) (now (plan .exit)) st r (testTail (sortOf sort)) ⌝ }
 {
@@ -136,7 +141,7 @@ pub fn test_tail(plan: &mut [u8], st: State, sort: usize) -> State
 }
 
 // What an expression with the given flag needs to be negated, and the verdict on it: a value function may not be negated.
-pub fn not_tail(plan: &mut [u8], st: State, flag: usize) -> State
+pub fn not_tail(plan: &mut [u8], st: Cursor, flag: usize) -> Cursor
     requires { ⌜ Room 2 (now plan) st × Known flag ⌝ }
     ensures { λ r. ⌜ PutMarked (now (plan .entry)) (now (plan .exit)) st r (notTail (sortOf flag)) (record { verdict = comparedVerdict true (sortOf flag); beyond = false }) ⌝ }
 {
@@ -152,7 +157,7 @@ pub fn not_tail(plan: &mut [u8], st: State, flag: usize) -> State
 }
 
 // The comparison of two sides of the given sorts, judged left then right.
-pub fn write_compare(plan: &mut [u8], st: State, left: usize, right: usize, op: u8) -> State
+pub fn write_compare(plan: &mut [u8], st: Cursor, left: usize, right: usize, op: u8) -> Cursor
     requires { ⌜ Room 2 (now plan) st × (Known left × Known right) ⌝ }
     ensures { λ r. ⌜ PutMarked (now (plan .entry)) (now (plan .exit)) st r (0x14 ∷ op ∷ []) (record { verdict = first (valueVerdict (sortOf left)) (valueVerdict (sortOf right)); beyond = false }) ⌝ }
 {
@@ -163,7 +168,7 @@ pub fn write_compare(plan: &mut [u8], st: State, left: usize, right: usize, op: 
 }
 
 // The end of a call of a function, with its typing.
-pub fn write_call(plan: &mut [u8], st: State, name: u8, sorts: usize) -> State
+pub fn write_call(plan: &mut [u8], st: Cursor, name: u8, sorts: usize) -> Cursor
     requires { ⌜ Room 1 (now plan) st × ((name ≤ 5) × (sorts ≤ 31)) ⌝ }
     ensures { λ r. ⌜ PutMarked (now (plan .entry)) (now (plan .exit)) st r (callBytes (nameOf name)) (callMarks name sorts) ⌝ }
 {
@@ -172,176 +177,6 @@ pub fn write_call(plan: &mut [u8], st: State, name: u8, sorts: usize) -> State
         return a;
     }
     item(plan, a, kinds::TEST + name)
-}
-
-// ---- verdicts and numbers
-
-pub fn value_verdict(sort: usize) -> u8
-    requires { ⌜ Known sort ⌝ }
-    ensures { λ r. ⌜ r ≡ valueVerdict (sortOf sort) ⌝ }
-{
-    if sort == 2 {
-        return 5;
-    }
-    if sort == 4 {
-        return 5;
-    }
-    0
-}
-
-pub fn nodes_verdict(sort: usize) -> u8
-    requires { ⌜ Known sort ⌝ }
-    ensures { λ r. ⌜ r ≡ nodesVerdict (sortOf sort) ⌝ }
-{
-    if sort == 1 {
-        return 0;
-    }
-    if sort == 2 {
-        return 0;
-    }
-    if sort == 5 {
-        return 0;
-    }
-    5
-}
-
-// The verdict on a value function alone, where that is asked.
-pub fn compared(sort: usize, asked: bool) -> u8
-    requires { ⌜ Known sort ⌝ }
-    ensures { λ r. ⌜ r ≡ comparedVerdict asked (sortOf sort) ⌝ }
-{
-    if asked {
-        if sort == 3 {
-            return 5;
-        }
-    }
-    0
-}
-
-// The verdict on a call: the name first, then the number of arguments, then their types.
-pub fn call_verdict(name: u8, sorts: usize) -> u8
-    requires { ⌜ (name ≤ 5) × (sorts ≤ 31) ⌝ }
-    ensures { λ r. ⌜ r ≡ callVerdict (nameOf name) (sortsFrom sorts) ⌝ }
-{
-    if name == 0 {
-        return 6;
-    }
-    if name < 4 {
-        return one_verdict(name, sorts);
-    }
-    if sorts < 6 {
-        return 5;
-    }
-    if 30 < sorts {
-        return 5;
-    }
-    let left = value_verdict((sorts - 6) / 5);
-    if left == 0 {
-        return value_verdict((sorts - 6) % 5);
-    }
-    left
-}
-
-// The verdict on a call of count, length or value.
-pub fn one_verdict(name: u8, sorts: usize) -> u8
-    requires { ⌜ ((1 ≤ name) × (name ≤ 3)) × (sorts ≤ 31) ⌝ }
-    ensures { λ r. ⌜ r ≡ callVerdict (nameOf name) (sortsFrom sorts) ⌝ }
-{
-    if sorts == 0 {
-        return 5;
-    }
-    if 5 < sorts {
-        return 5;
-    }
-    if name == 2 {
-        return value_verdict(sorts - 1);
-    }
-    nodes_verdict(sorts - 1)
-}
-
-// The sort of a call.
-pub fn call_sort(name: u8) -> usize
-    requires { ⌜ name ≤ 5 ⌝ }
-    ensures { λ r. ⌜ r ≡ sortNumber (namedSort (nameOf name)) ⌝ }
-{
-    if name == 0 {
-        return 4;
-    }
-    if name < 4 {
-        return 3;
-    }
-    4
-}
-
-// The number of the arguments' sorts with one more.
-pub fn one_more(sorts: usize, sort: usize) -> usize
-    requires { ⌜ (sorts ≤ 31) × (sort ≤ 4) ⌝ }
-    ensures { λ r. ⌜ (r ≡ oneMore sorts sort) × (r ≤ 31) ⌝ }
-{
-    if sorts == 0 {
-        return 1 + sort;
-    }
-    if sorts <= 5 {
-        return 6 + 5 * (sorts - 1) + sort;
-    }
-    31
-}
-
-// The sort that an operand's flag tells.
-pub fn plain_sort(flag: usize) -> usize
-    requires { ⌜ Known flag ⌝ }
-    ensures { λ r. ⌜ (r ≡ sortNumber (sortOf flag)) × (r ≤ 4) ⌝ }
-{
-    if flag == 5 {
-        return 1;
-    }
-    flag
-}
-
-// Whether an operand with the given flag may be compared.
-pub fn comparable(flag: usize) -> bool
-    ensures { λ r. ⌜ r ≡ isComparable flag ⌝ }
-{
-    if flag == 1 {
-        return false;
-    }
-    flag != 2
-}
-
-// The flag of an operand that is a query, from what is told of its segments: 2 tight, 1 singular, 0 neither.
-pub fn query_flag(f: usize) -> usize
-    requires { ⌜ f ≤ 2 ⌝ }
-    ensures { λ r. ⌜ r ≡ flagOfPath f ⌝ }
-{
-    if f == 2 {
-        return 5;
-    }
-    if f == 1 {
-        return 1;
-    }
-    2
-}
-
-pub fn least(a: usize, b: usize) -> usize
-    ensures { λ r. ⌜ r ≡ min a b ⌝ }
-{
-    if a < b { a } else { b }
-}
-
-// What is told of a bracketed selection, from its first selector, the number of further ones and the absence of blanks.
-pub fn brackets_flag(plain: usize, count: usize, before: bool, after: bool) -> usize
-    ensures { λ r. ⌜ r ≡ bracketsNumber plain count before after ⌝ }
-{
-    if plain != 1 {
-        return 0;
-    }
-    if count != 0 {
-        return 0;
-    }
-    if !before {
-        return 1;
-    }
-    if after { 2 } else { 1 }
 }
 
 // ---- what comes next
@@ -381,7 +216,7 @@ pub fn lowered(r: Step) -> Step
 // ---- names and words
 
 // A kind and the count 1.
-fn single(plan: &mut [u8], st: State, kind: u8) -> State
+fn single(plan: &mut [u8], st: Cursor, kind: u8) -> Cursor
     requires { ⌜ Room 3 (now plan) st ⌝ }
     ensures { λ r. ⌜ Put (now (plan .entry)) (now (plan .exit)) st r (kind ∷ 1 ∷ 0 ∷ []) ⌝ }
 {
@@ -391,7 +226,7 @@ fn single(plan: &mut [u8], st: State, kind: u8) -> State
 }
 
 // The item of a name or a text whose n bytes stand at the end of the pool.
-fn pooled(plan: &mut [u8], st: State, kind: u8, n: usize) -> State
+fn pooled(plan: &mut [u8], st: Cursor, kind: u8, n: usize) -> Cursor
     requires { ⌜ Room 5 (now plan) st ⌝ }
     requires { ⌜ st .pool + n < 65536 ⌝ }
     ensures { λ r. ⌜ Pooled (now (plan .entry)) (now (plan .exit)) st r kind n ⌝ }
@@ -401,7 +236,7 @@ fn pooled(plan: &mut [u8], st: State, kind: u8, n: usize) -> State
     plan[len] = kind;
     put16(plan, len + 1, start);
     put16(plan, len + 3, n);
-    State {
+    Cursor {
         at: st.at,
         len: len + 5,
         pool: start + n,
@@ -410,8 +245,8 @@ fn pooled(plan: &mut [u8], st: State, kind: u8, n: usize) -> State
 }
 
 // ( wildcard-selector / member-name-shorthand ), behind the dots of a segment of the given kind; tells 2 for a name.
-pub fn write_dotted(s: &[u8], plan: &mut [u8], pool: &mut [u8], st: State, kind: u8) -> Step
-    requires { ⌜ Start 0 (now s) (now plan) (now pool) st ⌝ }
+pub fn write_dotted(s: &[u8], plan: &mut [u8], pool: &mut [u8], st: Cursor, kind: u8) -> Step
+    requires { ⌜ Asks 0 (now s) (now plan) (now pool) st ⌝ }
     ensures { λ r. ⌜ Post spellDotted (writeDotted kind) dottedFlag 0 (now (s .entry)) (now (plan .entry)) (now (plan .exit)) (now (pool .entry)) (now (pool .exit)) st r ⌝ }
 {
     let at = st.at;
@@ -445,8 +280,8 @@ fn word_byte(k: u8) -> u8
     words::NULL
 }
 
-// The word from the state's place to `end`, if it is true, false or null. No pool is touched.
-pub fn write_keyword(s: &[u8], plan: &mut [u8], st: State, end: usize) -> Step
+// The word from the cursor's place to `end`, if it is true, false or null. No pool is touched.
+pub fn write_keyword(s: &[u8], plan: &mut [u8], st: Cursor, end: usize) -> Step
     requires { ⌜ Room 2 (now plan) st ⌝ }
     requires { ⌜ isUtf8 (drop (st .at) (now s)) ≡ true ⌝ }
     requires { ⌜ WordAt (now s) (st .at) end ⌝ }
@@ -465,8 +300,8 @@ pub fn write_keyword(s: &[u8], plan: &mut [u8], st: State, end: usize) -> Step
 // ---- selectors and literals
 
 // A selector that does not nest: a quoted name, `*`, a slice or an index; tells 1 for a name and an index.
-pub fn write_selector(s: &[u8], plan: &mut [u8], pool: &mut [u8], st: State) -> Step
-    requires { ⌜ Start 12 (now s) (now plan) (now pool) st ⌝ }
+pub fn write_selector(s: &[u8], plan: &mut [u8], pool: &mut [u8], st: Cursor) -> Step
+    requires { ⌜ Asks 12 (now s) (now plan) (now pool) st ⌝ }
     ensures { λ r. ⌜ LoosePost spellPlain writePlain isPlain 1 4 (now (s .entry)) (now (plan .entry)) (now (plan .exit)) (now (pool .entry)) (now (pool .exit)) st r ⌝ }
 {
     let at = st.at;
@@ -484,8 +319,8 @@ pub fn write_selector(s: &[u8], plan: &mut [u8], pool: &mut [u8], st: State) -> 
 }
 
 // A literal that is no word: a number or a quoted text.
-pub fn write_literal(s: &[u8], plan: &mut [u8], pool: &mut [u8], st: State) -> Step
-    requires { ⌜ Start 0 (now s) (now plan) (now pool) st ⌝ }
+pub fn write_literal(s: &[u8], plan: &mut [u8], pool: &mut [u8], st: Cursor) -> Step
+    requires { ⌜ Asks 0 (now s) (now plan) (now pool) st ⌝ }
     ensures { λ r. ⌜ Post spellConstant writeConstant noFlag 1 (now (s .entry)) (now (plan .entry)) (now (plan .exit)) (now (pool .entry)) (now (pool .exit)) st r ⌝ }
 {
     let at = st.at;

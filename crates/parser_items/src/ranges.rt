@@ -1,5 +1,5 @@
 // Indices and slices: an int, a bound and a step are read as a piece, and the pieces are written.
-use crate::State;
+use crate::Cursor;
 use crate::Step;
 use crate::item;
 use crate::judged;
@@ -13,14 +13,14 @@ use text::bytes::bits64;
 use text::bytes::put64;
 ghost use mathlib.Core.Path.{_≡_};
 ghost use mathlib.Core.Bool.{true, false};
-ghost use mathlib.Core.List.{List, [], _∷_};
+ghost use mathlib.Core.List.{List, _∷_};
 ghost use Prim.Native.Nat.{ℕ, _+_, _*_, _-_, _≤_};
 ghost use lib.ListN.{length, drop};
-ghost use Rattle.definition.specs.Bytes.{littleEndian, unsigned64};
+ghost use Rattle.definition.specs.Bytes.{littleEndian};
 ghost use Rattle.definition.specs.Utf8.{isUtf8};
 ghost use Rattle.parser_scan.specs.Text.{Is};
-ghost use Rattle.parser_items.specs.Reads.{Start, LoosePost, Put, PutMarked, Room, spellPlain, writePlain, isPlain};
-ghost use Rattle.parser_items.specs.Ranges.{IntOrNot, IntThere, StepThere, NoText, fieldOf, bitOf, sliceBytes, sliceMarks};
+ghost use Rattle.parser_items.specs.Reads.{LoosePost, Put, PutMarked, Room, spellPlain, writePlain, isPlain};
+ghost use Rattle.parser_items.specs.Ranges.{IntOrNot, StepThere, NoText, fieldOf, bitOf, sliceBytes, sliceMarks};
 
 // The refusal of an int that is out of range.
 const OUT_OF_RANGE: u8 = 4;
@@ -95,13 +95,13 @@ pub fn read_step(s: &[u8], at: usize) -> Piece
 }
 
 // Eight bytes.
-pub fn eight(plan: &mut [u8], st: State, n: u64) -> State
+pub fn eight(plan: &mut [u8], st: Cursor, n: u64) -> Cursor
     requires { ⌜ Room 8 (now plan) st ⌝ }
     ensures { λ r. ⌜ Put (now (plan .entry)) (now (plan .exit)) st r (littleEndian 8 n) ⌝ }
 {
     let len = st.len;
     put64(plan, len, n);
-    State {
+    Cursor {
         at: st.at,
         len: len + 8,
         pool: st.pool,
@@ -117,7 +117,7 @@ fn bit(given: bool, n: u8) -> u8
 }
 
 // An index.
-fn put_index(plan: &mut [u8], st: State, p: Piece) -> State
+fn put_index(plan: &mut [u8], st: Cursor, p: Piece) -> Cursor
     requires { ⌜ Room 9 (now plan) st ⌝ }
     ensures { λ r. ⌜ PutMarked (now (plan .entry)) (now (plan .exit)) st r (0x06 ∷ littleEndian 8 (p .bits)) (record { verdict = p .verdict; beyond = false }) ⌝ }
 {
@@ -127,7 +127,7 @@ fn put_index(plan: &mut [u8], st: State, p: Piece) -> State
 }
 
 // A slice: its flags, its bounds and its step.
-fn put_slice(plan: &mut [u8], st: State, start: Piece, stop: Piece, by: Piece) -> State
+fn put_slice(plan: &mut [u8], st: Cursor, start: Piece, stop: Piece, by: Piece) -> Cursor
     requires { ⌜ Room 26 (now plan) st ⌝ }
     ensures { λ r. ⌜ PutMarked (now (plan .entry)) (now (plan .exit)) st r (sliceBytes (fieldOf start) (fieldOf stop) (fieldOf by)) (sliceMarks (fieldOf start) (fieldOf stop) (fieldOf by)) ⌝ }
 {
@@ -146,7 +146,7 @@ fn put_slice(plan: &mut [u8], st: State, start: Piece, stop: Piece, by: Piece) -
 }
 
 // What follows the first bound of a slice, from its colon on.
-fn write_slice(s: &[u8], plan: &mut [u8], st: State, start: Piece) -> Step
+fn write_slice(s: &[u8], plan: &mut [u8], st: Cursor, start: Piece) -> Step
     requires { ⌜ Room 26 (now plan) st ⌝ }
     requires { ⌜ isUtf8 (drop (st .at) (now s)) ≡ true ⌝ }
     requires { ⌜ NoText (now s) (st .at) ⌝ }
@@ -164,7 +164,7 @@ fn write_slice(s: &[u8], plan: &mut [u8], st: State, start: Piece) -> Step
 }
 
 // An index or a slice. No pool is touched.
-pub fn write_range(s: &[u8], plan: &mut [u8], st: State) -> Step
+pub fn write_range(s: &[u8], plan: &mut [u8], st: Cursor) -> Step
     requires { ⌜ (st .at ≤ length (now s)) × (st .len + (15 * (length (now s) - st .at) + 12) ≤ length (now plan)) ⌝ }
     requires { ⌜ isUtf8 (drop (st .at) (now s)) ≡ true ⌝ }
     requires { ⌜ NoText (now s) (st .at) ⌝ }

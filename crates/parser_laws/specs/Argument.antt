@@ -17,10 +17,10 @@ use Rattle.definition.specs.Grammar.MoreOr.{noOr}
 use Rattle.definition.specs.Grammar.Argument.{literalArgument, queryArgument, logicalArgument, functionArgument}
 use Rattle.compile_writes.specs.Laws.{effect-assoc}
 use Rattle.basics.specs.Reads.{Reads, ReadsNone, StartsNot}
-use Rattle.compile_writes.specs.Effects.{Effect, join, joinMarks, first, seq, skip}
+use Rattle.compile_writes.specs.Effects.{Effect, join, joinMarks, seq, skip}
 use Rattle.compile_writes.specs.Sorts.{Sort, sortArgument, sortOr, sortAnd, sortBasic, sortMoreAnd, sortMoreOr, sortFunction, comparedVerdict}
 use Rattle.compile_writes.specs.Writes.{writeArgument, writeOr, writeAnd, writeBasic, writeMoreAnd, writeMoreOr, writeFilterQuery, writeFunction}
-use Rattle.parser_follow.specs.Follow.{hd, unblank, rank, After}
+use Rattle.parser_follow.specs.Follow.{hd, unblank, levelOf, After}
 use Rattle.parser_follow.specs.Numbers.{sortOf, sortNumber}
 use Rattle.parser_follow.specs.Pieces.{Operand, spellOperand, writeOperand, operandFlag, Behind, writeBehind, behindSort, Allowed, BehindOf, spellBehindOf, writeBehindOf, behindOfSort, ChainedOf, spellChainedOf, writeChainedOf, chainedOfSort}
 use Rattle.parser_follow.specs.Pieces.Operand.{literalOperand, queryOperand, functionOperand}
@@ -33,7 +33,7 @@ use Rattle.parser_laws.specs.So.{So}
 use Rattle.parser_laws.specs.And.{meBasic, meMoreAnd, and-follow, write-and, sort-and}
 use Rattle.parser_laws.specs.Or.{meMoreOr, meOr, or-follow, write-or, sort-or}
 use Rattle.parser_laws.specs.Query.{meOperand}
-use Rattle.parser_laws.specs.Behind.{meBehind, some-allowed, operator-rank, behind-literal}
+use Rattle.parser_laws.specs.Behind.{meBehind, some-allowed, operator-level, behind-literal}
 use Rattle.parser_laws.specs.Basic.{behind-follow, Operated, meOperated, basic-of, basic-operated, join-skip, filter-query-sort, query-some, function-some}
 use Rattle.parser_laws.specs.Arguments.{meArgument}
 
@@ -300,7 +300,7 @@ module _ (p : ℕ) {s r : List ℕ} {x : Operand} (o : Reads spellOperand (meOpe
   pub no-literal-operator : (q : G.Operator) (l : List ℕ) → unblank r ≡ spellOperator q l → (y : G.Literal) (r' : List ℕ) → After 4 r' → s ≡ spellLiteral y r' → ⊥
   no-literal-operator q l d y r' a e =
       let h = o .only (literalOperand y) r' (after-weaken 1 4 (lit≤ tt) a) e in
-      let g : rank (hd (unblank r')) ≡ 2 = ap (λ z. rank (hd (unblank z))) (h .1) ∙ ap (λ z. rank (hd z)) d ∙ operator-rank q l in
+      let g : levelOf (hd (unblank r')) ≡ 2 = ap (λ z. levelOf (hd (unblank z))) (h .1) ∙ ap (λ z. levelOf (hd z)) d ∙ operator-level q l in
       omega (arith, a .above)
 
   -- a literal that no operator follows is a literal alone

@@ -20,7 +20,7 @@ use Rattle.basics.specs.Reads.{Reads, ReadsNone}
 use Rattle.compile_writes.specs.Effects.{Effect, join, seq}
 use Rattle.compile_writes.specs.Sorts.{sortArgument, sortsOf, sortsMore, namedSort}
 use Rattle.compile_writes.specs.Writes.{writeArgument, writeArguments, writeMoreArguments, callBytes}
-use Rattle.parser_follow.specs.Follow.{hd, unblank, rank, After}
+use Rattle.parser_follow.specs.Follow.{hd, unblank, levelOf, After}
 use Rattle.parser_follow.specs.Numbers.{sortNumber, oneMore, argumentsFrom, nameOf, callMarks}
 use Rattle.parser_follow.specs.Pieces.{Call, spellCall}
 use Rattle.parser_laws.specs.Follows.{after-weaken, after-blanks}
@@ -83,9 +83,9 @@ further-follow (moreArguments b c x u) r a = after-blanks 4 b 0x2C _ refl (lit< 
 
 -- ---- all arguments
 
--- only the closing parenthesis has the highest rank
-top-rank : (c : ℕ) → 6 < rank c → c ≡ 0x29
-top-rank c h = go (eqb c 0x2E || eqb c 0x5B) (eqb c 0x3D || (eqb c 0x21 || (eqb c 0x3C || eqb c 0x3E))) (eqb c 0x26) (eqb c 0x7C) (eqb c 0x2C) (eqb c 0x5D || eqb c 256) (eqb c 0x29) refl h
+-- only the closing parenthesis has the highest level
+top-level : (c : ℕ) → 6 < levelOf c → c ≡ 0x29
+top-level c h = go (eqb c 0x2E || eqb c 0x5B) (eqb c 0x3D || (eqb c 0x21 || (eqb c 0x3C || eqb c 0x3E))) (eqb c 0x26) (eqb c 0x7C) (eqb c 0x2C) (eqb c 0x5D || eqb c 256) (eqb c 0x29) refl h
   where
     go : (a b d e f x y : Bool) → eqb c 0x29 ≡ y → 6 < cond a 1 (cond b 2 (cond d 3 (cond e 4 (cond f 5 (cond x 6 (cond y 7 0)))))) → c ≡ 0x29
     go true b d e f x y j g = absurd (omega arith)
@@ -102,8 +102,8 @@ argument-not-after : (x : G.Argument) (r : List ℕ) → After 6 (spellArgument 
 argument-not-after x r a =
     let b = argument-begins x r in
     let e : hd (unblank (spellArgument x r)) ≡ b .byte = ap hd (argument-start x r ∙ b .is) in
-    let h : 6 < rank (b .byte) = subst (λ z. 6 < rank z) e (a .above) in
-    true≢false (sym (b .good) ∙ ap isBasicByte (top-rank (b .byte) h))
+    let h : 6 < levelOf (b .byte) = subst (λ z. 6 < levelOf z) e (a .above) in
+    true≢false (sym (b .good) ∙ ap isBasicByte (top-level (b .byte) h))
 
 -- a closing parenthesis: there are none
 pub arguments-end : (p : ℕ) {s l : List ℕ} → s ≡ 0x29 ∷ l → Reads spellArguments (meArguments p) (After 6) s noArgument s
@@ -152,13 +152,13 @@ module _ (p : ℕ) {s r : List ℕ} {x : G.Argument} (o : Reads spellArgument (m
 pub arguments-none : {s : List ℕ} → unblank s ≡ s → ReadsNone spellArgument (After 4) s → ((l : List ℕ) → s ≡ 0x29 ∷ l → ⊥) → ReadsNone spellArguments (After 6) s
 arguments-none {s} u k n = record { none = none }
   where
-    closing : (z : List ℕ) → 6 < rank (hd z) → (l : List ℕ) × (z ≡ 0x29 ∷ l)
+    closing : (z : List ℕ) → 6 < levelOf (hd z) → (l : List ℕ) × (z ≡ 0x29 ∷ l)
     closing [] h = absurd (omega arith)
-    closing (c ∷ z) h = (z, ap (λ y. y ∷ z) (top-rank c h))
+    closing (c ∷ z) h = (z, ap (λ y. y ∷ z) (top-level c h))
 
     none : (t' : G.Arguments) (r' : List ℕ) → After 6 r' → s ≡ spellArguments t' r' → ⊥
     none noArgument r' f e =
-        let h : 6 < rank (hd s) = subst (λ z. 6 < rank (hd z)) u (subst (λ z. 6 < rank (hd (unblank z))) (sym e) (f .above)) in
+        let h : 6 < levelOf (hd s) = subst (λ z. 6 < levelOf (hd z)) u (subst (λ z. 6 < levelOf (hd (unblank z))) (sym e) (f .above)) in
         let g = closing s h in
         n (g .0) (g .1)
     none (arguments x xs) r' f e = k .none x (spellMoreArguments xs r') (further-follow xs r' (after-weaken 5 6 (lit≤ tt) f)) e

@@ -11,14 +11,12 @@ use Rattle.definition.specs.Lexical.{Blanks, isBlank, spellBlanks}
 use Rattle.definition.specs.Grammar as G
 use Rattle.definition.specs.Grammar.{spellComparable, spellOperator}
 use Rattle.definition.specs.Grammar.Operator.{eqOperator, neOperator, ltOperator, leOperator, gtOperator, geOperator}
-use Rattle.definition.specs.Walk.{operatorForm}
-use Rattle.definition.specs.Plans.{operatorByte}
 use Rattle.basics.specs.Bools.{and-left}
 use Rattle.parser_follow.specs.Blanks.{split-blanks, unblank-blanks}
 use Rattle.basics.specs.Reads.{Reads, ReadsNone, StartsNot}
 use Rattle.compile_writes.specs.Effects.{Effect}
-use Rattle.parser_follow.specs.Follow.{hd, unblank, rank, After}
-use Rattle.parser_follow.specs.Numbers.{sortOf, sortNumber, isComparable}
+use Rattle.parser_follow.specs.Follow.{hd, unblank, levelOf, After}
+use Rattle.parser_follow.specs.Numbers.{sortOf, sortNumber, isComparable, operatorNumber}
 use Rattle.parser_follow.specs.Pieces.{Side, spellSide, writeSide, Behind, spellBehind, Allowed, BehindOf, spellBehindOf, writeBehindOf, behindOfSort}
 use Rattle.parser_follow.specs.Pieces.Behind.{alone, compared}
 use Rattle.parser_laws.specs.Begins.{Begins, begins-not, comparable-begins, isOperandByte}
@@ -26,9 +24,6 @@ use Rattle.parser_laws.specs.Sides.{meSide}
 
 abbrev pub meBehind : (f p : ℕ) → BehindOf f → Effect × ℕ
 meBehind f p x = (writeBehindOf f x p, behindOfSort f x)
-
-abbrev pub operatorNumber : G.Operator → ℕ
-operatorNumber o = operatorByte (operatorForm o)
 
 -- ---- operators
 
@@ -41,13 +36,13 @@ operator-start leOperator r = refl
 operator-start gtOperator r = refl
 operator-start geOperator r = refl
 
-pub operator-rank : (o : G.Operator) (r : List ℕ) → rank (hd (spellOperator o r)) ≡ 2
-operator-rank eqOperator r = refl
-operator-rank neOperator r = refl
-operator-rank ltOperator r = refl
-operator-rank leOperator r = refl
-operator-rank gtOperator r = refl
-operator-rank geOperator r = refl
+pub operator-level : (o : G.Operator) (r : List ℕ) → levelOf (hd (spellOperator o r)) ≡ 2
+operator-level eqOperator r = refl
+operator-level neOperator r = refl
+operator-level ltOperator r = refl
+operator-level leOperator r = refl
+operator-level gtOperator r = refl
+operator-level geOperator r = refl
 
 -- a blank is no "="
 blank-not-equal : (c : ℕ) → isBlank c ≡ true → eqb 0x3D c ≡ false
@@ -115,7 +110,7 @@ module _ (f p : ℕ) {s s₁ : List ℕ} {o : G.Operator} (h : Reads spellOperat
   -- what may follow a test is not what stands there
   not-alone : (r' : List ℕ) → After 2 r' → s ≡ r' → ⊥
   not-alone r' a g =
-      let e : rank (hd (unblank r')) ≡ 2 = ap (λ z. rank (hd (unblank z))) (sym g) ∙ ap (λ z. rank (hd z)) (h .eq) ∙ operator-rank o s₁ in
+      let e : levelOf (hd (unblank r')) ≡ 2 = ap (λ z. levelOf (hd (unblank z))) (sym g) ∙ ap (λ z. levelOf (hd z)) (h .eq) ∙ operator-level o s₁ in
       omega (arith, a .above)
 
   pub behind-compared : {x : Side} {r : List ℕ} (c : isComparable f ≡ true) → Reads spellSide (meSide (sortNumber (sortOf f)) (operatorNumber o) p) (After 2) s₁ x r

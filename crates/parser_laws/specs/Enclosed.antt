@@ -6,14 +6,14 @@ use Prim.Native.Nat.{ℕ, _<_}
 use Rattle.definition.specs.Lexical.{Blanks, isBlank, spellBlanks}
 use Rattle.parser_follow.specs.Blanks.{split-blanks, unblank-blanks, unblank-byte}
 use Rattle.basics.specs.Reads.{Reads, ReadsNone}
-use Rattle.parser_follow.specs.Follow.{unblank, rank, After}
+use Rattle.parser_follow.specs.Follow.{unblank, levelOf, After}
 use Rattle.parser_laws.specs.Follows.{after-blanks}
 
 -- what stands in the text s behind the opening byte: blanks, x, blanks, the byte y, and the rest r
 abbrev pub Enclosed : {X : Type 0} (sp : X → List ℕ → List ℕ) (y : ℕ) (s : List ℕ) → Blanks → X → Blanks → List ℕ → Type 0
 Enclosed sp y s b x c r = s ≡ spellBlanks b (sp x (spellBlanks c (y ∷ r)))
 
-module _ {X M : Type 0} (sp : X → List ℕ → List ℕ) (me : X → M) (k y : ℕ) (start : (x : X) (r : List ℕ) → unblank (sp x r) ≡ sp x r) (plain : isBlank y ≡ false) (high : k < rank y) where
+module _ {X M : Type 0} (sp : X → List ℕ → List ℕ) (me : X → M) (k y : ℕ) (start : (x : X) (r : List ℕ) → unblank (sp x r) ≡ sp x r) (plain : isBlank y ≡ false) (high : k < levelOf y) where
   -- behind the blanks stands x
   inside : {s : List ℕ} (b : Blanks) (x : X) (c : Blanks) (r : List ℕ) → Enclosed sp y s b x c r → unblank s ≡ sp x (spellBlanks c (y ∷ r))
   inside b x c r e = ap unblank e ∙ unblank-blanks b _ ∙ start x _

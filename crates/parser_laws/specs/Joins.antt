@@ -1,13 +1,11 @@
 -- Laws of effects: joining them groups as one likes, and nothing is neutral.
 use mathlib.Core.Path.{_≡_, refl}
-use mathlib.Core.Bool.{Bool, true, false, cond, or-assoc}
-use mathlib.Core.List.{List, [], append-assoc}
+use mathlib.Core.List.{List, [], append-nil}
 use Prim.Native.Nat.{ℕ, _+_}
 use native.Mathlib.Nat.{add-zero}
-use lib.Dec.{eqb}
 use lib.ListN.{length, length-append}
 use Rattle.definition.specs.Plans.{framed}
-use Rattle.compile_writes.specs.Effects.{Marks, Effect, Writer, noMarks, first, joinMarks, join, seq, bytes, mark, frame}
+use Rattle.compile_writes.specs.Effects.{Marks, Effect, Writer, noMarks, join, seq, bytes, mark, frame}
 
 -- the pool of two effects
 pub join-pool : (a b : Effect) → length (join a b .pool) ≡ length (a .pool) + length (b .pool)
@@ -41,3 +39,8 @@ seq-frame kind g f p = refl
 pub seq-last : (f : Writer) (s : List ℕ) (p : ℕ) → seq f (bytes s) p ≡ join (f p) (plain s)
 unfolding seq bytes
 seq-last f s p = refl
+
+-- bytes behind an effect leave its pool
+pub last-pool : (e : Effect) (s : List ℕ) → length (join e (plain s) .pool) ≡ length (e .pool)
+unfolding join
+last-pool e s = simp append-nil

@@ -2,7 +2,7 @@
 use mathlib.Core.Path.{_≡_, refl, sym, ap}
 use mathlib.Core.Bool.{Bool, false}
 use mathlib.Core.Logic.{_⊎_, inl, inr}
-use mathlib.Core.List.{List, _∷_, append-nil}
+use mathlib.Core.List.{_∷_, append-nil}
 use Prim.Native.Nat.{ℕ, _+_}
 use lib.Dec.{lit<}
 use lib.ListN.{length}
@@ -10,12 +10,12 @@ use Rattle.definition.specs.Lexical.{Blanks}
 use Rattle.definition.specs.Grammar.{Basic, MoreAnd, spellBasic, spellMoreAnd}
 use Rattle.definition.specs.Grammar.MoreAnd.{noAnd, moreAnd}
 use Rattle.compile_writes.specs.Laws.{effect-assoc}
-use Rattle.compile_writes.specs.Effects.{Effect, join, bytes}
+use Rattle.compile_writes.specs.Effects.{Effect, join}
 use Rattle.compile_writes.specs.Sorts.{Sort, sortBasic, sortMoreAnd, comparedVerdict}
 use Rattle.compile_writes.specs.Sorts.Sort.{logicalSort}
 use Rattle.compile_writes.specs.Writes.{writeBasic, writeMoreAnd, testTail}
 use Rattle.parser_follow.specs.Numbers.{sortNumber, sortOf}
-use Rattle.parser_laws.specs.Joins.{plain, marked, within, seq-bytes, seq-mark, seq-frame, seq-last}
+use Rattle.parser_laws.specs.Joins.{plain, marked, within, seq-bytes, seq-mark, seq-frame, seq-last, last-pool}
 use Rattle.parser_laws.specs.Sorted.{sort-of}
 use Rattle.parser_laws.specs.Rep.{Rep}
 use Rattle.parser_laws.specs.Starts.{basic-start}
@@ -25,11 +25,6 @@ use Rattle.parser_laws.specs.And.{meBasic, meMoreAnd}
 abbrev pub andDoes : Bool → Sort → Effect × ℕ → Effect
 andDoes a σ m =
     join (plain (testTail σ)) (join (within 0x16 (join (m .0) (plain (testTail (sortOf (m .1)))))) (marked (record { verdict = comparedVerdict a (sortOf (m .1)); beyond = false })))
-
--- bytes behind an effect leave its pool
-last-pool : (e : Effect) (s : List ℕ) → length (join e (plain s) .pool) ≡ length (e .pool)
-unfolding join
-last-pool e s = simp append-nil
 
 -- the pool of an operand with its operator is the operand's
 and-pool : (a : Bool) (σ : Sort) (m : Effect × ℕ) → length (andDoes a σ m .pool) ≡ length (m .0 .pool)

@@ -2,7 +2,7 @@
 use mathlib.Core.Path.{_≡_, refl, sym, ap}
 use mathlib.Core.Bool.{Bool}
 use mathlib.Core.Logic.{_⊎_, inl, inr}
-use mathlib.Core.List.{List, _∷_, append-nil}
+use mathlib.Core.List.{_∷_, append-nil}
 use Prim.Native.Nat.{ℕ, _+_}
 use lib.Dec.{lit<}
 use lib.ListN.{length}
@@ -10,12 +10,12 @@ use Rattle.definition.specs.Lexical.{Blanks}
 use Rattle.definition.specs.Grammar.{LogicalAnd, MoreOr, spellLogicalAnd, spellMoreOr}
 use Rattle.definition.specs.Grammar.MoreOr.{noOr, moreOr}
 use Rattle.compile_writes.specs.Laws.{effect-assoc}
-use Rattle.compile_writes.specs.Effects.{Effect, join, bytes}
+use Rattle.compile_writes.specs.Effects.{Effect, join}
 use Rattle.compile_writes.specs.Sorts.{Sort, sortAnd, sortMoreOr}
 use Rattle.compile_writes.specs.Sorts.Sort.{logicalSort}
 use Rattle.compile_writes.specs.Writes.{writeAnd, writeMoreOr, testTail}
 use Rattle.parser_follow.specs.Numbers.{sortNumber, sortOf}
-use Rattle.parser_laws.specs.Joins.{plain, within, seq-bytes, seq-frame, seq-last}
+use Rattle.parser_laws.specs.Joins.{plain, within, seq-bytes, seq-frame, seq-last, last-pool}
 use Rattle.parser_laws.specs.Sorted.{sort-of}
 use Rattle.parser_laws.specs.Rep.{Rep}
 use Rattle.parser_laws.specs.Starts.{and-start}
@@ -25,11 +25,6 @@ use Rattle.parser_laws.specs.Or.{meMoreOr}
 -- what an operand with its operator brings about, from what is told of the operand
 abbrev pub orDoes : Sort → Effect × ℕ → Effect
 orDoes σ m = join (plain (testTail σ)) (within 0x17 (join (m .0) (plain (testTail (sortOf (m .1))))))
-
--- bytes behind an effect leave its pool
-last-pool : (e : Effect) (s : List ℕ) → length (join e (plain s) .pool) ≡ length (e .pool)
-unfolding join
-last-pool e s = simp append-nil
 
 -- the pool of an operand with its operator is the operand's
 or-pool : (σ : Sort) (m : Effect × ℕ) → length (orDoes σ m .pool) ≡ length (m .0 .pool)

@@ -10,7 +10,7 @@ use Rattle.definition.specs.Lexical.{Blanks, isBlank, spellBlanks}
 use Rattle.parser_follow.specs.Blanks.{split-blanks, unblank-blanks}
 use Rattle.basics.specs.Reads.{Reads, ReadsNone}
 use Rattle.compile_writes.specs.Effects.{Effect, join}
-use Rattle.parser_follow.specs.Follow.{unblank, rank, After}
+use Rattle.parser_follow.specs.Follow.{unblank, levelOf, After}
 use Rattle.parser_laws.specs.Follows.{after-weaken, after-blanks, after-not}
 use Rattle.parser_laws.specs.So.{So}
 
@@ -27,7 +27,7 @@ pub record Rep {I L K : Type 0} (spI : I → List ℕ → List ℕ) (tell : ℕ 
   pub view : (l : L) → (l ≡ nil) ⊎ ((b : Blanks) × (c : Blanks) × (i : I) × (l' : L) × (l ≡ more b c i l'))
   pub start : (i : I) (r : List ℕ) → unblank (spI i r) ≡ spI i r
   pub plain : isBlank x ≡ false
-  pub ranked : rank x ≡ k
+  pub ranked : levelOf x ≡ k
   pub below : j < k
   -- the place of the pool at which an item behind the separator begins, its effect with the separator's, and the context behind it, all by what the item tells
   pub from : K → ℕ → ℕ

@@ -1,10 +1,10 @@
 -- segments = *( S segment ). What is told of them is 2 where all are those of a singular-query, 1 where all are singular as forms, 0 otherwise.
 use mathlib.Core.Path.{_≡_, refl, sym, ap, subst, _∙_}
-use mathlib.Core.Bool.{Bool, true, false, _&&_, _||_, true≢false, false≢true}
+use mathlib.Core.Bool.{Bool, true, false, _&&_, true≢false, false≢true}
 use mathlib.Core.List.{List}
 use Prim.Native.Nat.{ℕ, _+_, _≤_, _<_, min}
 use native.Mathlib.Omega.{arith}
-use lib.Dec.{eqb, lit<, lit≤}
+use lib.Dec.{lit<, lit≤}
 use lib.ListN.{length}
 use Rattle.definition.specs.Lexical.{Blanks, spellBlanks}
 use Rattle.definition.specs.Grammar.{Segment, Segments, spellSegment, spellSegments}
@@ -17,16 +17,12 @@ use Rattle.compile_writes.specs.Effects.{Effect, join, seq}
 use Rattle.compile_writes.specs.Sorts.{singularSegments, tightSegments, singularSegment, tightSegment, singularBrackets, tightBrackets, isPlainSelector, isAlone, isEmpty}
 use Rattle.compile_writes.specs.Writes.{writeSegments, writeSegment}
 use Rattle.compile_writes.specs.Singular.{tight-singular}
-use Rattle.parser_follow.specs.Follow.{hd, unblank, rank, After}
+use Rattle.parser_follow.specs.Follow.{hd, unblank, levelOf, After, isSegmentByte}
 use Rattle.parser_follow.specs.Numbers.{pathNumber, segmentsFlag, segmentFlag}
 use Rattle.parser_laws.specs.Follows.{after-weaken, after-blanks}
 use Rattle.parser_laws.specs.So.{So}
 use Rattle.parser_laws.specs.Rep.{behind}
 use Rattle.parser_laws.specs.Segment.{meSegment}
-
--- `.` or `[`
-abbrev pub isSegmentByte : ℕ → Bool
-isSegmentByte c = eqb c 0x2E || eqb c 0x5B
 
 abbrev pub meSegments : ℕ → ℕ → Segments → Effect × ℕ
 meSegments f p t = (writeSegments t p, min f (segmentsFlag t))
@@ -110,7 +106,7 @@ more-segments f p b x xs =
 -- ---- reading on
 
 -- a byte that begins a segment may not follow segments
-low : (c : ℕ) → isSegmentByte c ≡ true → rank c ≤ 1
+low : (c : ℕ) → isSegmentByte c ≡ true → levelOf c ≤ 1
 low c e = rw e (lit≤ tt)
 
 module _ {M : Type 0} {meT : Segments → M} {s₀ s : List ℕ} (f p : ℕ) (act : Effect × ℕ → M) (so : So spellSegments meT spellSegments (meSegments f p) (After 1) s₀ s act) where
@@ -125,7 +121,7 @@ module _ {M : Type 0} {meT : Segments → M} {s₀ s : List ℕ} (f p : ℕ) (ac
           → (b : Blanks) × (x' : Segment) × (u' : Segments) × (unblank s ≡ spellSegment x' (spellSegments u' r')) × (meT t' ≡ act (meSegments f p (moreSegments b x' u')))
       go noSegment g m =
           let l = low (hd (unblank s)) n in
-          let k : 1 < rank (hd (unblank s)) = subst (λ z. 1 < rank (hd (unblank z))) (sym g) (a .above) in
+          let k : 1 < levelOf (hd (unblank s)) = subst (λ z. 1 < levelOf (hd (unblank z))) (sym g) (a .above) in
           absurd (omega arith)
       go (moreSegments b x u) g m = (b, x, u, ap unblank g ∙ unblank-blanks b _ ∙ segment-start x _, m)
 

@@ -19,7 +19,7 @@ use Rattle.utf8_laws.specs.Bytes.{inside-low, inside-high}
 use Rattle.compile_writes.specs.Effects.{Effect, seq, mark, bytes}
 use Rattle.compile_writes.specs.Sorts.{namedSort, sortFunction, sortsOf, callVerdict}
 use Rattle.compile_writes.specs.Writes.{writeArguments, writeFunction, callBytes, writeLiteral}
-use Rattle.parser_follow.specs.Follow.{unblank, rank, After}
+use Rattle.parser_follow.specs.Follow.{unblank, levelOf, After}
 use Rattle.parser_follow.specs.Numbers.{sortNumber, nameOf}
 use Rattle.parser_follow.specs.Leaves.{Constant, Keyword, spellConstant, writeConstant, spellKeyword, writeKeyword, keywordLiteral}
 use Rattle.parser_follow.specs.Leaves.Constant.{numberConstant, textConstant}
@@ -33,9 +33,9 @@ use Rattle.parser_laws.specs.Query.{meOperand}
 
 -- ---- what may follow an operand is no byte of a word
 
--- a byte that is none of those that have a rank has none
-no-rank : (c : ℕ) → 0x2F < c → (c < 0x3C) ⊎ (0x5D < c) → (0x7C < c) ⊎ (c < 0x7C) → c < 0x100 → rank c ≡ 0
-no-rank c a b d e = rw (
+-- a byte that is none of those that have a level has none
+no-level : (c : ℕ) → 0x2F < c → (c < 0x3C) ⊎ (0x5D < c) → (0x7C < c) ⊎ (c < 0x7C) → c < 0x100 → levelOf c ≡ 0
+no-level c a b d e = rw (
   ne-eqb c 0x2E (λ z. omega arith),
   ne-eqb c 0x5B (λ z. ⊎-elim (λ y. omega arith) (λ y. omega arith) b),
   ne-eqb c 0x3D (λ z. ⊎-elim (λ y. omega arith) (λ y. omega arith) b),
@@ -50,15 +50,15 @@ no-rank c a b d e = rw (
   ne-eqb c 0x29 (λ z. omega arith),
 ) refl
 
--- a byte of a word has no rank, and is no blank
-word-rank : (c : ℕ) → isFunctionChar c ≡ true → (rank c ≡ 0) × (0x20 < c)
-word-rank c e =
+-- a byte of a word has no level, and is no blank
+word-level : (c : ℕ) → isFunctionChar c ≡ true → (levelOf c ≡ 0) × (0x20 < c)
+word-level c e =
     ⊎-elim
-    (λ a. (no-rank c (omega (arith, inside-low 0x61 0x7A c a)) (inr (omega (arith, inside-low 0x61 0x7A c a))) (inr (omega (arith, inside-high 0x61 0x7A c a))) (omega (arith, inside-high 0x61 0x7A c a)), omega (arith, inside-low 0x61 0x7A c a)))
+    (λ a. (no-level c (omega (arith, inside-low 0x61 0x7A c a)) (inr (omega (arith, inside-low 0x61 0x7A c a))) (inr (omega (arith, inside-high 0x61 0x7A c a))) (omega (arith, inside-high 0x61 0x7A c a)), omega (arith, inside-low 0x61 0x7A c a)))
     (λ b.
     ⊎-elim
-    (λ a. (no-rank c (omega (arith, eqb-true c 0x5F a)) (inr (omega (arith, eqb-true c 0x5F a))) (inr (omega (arith, eqb-true c 0x5F a))) (omega (arith, eqb-true c 0x5F a)), omega (arith, eqb-true c 0x5F a)))
-    (λ a. (no-rank c (omega (arith, inside-low 0x30 0x39 c a)) (inl (omega (arith, inside-high 0x30 0x39 c a))) (inr (omega (arith, inside-high 0x30 0x39 c a))) (omega (arith, inside-high 0x30 0x39 c a)), omega (arith, inside-low 0x30 0x39 c a)))
+    (λ a. (no-level c (omega (arith, eqb-true c 0x5F a)) (inr (omega (arith, eqb-true c 0x5F a))) (inr (omega (arith, eqb-true c 0x5F a))) (omega (arith, eqb-true c 0x5F a)), omega (arith, eqb-true c 0x5F a)))
+    (λ a. (no-level c (omega (arith, inside-low 0x30 0x39 c a)) (inl (omega (arith, inside-high 0x30 0x39 c a))) (inr (omega (arith, inside-high 0x30 0x39 c a))) (omega (arith, inside-high 0x30 0x39 c a)), omega (arith, inside-low 0x30 0x39 c a)))
     (or-cases (eqb c 0x5F) (isDigit c) b))
     (or-cases (isLcalpha c) _ e)
 
@@ -70,9 +70,9 @@ after-word k (c ∷ r) a = go (isFunctionChar c) refl
   where
     go : (t : Bool) → isFunctionChar c ≡ t → t ≡ false
     go true e =
-        let w = word-rank c e in
+        let w = word-level c e in
         let s : unblank (c ∷ r) ≡ c ∷ r = solid c r (w .1) in
-        let g : k < rank c = rw s at (a .above) in
+        let g : k < levelOf c = rw s at (a .above) in
         absurd (omega (arith, w .0))
     go false e = refl
 

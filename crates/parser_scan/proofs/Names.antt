@@ -1,18 +1,18 @@
 -- Names and function names: the run of their bytes is the one tree of the grammar that stands there.
 -- Assumes nothing.
 use mathlib.Core.Path.{_≡_, refl, sym, ap, _∙_}
-use mathlib.Core.Bool.{Bool, true, false, cond, _&&_, _||_, or-true, or-false, and-false, true≢false}
+use mathlib.Core.Bool.{Bool, true, false, _||_, or-true, or-false, and-false, true≢false}
 use mathlib.Core.List.{List, [], _∷_, _++_}
-use Prim.Native.Nat.{ℕ, suc, _+_, _-_, _≤_, _<_}
+use Prim.Native.Nat.{ℕ, _+_, _-_, _≤_, _<_}
 use native.Mathlib.Omega.{arith}
-use borrow.Author.Tests.{lt-ltb, le-ltb, lt-leb, le-leb, ne-eqb, eqb-true, ltb-true, ltb-false}
-use lib.Dec.{eqb, leb, ltb}
+use borrow.Author.Tests.{lt-ltb, lt-leb, le-leb, ne-eqb, ltb-true, ltb-false}
+use lib.Dec.{eqb, ltb}
 use lib.ListN.{length, drop, getD, length-append, drop-of-length-le}
-use Rattle.definition.specs.Bytes.{every, part, within}
-use Rattle.definition.specs.Lexical.{isAlpha, isDigit, isLcalpha, isFunctionChar, Name, FunctionName, nameBytes, functionBytes, spellName, spellFunctionName}
+use Rattle.definition.specs.Bytes.{part}
+use Rattle.definition.specs.Lexical.{isAlpha, isDigit, isLcalpha, isFunctionChar, FunctionName, nameBytes, spellName, spellFunctionName}
 use Rattle.definition.specs.Utf8.{encode, encodeAll, isUtf8}
 use Rattle.basics.specs.Lists.{drop-at}
-use Rattle.basics.specs.Reads.{Reads, ReadsNone, StartsNot}
+use Rattle.basics.specs.Reads.{ReadsNone, StartsNot}
 use Rattle.utf8_laws.specs.Bytes.{by-test, inside-low, inside-high}
 use Rattle.utf8_laws.specs.Decode.{encode-long}
 use Rattle.utf8_laws.specs.Scan.{front, behind, front-behind, front-every, front-all, behind-all}

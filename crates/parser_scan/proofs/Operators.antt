@@ -14,11 +14,12 @@ use Rattle.definition.specs.Grammar.{spellOperator}
 use Rattle.definition.specs.Grammar.Operator.{eqOperator, neOperator, ltOperator, leOperator, gtOperator, geOperator}
 use Rattle.definition.specs.Plans.{operatorByte}
 use Rattle.definition.specs.Walk.{operatorForm}
-use Rattle.basics.specs.Reads.{Reads, ReadsNone, StartsNot}
+use Rattle.basics.specs.Reads.{StartsNot}
 use Rattle.utf8_laws.specs.Bytes.{by-test}
 use Rattle.utf8_laws.specs.Encode.{utf8-ascii}
-use Rattle.parser_scan.specs.Text.{Is, Both, OperatorAt, ReadsOperator, is, nothing, operatorNumber}
+use Rattle.parser_scan.specs.Text.{Is, Both, OperatorAt, ReadsOperator, is, nothing}
 use Rattle.parser_scan.specs.declared.Sign.the-variants as sign
+use Rattle.parser_follow.specs.Numbers.{operatorNumber}
 
 -- the first byte of an operator, and whether `=` is its second
 abbrev pub lead : G.Operator → ℕ

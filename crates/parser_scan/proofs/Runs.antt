@@ -1,16 +1,16 @@
 -- Bytes at a place of a text, and the runs of bytes that pass a test: what the scanner's loops keep, and what they end in.
 -- Assumes nothing.
 use mathlib.Core.Path.{_≡_, refl, sym, ap, _∙_}
-use mathlib.Core.Bool.{Bool, true, false, cond}
+use mathlib.Core.Bool.{Bool, true, false}
 use mathlib.Core.List.{List, [], _∷_, _++_, append-assoc, append-nil}
 use Prim.Native.Nat.{ℕ, suc, _+_, _-_, _≤_, _<_}
 use native.Mathlib.Nat.{sub-self}
 use native.Mathlib.Omega.{arith}
 use borrow.Author.Tests.{eqb-true, eqb-false}
-use lib.Dec.{eqb, ltb}
-use lib.ListN.{length, drop, take, getD, length-drop, drop-of-length-le}
+use lib.Dec.{eqb}
+use lib.ListN.{length, drop, getD, length-drop, drop-of-length-le}
 use lib.Seq.{take-suc, getD-drop}
-use Rattle.definition.specs.Bytes.{every, part}
+use Rattle.definition.specs.Bytes.{part}
 use Rattle.definition.specs.Lexical.{isBlank}
 use Rattle.definition.specs.Utf8.{isUtf8}
 use Rattle.basics.specs.Lists.{drop-at}

@@ -1,24 +1,24 @@
 -- What the scanner's contracts say: a byte at a place, blanks skipped, names, words and operators read both ways.
 use mathlib.Core.Path.{_≡_}
-use mathlib.Core.Bool.{Bool, true, false, cond, _||_}
+use mathlib.Core.Bool.{Bool, true, false, cond}
 use mathlib.Core.List.{List, [], _∷_}
 use Prim.Native.Nat.{ℕ, _+_, _-_, _≤_}
-use lib.Dec.{eqb, leb}
+use lib.Dec.{eqb}
 use lib.ListN.{length, drop}
 use Rattle.definition.specs.Bytes.{part, sameBytes}
 use Rattle.definition.specs.Utf8.{isUtf8}
-use Rattle.definition.specs.Lexical.{isBlank, isAlpha, isDigit, isFunctionChar, Name, FunctionName, nameBytes, functionBytes, spellName, spellFunctionName}
+use Rattle.definition.specs.Lexical.{isFunctionChar, Name, FunctionName, nameBytes, functionBytes, spellName, spellFunctionName}
 use Rattle.definition.specs.Grammar as G
 use Rattle.definition.specs.Grammar.{spellOperator}
-use Rattle.definition.specs.Walk.{operatorForm, Named}
+use Rattle.definition.specs.Walk.{Named}
 use Rattle.definition.specs.Walk.Named.{count, valueName, match, search, unknown}
-use Rattle.definition.specs.Plans.{operatorByte}
 use Rattle.basics.specs.Reads.{Reads, ReadsNone, StartsNot}
 use Rattle.utf8_laws.specs.Scan.{front, behind}
 use Rattle.parser_scan.specs.declared.End.{End}
 use Rattle.parser_scan.specs.declared.End.the-variants as end
 use Rattle.parser_scan.specs.declared.Sign.{Sign}
 use Rattle.parser_scan.specs.declared.Sign.the-variants as sign
+use Rattle.parser_follow.specs.Numbers.{operatorNumber}
 pub use Rattle.parser_follow.specs.Follow.{hd, unblank, isNameByte}
 
 -- the byte x stands at the place a, or it does not
@@ -74,9 +74,6 @@ pub record WordAt (s : List ℕ) (a r : ℕ) : Type 0 where
 pub data ReadsWord (s : List ℕ) (a : ℕ) : End → Type 0 where
   at : {r : ℕ} → WordAt s a r → ReadsWord s a (end.At r)
   nothing : {i : ℕ} → ReadsNone spellFunctionName (StartsNot isFunctionChar) (drop a s) → ReadsWord s a (end.Nothing i)
-
-abbrev pub operatorNumber : G.Operator → ℕ
-operatorNumber o = operatorByte (operatorForm o)
 
 -- a comparison-op, which no further `=` follows
 pub record OperatorAt (s : List ℕ) (a r o : ℕ) : Type 0 where

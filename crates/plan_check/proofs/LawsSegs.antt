@@ -21,7 +21,7 @@ use Rattle.plan_laws.specs.Parts.{Spelt, plan-rest, pool-rest, move}
 use Rattle.plan_laws.specs.Queries.{selectorsPart, segmentsPart, sortSegments, segment, segmentKind, InSegment, into-segment, from-segment, many-fits, into-end, from-end, many-long, many-same}
 use Rattle.plan_laws.specs.One.{tests-once}
 use Rattle.text.specs.Words.{Word}
-use Rattle.plan_items.specs.Readings.{Kind, Start, Read, None, Post, next, stop}
+use Rattle.plan_items.specs.Readings.{Kind, Asks, Read, None, Post, next, stop}
 use Rattle.plan_items.specs.declared.Got.{Got}
 use Rattle.plan_items.specs.declared.Step.{Step}
 use Rattle.plan_items.specs.declared.Step.the-variants.{Next, Stop}
@@ -118,7 +118,7 @@ kind-no-end : (d : Bool) → segmentKind d ≡ 0x0A → ⊥
 kind-no-end true e = omega arith
 kind-no-end false e = omega arith
 
-module _ {S L : List ℕ} {at p room k : ℕ} (h σ : ℕ) (w : Start S L at p room) (low : h ≤ room) (e : Kind S at k) where
+module _ {S L : List ℕ} {at p room k : ℕ} (h σ : ℕ) (w : Asks S L at p room) (low : h ≤ room) (e : Kind S at k) where
   pub run-end : k ≡ 0x0A → Post (segmentsFrom h σ) room S L at p (Next (record { at = at + 1; p = p; h = h; sort = σ }))
   unfolding poolSegments nestingSegments isSingularSegments
   run-end f = next {g = record { at = at + 1; p = p; h = h; sort = σ }} (record {
@@ -230,7 +230,7 @@ module _ {S L : List ℕ} {at p room k : ℕ} (h σ : ℕ) (w : Start S L at p r
 
 pub record GoSegs (S L : List ℕ) (room at₀ p₀ at p h σ : ℕ) : Type 0 where
   pub on : (r : Step) → Post (segmentsFrom h σ) room S L at p r → Post segmentsPart room S L at₀ p₀ r
-  pub start : Start S L at p room
+  pub start : Asks S L at p room
   pub low : h ≤ room
   pub bit : σ ≤ 1
   pub from : at₀ ≤ at
@@ -239,7 +239,7 @@ pub record GoSegs (S L : List ℕ) (room at₀ p₀ at p h σ : ℕ) : Type 0 wh
 abbrev pub SegmentKind : ℕ → Type 0
 SegmentKind k = (d : Bool) × (k ≡ segmentKind d)
 
-pub segs-start : {S L : List ℕ} {room at p : ℕ} → Start S L at p room → GoSegs S L room at p at p 0 1
+pub segs-start : {S L : List ℕ} {room at p : ℕ} → Asks S L at p room → GoSegs S L room at p at p 0 1
 segs-start w = record { on = λ r x. maps same x; start = w; low = omega arith; bit = omega arith; from = omega arith }
   where
     same : {S L : List ℕ} {room at p : ℕ} → Maps (segmentsFrom 0 1) segmentsPart room S L at p at p
@@ -280,7 +280,7 @@ pub sort-of : (n : ℕ) {room at p : ℕ} {S L : List ℕ} {g : Got} → Read (c
 sort-of n rd = let a = rd .sort in let b = last-low (rd .form) in omega arith
 
 -- where the selectors begin
-pub segs-behind : {S L : List ℕ} {room at₀ p₀ at p h σ : ℕ} → GoSegs S L room at₀ p₀ at p h σ → 3 ≤ length S - at → Start S L (at + 3) p room
+pub segs-behind : {S L : List ℕ} {room at₀ p₀ at p h σ : ℕ} → GoSegs S L room at₀ p₀ at p h σ → 3 ≤ length S - at → Asks S L (at + 3) p room
 segs-behind i l = record { plan = omega arith; pool = i .start .pool; small = i .start .small; few = i .start .few; deep = i .start .deep }
 
 -- ---- the sort of segments, in the words of the code

@@ -25,14 +25,14 @@ use Rattle.plan_laws.specs.Leaves.{texts, integers, slices, Bounds}
 use Rattle.plan_laws.specs.Queries.{nil-is, testPart, framedPart, InFrame, into-frame, frame-left, selectorPart, SelectorOf, ofName, ofIndex, ofSlice, ofWildcard, ofFilter, selector-of, selector-from, selectorsPart, into-one, from-one, into-and, from-and}
 use Rattle.text.specs.Words.{Word}
 use Rattle.text.proofs.Same.{part-rest}
-use Rattle.plan_items.specs.Readings.{Kind, Start, Within, Read, None, Post, next, stop, AnyRoom, AnyPool}
+use Rattle.plan_items.specs.Readings.{Kind, Asks, Within, Read, None, Post, next, stop, AnyRoom, AnyPool}
 use Rattle.plan_items.specs.declared.Got.{Got}
 use Rattle.plan_items.specs.declared.Step.{Step}
 use Rattle.plan_items.specs.declared.Step.the-variants.{Next, Stop}
 use Rattle.plan_items.proofs.Words.{word-at, kind-at, kind-in-at, kind-not}
 use Rattle.plan_items.proofs.Called.{Behind, behind}
 use Rattle.plan_check.specs.Loops.{counted, countedFrom}
-use Rattle.plan_check.proofs.Steps.{Short, short-of, once-selector, read-same, behind-same, Maps, maps, start-on, low-of, max-three}
+use Rattle.plan_check.proofs.Steps.{Short, short-of, once-selector, read-same, behind-same, Maps, maps, asks-on, low-of, max-three}
 
 -- ---- one selector
 
@@ -92,7 +92,7 @@ module _ {room at p : ℕ} {S L : List ℕ} where
       go (ofWildcard f v) = kind-not e 0x08 d f
       go (ofFilter z f v) = kind-not e 0x09 i f
 
-module _ {S L : List ℕ} {at p room k : ℕ} {r : Step} (w : Start S L at p room) (e : Kind S at k) where
+module _ {S L : List ℕ} {at p room k : ℕ} {r : Step} (w : Asks S L at p room) (e : Kind S at k) where
   pub sel-name : k ≡ 0x05 → AnyRoom (texts 1) S L (at + 1) p r → Post selectorPart room S L at p r
   sel-name f a = behind (name-selector (kind-at e f)) (a .any room)
 
@@ -105,15 +105,15 @@ module _ {S L : List ℕ} {at p room k : ℕ} {r : Step} (w : Start S L at p roo
   pub sel-filter : k ≡ 0x09 → Post framedPart room S L (at + 1) p r → Post selectorPart room S L at p r
   sel-filter f a = behind (filter-selector (kind-at e f)) a
 
-module _ {S L : List ℕ} {at p room k : ℕ} (w : Start S L at p room) (e : Kind S at k) where
+module _ {S L : List ℕ} {at p room k : ℕ} (w : Asks S L at p room) (e : Kind S at k) where
   -- what the readers behind the kind ask
-  pub sel-start : {j : ℕ} → k ≡ suc j → Start S L (at + 1) p room
+  pub sel-start : {j : ℕ} → k ≡ suc j → Asks S L (at + 1) p room
   sel-start f = record { plan = kind-in-at e f; pool = w .pool; small = w .small; few = w .few; deep = w .deep }
 
   pub sel-within : {j : ℕ} → k ≡ suc j → Within S L (at + 1) p
   sel-within f = record { plan = kind-in-at e f; pool = w .pool; few = w .few }
 
-module _ {S L : List ℕ} {at p room k : ℕ} (w : Start S L at p room) (e : Kind S at k) where
+module _ {S L : List ℕ} {at p room k : ℕ} (w : Asks S L at p room) (e : Kind S at k) where
   pub sel-wildcard : k ≡ 0x08 → Post selectorPart room S L at p (Next (record { at = at + 1; p = p; h = 0; sort = 0 }))
   unfolding poolSelector nestingSelector isSingularSelector
   sel-wildcard f = next {g = record { at = at + 1; p = p; h = 0; sort = 0 }} (record {
@@ -132,7 +132,7 @@ module _ {S L : List ℕ} {at p room k : ℕ} (w : Start S L at p room) (e : Kin
 
 -- ---- a test behind its length
 
-module _ {S L : List ℕ} {at p room : ℕ} (w : Start S L at p room) where
+module _ {S L : List ℕ} {at p room : ℕ} (w : Asks S L at p room) where
   pub framed-short : length S - at < 2 → Post framedPart room S L at p Stop
   framed-short h = stop (record { none = λ t r m u. let a = frame-left (into-frame u) in let b = length-drop at S in omega arith })
 
@@ -167,7 +167,7 @@ module _ {S L : List ℕ} {at p room : ℕ} (w : Start S L at p room) where
       pub lent-long : length (part S (at + 2) (at + 2 + n - (at + 2))) ≡ n
       lent-long = ap length lent ∙ part-length S (at + 2) n (omega arith)
 
-      pub framed-start : {d : ℕ} → d ≡ room - 1 → Start (part S (at + 2) (at + 2 + n - (at + 2))) L 0 p d
+      pub framed-start : {d : ℕ} → d ≡ room - 1 → Asks (part S (at + 2) (at + 2 + n - (at + 2))) L 0 p d
       framed-start e =
           let a = lent-long in
           let b = w .small in
@@ -278,12 +278,12 @@ counted-none {S} {L} {room} {at} {p} h n x = record { none = λ y r m u. go y r 
 
 pub record GoSels (S L : List ℕ) (room n at₀ p₀ at p h left : ℕ) : Type 0 where
   pub on : (r : Step) → Post (countedFrom h left) room S L at p r → Post (counted n) room S L at₀ p₀ r
-  pub start : Start S L at p room
+  pub start : Asks S L at p room
   pub low : h ≤ room
   pub some : 1 ≤ left
   pub from : at₀ ≤ at
 
-pub sels-start : {S L : List ℕ} {room n at p : ℕ} → Start S L at p room → 1 ≤ n → GoSels S L room n at p at p 0 n
+pub sels-start : {S L : List ℕ} {room n at p : ℕ} → Asks S L at p room → 1 ≤ n → GoSels S L room n at p at p 0 n
 sels-start {n = n} w f = record { on = λ r x. maps (same n) x; start = w; low = omega arith; some = f; from = omega arith }
   where
     same : (n : ℕ) {S L : List ℕ} {room at p : ℕ} → Maps (countedFrom 0 n) (counted n) room S L at p at p
@@ -304,7 +304,7 @@ module _ {S L : List ℕ} {room n at₀ p₀ at p h left : ℕ} (i : GoSels S L 
         let f' = rd .from in
         record {
           on = λ r x. i .on r (maps (counted-next (short-of (i .start)) h (i .low) rd left (left - 1) (omega arith) (omega arith)) (rw eh at x));
-          start = start-on (i .start) rd;
+          start = asks-on (i .start) rd;
           low = rw eh (max-le (i .low) (low-of rd));
           some = omega arith;
           from = omega arith;

@@ -17,7 +17,7 @@ use Rattle.plan_laws.specs.Queries.{isNil, testPart, framedPart}
 use Rattle.plan_laws.specs.Operands.{Operand, lit, qry, fun, poolOperand, operandRight, nestingOperand, sortOperand, operandPart, argumentOperand, argument-pool, argument-nest, argument-right, argument-same, as-argument}
 use Rattle.plan_laws.specs.Relations.{related, relationDeep, related-pool, related-nest}
 use Rattle.plan_laws.specs.Tests.{Base, baseExists, basePair, baseNot, asTest, basePart, BaseOf, ofExists, ofNot, ofPair, base-of, base-from, argument-no-test, Ops, opEnd, opNot, opRight, rightKind, applied, nestingOps, opsPart, poolOps, nesting-grows, into-right, from-right, into-not, from-not, into-nothing, right-differ, applied-pool, applied-nest, into-test, from-test}
-use Rattle.plan_items.specs.Readings.{Kind, Start, Read, None, Post, next, stop}
+use Rattle.plan_items.specs.Readings.{Kind, Asks, Read, None, Post, next, stop}
 use Rattle.plan_items.specs.declared.Got.{Got}
 use Rattle.plan_items.specs.declared.Step.{Step}
 use Rattle.plan_items.specs.declared.Step.the-variants.{Next, Stop}
@@ -244,11 +244,11 @@ RightOf k = (d : Bool) × (k ≡ rightKind d)
 -- the loop: what is right from here on is right from the start
 pub record GoMore (S L : List ℕ) (room at₀ p₀ h₀ at p h : ℕ) : Type 0 where
   pub on : (r : Step) → Post (opsPart h) room S L at p r → Post (opsPart h₀) room S L at₀ p₀ r
-  pub start : Start S L at p room
+  pub start : Asks S L at p room
   pub low : h ≤ room
   pub from : at₀ ≤ at
 
-pub more-start : {S L : List ℕ} {room at p h : ℕ} → Start S L at p room → h ≤ room → GoMore S L room at p h at p h
+pub more-start : {S L : List ℕ} {room at p h : ℕ} → Asks S L at p room → h ≤ room → GoMore S L room at p h at p h
 more-start w l = record { on = λ r x. x; start = w; low = l; from = omega arith }
 
 module _ {S L : List ℕ} {room at₀ p₀ h₀ at p h : ℕ} (i : GoMore S L room at₀ p₀ h₀ at p h) where
@@ -287,7 +287,7 @@ module _ {S L : List ℕ} {room at₀ p₀ h₀ at p h : ℕ} (i : GoMore S L ro
             go true f = omega arith
             go false f = omega arith
 
-        pub more-behind : Start S L (at + 1) p room
+        pub more-behind : Asks S L (at + 1) p room
         more-behind = record { plan = kind-in e some; pool = i .start .pool; small = i .start .small; few = i .start .few; deep = i .start .deep }
 
         pub more-stop : None framedPart room S L (at + 1) p → Post (opsPart h₀) room S L at₀ p₀ Stop

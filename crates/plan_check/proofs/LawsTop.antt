@@ -19,7 +19,7 @@ use Rattle.basics.specs.Lists.{same-tail}
 use Rattle.plan_laws.specs.Parts.{Spelt, move}
 use Rattle.plan_laws.specs.Queries.{segmentsPart, into-query, from-query, unique-segments}
 use Rattle.plan_laws.specs.One.{tests-once, into-translation, from-translation}
-use Rattle.plan_items.specs.Readings.{Kind, Start, Read, None}
+use Rattle.plan_items.specs.Readings.{Kind, Asks, Read, None}
 use Rattle.plan_items.specs.declared.Got.{Got}
 use Rattle.plan_items.proofs.Words.{kind-at, kind-in-at, kind-not}
 use Rattle.plan_check.specs.Checks as C
@@ -50,7 +50,7 @@ module _ {S L : List ℕ} where
     top-kind n = C.refused (λ q t. kind-not e 0x01 n (top-segments q t .2))
 
     module _ (f : k ≡ 0x01) where
-      pub top-start : length S ≤ maxPlan → length L ≤ maxPlan → Start S L 1 0 maxNesting
+      pub top-start : length S ≤ maxPlan → length L ≤ maxPlan → Asks S L 1 0 maxNesting
       top-start a b = record { plan = kind-in-at e f; pool = omega arith; small = a; few = b; deep = omega arith }
 
       pub top-stop : None segmentsPart maxNesting S L 1 0 → Accepts S L false

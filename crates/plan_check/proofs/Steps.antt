@@ -12,7 +12,7 @@ use Rattle.plan_laws.specs.Operands.{basisPart, operandPart, unique-basis, uniq
 use Rattle.plan_laws.specs.Relations.{relations, unique-relations}
 use Rattle.plan_laws.specs.Tests.{basePart, unique-base}
 use Rattle.plan_laws.specs.One.{tests-once}
-use Rattle.plan_items.specs.Readings.{Start, Read, None, Post, next, stop, AnyPool}
+use Rattle.plan_items.specs.Readings.{Asks, Read, None, Post, next, stop, AnyPool}
 use Rattle.plan_items.specs.declared.Got.{Got}
 use Rattle.plan_items.specs.declared.Step.{Step}
 use Rattle.plan_items.specs.declared.Step.the-variants.{Next, Stop}
@@ -44,7 +44,7 @@ pub record Short (S L : List ℕ) : Type 0 where
   pub small : length S ≤ maxPlan
   pub few : length L ≤ maxPlan
 
-pub short-of : {S L : List ℕ} {at p room : ℕ} → Start S L at p room → Short S L
+pub short-of : {S L : List ℕ} {at p room : ℕ} → Asks S L at p room → Short S L
 short-of w = record { small = w .small; few = w .few }
 
 -- what is known of a part that is spelled where one was read
@@ -118,8 +118,8 @@ none-of (next {g = g'} rd) e = absurd (let z : _≡_ {A = ℕ} 0 1 = cc in omega
 none-of (stop n) e = n
 
 -- where the next reader begins
-pub start-on : {X : Type 0} {F : Part X} {room at p : ℕ} {S L : List ℕ} {g : Got} → Start S L at p room → Read F room S L at p g → Start S L (g .at) (g .p) room
-start-on w rd = record { plan = rd .to; pool = rd .held; small = w .small; few = w .few; deep = w .deep }
+pub asks-on : {X : Type 0} {F : Part X} {room at p : ℕ} {S L : List ℕ} {g : Got} → Asks S L at p room → Read F room S L at p g → Asks S L (g .at) (g .p) room
+asks-on w rd = record { plan = rd .to; pool = rd .held; small = w .small; few = w .few; deep = w .deep }
 
 -- how deep it may nest
 pub low-of : {X : Type 0} {F : Part X} {room at p : ℕ} {S L : List ℕ} {g : Got} → Read F room S L at p g → g .h ≤ room

@@ -8,7 +8,7 @@ ghost use Rattle.definition.specs.Outcomes.{ChecksPlan};
 ghost use Rattle.plan_laws.specs.Queries.{testPart, framedPart, selectorPart, segmentsPart};
 ghost use Rattle.plan_laws.specs.Operands.{basisPart, operandPart};
 ghost use Rattle.plan_laws.specs.Tests.{basePart, opsPart};
-ghost use Rattle.plan_items.specs.Readings.{Start, Post};
+ghost use Rattle.plan_items.specs.Readings.{Asks, Post};
 ghost use Rattle.plan_check.specs.Loops.{counted, sidePart, singleSort, Tested};
 ghost use Rattle.plan_check.specs.Checks.{Accepts, refusal};
 use plan_format::lengths;
@@ -42,7 +42,7 @@ fn single(before: usize, k: usize, n: usize, sort: usize) -> usize
 
 // A selector.
 fn sel(plan: &[u8], pool: &[u8], at: usize, p: usize, room: usize) -> Step
-    requires { ⌜ Start (now plan) (now pool) at p room ⌝ }
+    requires { ⌜ Asks (now plan) (now pool) at p room ⌝ }
     ensures { λ r. ⌜ Post selectorPart room (now (plan .entry)) (now (pool .entry)) at p r ⌝ }
 {
     let k = plan_items::kind(plan, at);
@@ -71,7 +71,7 @@ fn sel(plan: &[u8], pool: &[u8], at: usize, p: usize, room: usize) -> Step
 
 // A test behind the length of its code.
 fn framed(plan: &[u8], pool: &[u8], at: usize, p: usize, room: usize) -> Step
-    requires { ⌜ Start (now plan) (now pool) at p room ⌝ }
+    requires { ⌜ Asks (now plan) (now pool) at p room ⌝ }
     ensures { λ r. ⌜ Post framedPart room (now (plan .entry)) (now (pool .entry)) at p r ⌝ }
 {
     if plan.len() - at < lengths::SIZE_BODY {
@@ -99,7 +99,7 @@ fn framed(plan: &[u8], pool: &[u8], at: usize, p: usize, room: usize) -> Step
 
 // The n selectors of a segment.
 fn sels(plan: &[u8], pool: &[u8], from: usize, start: usize, room: usize, n: usize) -> Step
-    requires { ⌜ Start (now plan) (now pool) from start room × (1 ≤ n) ⌝ }
+    requires { ⌜ Asks (now plan) (now pool) from start room × (1 ≤ n) ⌝ }
     ensures { λ r. ⌜ Post (counted n) room (now (plan .entry)) (now (pool .entry)) from start r ⌝ }
 {
     let mut at = from;
@@ -129,7 +129,7 @@ fn sels(plan: &[u8], pool: &[u8], from: usize, start: usize, room: usize, n: usi
 
 // The segments of a query, up to its end.
 fn segs(plan: &[u8], pool: &[u8], from: usize, start: usize, room: usize) -> Step
-    requires { ⌜ Start (now plan) (now pool) from start room ⌝ }
+    requires { ⌜ Asks (now plan) (now pool) from start room ⌝ }
     ensures { λ r. ⌜ Post segmentsPart room (now (plan .entry)) (now (pool .entry)) from start r ⌝ }
 {
     let mut at = from;
@@ -172,7 +172,7 @@ fn segs(plan: &[u8], pool: &[u8], from: usize, start: usize, room: usize) -> Ste
 
 // What an operand begins with: a literal or a query.
 fn basis(plan: &[u8], pool: &[u8], at: usize, p: usize, room: usize) -> Step
-    requires { ⌜ Start (now plan) (now pool) at p room ⌝ }
+    requires { ⌜ Asks (now plan) (now pool) at p room ⌝ }
     ensures { λ r. ⌜ Post basisPart room (now (plan .entry)) (now (pool .entry)) at p r ⌝ }
 {
     let k = plan_items::kind(plan, at);
@@ -187,7 +187,7 @@ fn basis(plan: &[u8], pool: &[u8], at: usize, p: usize, room: usize) -> Step
 
 // An operand, with the functions that are called on it.
 fn oper(plan: &[u8], pool: &[u8], at: usize, p: usize, room: usize) -> Step
-    requires { ⌜ Start (now plan) (now pool) at p room ⌝ }
+    requires { ⌜ Asks (now plan) (now pool) at p room ⌝ }
     ensures { λ r. ⌜ Post operandPart room (now (plan .entry)) (now (pool .entry)) at p r ⌝ }
 {
     match basis(plan, pool, at, p, room) {
@@ -198,7 +198,7 @@ fn oper(plan: &[u8], pool: &[u8], at: usize, p: usize, room: usize) -> Step
 
 // The second of two values of which the first is a, and what is asked of both.
 fn side(plan: &[u8], pool: &[u8], a: Got, room: usize) -> Step
-    requires { ⌜ Start (now plan) (now pool) (a .at) (a .p) room × (a .h ≤ room) ⌝ }
+    requires { ⌜ Asks (now plan) (now pool) (a .at) (a .p) room × (a .h ≤ room) ⌝ }
     ensures { λ r. ⌜ Post (sidePart (a .h) (a .sort)) room (now (plan .entry)) (now (pool .entry)) (a .at) (a .p) r ⌝ }
 {
     let left = a.sort;
@@ -233,7 +233,7 @@ fn side(plan: &[u8], pool: &[u8], a: Got, room: usize) -> Step
 
 // What a test begins with: a test of a query, a test of two values, or a test of a value function with its not.
 fn base(plan: &[u8], pool: &[u8], p: usize, room: usize) -> Step
-    requires { ⌜ Start (now plan) (now pool) 0 p room ⌝ }
+    requires { ⌜ Asks (now plan) (now pool) 0 p room ⌝ }
     ensures { λ r. ⌜ Post basePart room (now (plan .entry)) (now (pool .entry)) 0 p r ⌝ }
 {
     match oper(plan, pool, 0, p, room) {
@@ -283,7 +283,7 @@ fn tested(plan: &[u8], a: Got, room: usize) -> Step
 
 // The nots and right operands behind a test, up to the end of its code.
 fn more(plan: &[u8], pool: &[u8], a: Got, room: usize) -> Step
-    requires { ⌜ Start (now plan) (now pool) (a .at) (a .p) room × (a .h ≤ room) ⌝ }
+    requires { ⌜ Asks (now plan) (now pool) (a .at) (a .p) room × (a .h ≤ room) ⌝ }
     ensures { λ r. ⌜ Post (opsPart (a .h)) room (now (plan .entry)) (now (pool .entry)) (a .at) (a .p) r ⌝ }
 {
     let mut at = a.at;
@@ -318,7 +318,7 @@ fn more(plan: &[u8], pool: &[u8], a: Got, room: usize) -> Step
 
 // A test that fills a plan to its end.
 fn test(plan: &[u8], pool: &[u8], p: usize, room: usize) -> Step
-    requires { ⌜ Start (now plan) (now pool) 0 p room ⌝ }
+    requires { ⌜ Asks (now plan) (now pool) 0 p room ⌝ }
     ensures { λ r. ⌜ Post testPart room (now (plan .entry)) (now (pool .entry)) 0 p r ⌝ }
 {
     match base(plan, pool, p, room) {

@@ -1,13 +1,13 @@
 -- The bytes of the format, each taken from what the definition writes for a small form.
-use Prim.Native.Nat.{ℕ, _+_, _*_}
+use Prim.Native.Nat.{ℕ}
 use mathlib.Core.List.{List, [], _∷_}
 use mathlib.Core.Bool.{true, false}
 use mathlib.Core.Option.{none}
-use lib.IntN.{ℤ, pos}
+use lib.IntN.{pos}
 use lib.ListN.{length, getD, take}
 use Rattle.regex_definition.specs.Scope.{whole, part}
 use Rattle.definition.specs.Bytes.{number}
-use Rattle.definition.specs.Forms.{Query, Segments, Selector, Test, Argument}
+use Rattle.definition.specs.Forms.{Segments, Selector, Test}
 use Rattle.definition.specs.Forms.Operator.{eq, ne, lt, le, gt, ge}
 use Rattle.definition.specs.Forms.Literal.{null, boolean, integer, float, text}
 use Rattle.definition.specs.Forms.Start.{root, current}

@@ -5,7 +5,7 @@ use mathlib.Core.Path.{_≡_, refl, sym, ap, _∙_}
 use mathlib.Core.List.{List, _∷_, _++_}
 use borrow.Author.Tests.{ltb-true, lt-ltb}
 use lib.ListN.{drop}
-use Rattle.regex_definition.specs.Scope.{Scope, whole, part}
+use Rattle.regex_definition.specs.Scope.{whole, part}
 use Rattle.definition.specs.Plans.{operatorByte, scopeKind}
 use Rattle.basics.specs.Lists.{differ, same-tail}
 use Rattle.plan_laws.specs.Parts.{Spelt}

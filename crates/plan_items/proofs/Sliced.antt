@@ -13,7 +13,7 @@ use Rattle.definition.specs.Bytes.{littleEndian, signed64, unsigned64}
 use Rattle.definition.specs.Literals.{inRange}
 use Rattle.definition.specs.QueryForms.{boundRight}
 use Rattle.definition.specs.Plans.{eightOf}
-use Rattle.definition_bytes.specs.Numbers.{bound-length, little-endian-length, range-inside, unsigned-fits}
+use Rattle.definition_bytes.specs.Numbers.{bound-length, range-inside, unsigned-fits}
 use Rattle.basics.specs.Bools.{and-left, and-right, both-true}
 use Rattle.basics.specs.Lists.{drop-at, same-tail}
 use Rattle.plan_laws.specs.Lists.{number-same}

@@ -28,7 +28,7 @@ pub record Kind (S : List ℕ) (at k : ℕ) : Type 0 where
   pub is : k ≡ firstByte (drop at S)
 
 -- where a reader may begin
-pub record Start (S L : List ℕ) (at p room : ℕ) : Type 0 where
+pub record Asks (S L : List ℕ) (at p room : ℕ) : Type 0 where
   pub plan : at ≤ length S
   pub pool : p ≤ length L
   pub small : length S ≤ maxPlan

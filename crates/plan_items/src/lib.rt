@@ -11,6 +11,7 @@ ghost use Rattle.plan_laws.specs.Leaves.{texts, integers, floats, smalls, slice
 ghost use Rattle.plan_laws.specs.Operands.{allowed};
 ghost use Rattle.plan_laws.specs.Relations.{relations};
 ghost use Rattle.plan_items.specs.Readings.{Kind, callOf, Within, AnyRoom, AnyPool, IsBound, PostCalls};
+use limits::MAX_INT;
 use plan_format::lengths;
 use plan_format::operators;
 use plan_format::wide;
@@ -18,9 +19,7 @@ use plan_format::words;
 use text::bytes;
 use text::encoding;
 
-// Refusal 4's range: indices, bounds and steps lie in -(2^53-1)..2^53-1. The least of them stands in two's complement.
-const MAX_INT: u64 = 9007199254740991;
-
+// Refusal 4's range: indices, bounds and steps lie in -(2^53-1)..2^53-1. This is the least of them in two's complement.
 const LEAST_INT: u64 = 18437736874454810625;
 
 // The weight of a float's sign bit, that of its exponent's lowest bit, and the exponent of what is not finite.

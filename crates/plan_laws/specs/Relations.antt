@@ -12,7 +12,7 @@ use Rattle.definition.specs.Forms.Test.{compare, regex}
 use Rattle.definition.specs.QueryForms.{argumentRight, testRight, nestingArgument, nestingTest}
 use Rattle.definition.specs.Plans.{operatorByte, scopeKind, poolArgument, poolTest, codeArgument, codeTest}
 use Rattle.basics.specs.Lists.{differ}
-use Rattle.plan_laws.specs.Parts.{Part, Spelt, Unique}
+use Rattle.plan_laws.specs.Parts.{Part, Unique}
 use Rattle.plan_laws.specs.Leaves.{operatorOf, operator-of}
 use Rattle.plan_laws.specs.Operands.{noCall}
 

@@ -1,6 +1,6 @@
 -- Tests: what a filter's code begins with, and the nots and right operands behind it. Tests are spelled in one way, and so is all that holds tests.
 use Prim.Native.Nat.{ℕ, zero, suc, max, _+_, _≤_, _<_}
-use native.Mathlib.Nat.{le-max-left, le-max-right, max-le}
+use native.Mathlib.Nat.{le-max-left, le-max-right}
 use native.Mathlib.Omega.{arith}
 use mathlib.Core.Path.{_≡_, refl, sym, ap, _∙_}
 use mathlib.Core.List.{List, [], _∷_, _++_, append-assoc, append-nil}

@@ -4,7 +4,7 @@ use mathlib.Core.Path.{_≡_}
 use mathlib.Core.List.{List, [], _∷_}
 use mathlib.Core.Bool.{cond}
 use lib.Dec.{ltb, leb}
-use lib.ListN.{length, getD, take, drop}
+use lib.ListN.{length, getD}
 use Rattle.definition.specs.Bytes.{part}
 use Rattle.program_lines.specs.declared.Decoded.{Decoded}
 use Rattle.program_lines.specs.declared.Decoded.the-variants.{Bytes, TooLong, Bad}

@@ -1,7 +1,7 @@
 // The public operations, each with the very statement that is promised of it: `promises_stated` has the types (Promises.antt) and what follows from them (Demands.antt).
 // Each is thin over the operation of its name below, requires nothing, and leaves one outcome for each input. A contract below that said less would not prove this crate.
 ghost use Rattle.promises_stated.specs.Promises.{CompilesOnly, SelectsOnly, RunsOnly, ChecksPlanOnly, ChecksRecordsOnly, ChecksTextsOnly, ChecksTableOnly, TextOnly, TextBegins, KeyOnly, KeyBegins, PathOnly, TalliesOnly};
-ghost use Rattle.compile.specs.Steps.{outcome};
+ghost use Rattle.compile.specs.Outcomes.{outcome};
 ghost use Rattle.select.specs.Selections.{selected};
 ghost use Rattle.run.specs.Outcomes.{ran};
 ghost use Rattle.plan_check.specs.Checks.{refusal};

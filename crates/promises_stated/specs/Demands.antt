@@ -50,7 +50,7 @@ use Rattle.tally_laws.specs.Forms.{itemsOf}
 use Rattle.tally_laws.specs.Tallies.{TallyOutcome, Tallies, tallyBy, withPlan, allKinds}
 use Rattle.tally_laws.specs.Meets.{plan-items}
 use Rattle.tally_laws.specs.Taken.{occurring, example, example-counts}
-use Rattle.promises_stated.specs.Promises.{Settled, ReadsOnly, CompilesOnly, SelectsOnly, RunsOnly, ChecksPlanOnly, TalliesOnly, ChecksRecordsOnly, ChecksTextsOnly, ChecksTableOnly, TextOnly, TextBegins, KeyOnly, KeyBegins, PathOnly, CompileCase, Listed, RunCase, PathCase, alone, planIn, poolIn, Written, Stored, AllServed, AllAnswer, Unchanged, Taken, Counted, planBytes}
+use Rattle.promises_stated.specs.Promises.{Settled, ReadsOnly, CompilesOnly, SelectsOnly, RunsOnly, ChecksPlanOnly, TalliesOnly, ChecksRecordsOnly, ChecksTextsOnly, ChecksTableOnly, TextOnly, TextBegins, KeyOnly, KeyBegins, PathOnly, CompileCase, Listed, RunCase, PathCase, alone, planIn, poolIn, PlanWritten, Stored, AllServed, AllAnswer, Unchanged, Taken, Counted, planBytes}
 use Rattle.promises_stated.specs.Refusals.{First, WrongSize, LeastWrong, NoText, NoKey, compileRules, selectRules, runRules, planRules, recordRules, textRules, tableRules, partRules, pathRules, tallyRules}
 use Rattle.promises_stated.specs.Firsts.{exactly}
 use Rattle.promises_stated.specs.Checks.{wrong-why, text-why, records-least, texts-least, accepted-joined, texts-joined}
@@ -175,11 +175,11 @@ seventeen-names-least T X i h = text-why T X i h .2
 -- ---- 2. What compile writes runs as the definition says, on every accepted table, from every position of every list; and select answers the same.
 
 -- compile that succeeds wrote the plan and the pool of the query's form into the first bytes of its rooms, and nothing behind them
-pub compile-writes : {s P R : List ℕ} {c : CompileOutcome} → Compiles s P R c → c .refusal ≡ 0 → Written s P R c
+pub compile-writes : {s P R : List ℕ} {c : CompileOutcome} → Compiles s P R c → c .refusal ≡ 0 → PlanWritten s P R c
 compile-writes = written
 
 -- and the query has no other reading
-pub compile-settles : {s P R : List ℕ} {c : CompileOutcome} → CompilesOnly s P R c → c .refusal ≡ 0 → (w : Written s P R c) → ReadsOnly s (form (w .query))
+pub compile-settles : {s P R : List ℕ} {c : CompileOutcome} → CompilesOnly s P R c → c .refusal ≡ 0 → (w : PlanWritten s P R c) → ReadsOnly s (form (w .query))
 compile-settles = written-only
 
 -- rooms of 65,535 bytes are enough for every query that has a form
@@ -205,16 +205,16 @@ pub twelve-too-few : Reads tenSlices (form tenSlicesForm) × (12 * length tenSli
 twelve-too-few = ten-slices
 
 -- plan check accepts what compile wrote
-pub written-checks : {s P R : List ℕ} {c : CompileOutcome} {n : ℕ} → Written s P R c → ChecksPlan (planIn c) (poolIn c) n → n ≡ 0
+pub written-checks : {s P R : List ℕ} {c : CompileOutcome} {n : ℕ} → PlanWritten s P R c → ChecksPlan (planIn c) (poolIn c) n → n ≡ 0
 written-checks w k = written-passes w k
 
 -- a run of it lists the nodes that the query selects from the table's tree; Listed says where, and what 13 and 14 leave
-pub written-runs : {s P R : List ℕ} {c : CompileOutcome} (w : Written s P R c) (T X L : List ℕ) (at : ℕ) {o : RunOutcome}
+pub written-runs : {s P R : List ℕ} {c : CompileOutcome} (w : PlanWritten s P R c) (T X L : List ℕ) (at : ℕ) {o : RunOutcome}
     → checkTable T X ≡ accepted → Runs (planIn c) (poolIn c) T X L at o → Listed (selected (w .query) (tree T X)) L at o
 written-runs w T X L at = written-lists w T X L at
 
 -- select of the query answers what that run answers, on every table, the refused ones too
-pub select-as-run : {s P R T X L : List ℕ} {at : ℕ} {c : CompileOutcome} {o o′ : RunOutcome} → Written s P R c → SelectsOnly s T X L at o → Runs (planIn c) (poolIn c) T X L at o′ → o ≡ o′
+pub select-as-run : {s P R T X L : List ℕ} {at : ℕ} {c : CompileOutcome} {o o′ : RunOutcome} → PlanWritten s P R c → SelectsOnly s T X L at o → Runs (planIn c) (poolIn c) T X L at o′ → o ≡ o′
 select-as-run w k r = written-selects w k r
 
 -- the outcomes of running a compiled query's plan are what the definition gives for the query, and nothing else
@@ -223,7 +223,7 @@ plan-runs = runs-iff
 
 -- ---- 3. One plan serves before and after any value changes kind: for any two accepted tables, the runs of one plan give each table's list.
 
-pub one-plan-serves : {s P R : List ℕ} {c : CompileOutcome} (w : Written s P R c) (T X T′ X′ L L′ : List ℕ) (at at′ : ℕ) {o o′ : RunOutcome}
+pub one-plan-serves : {s P R : List ℕ} {c : CompileOutcome} (w : PlanWritten s P R c) (T X T′ X′ L L′ : List ℕ) (at at′ : ℕ) {o o′ : RunOutcome}
     → checkTable T X ≡ accepted → checkTable T′ X′ ≡ accepted → Runs (planIn c) (poolIn c) T X L at o → Runs (planIn c) (poolIn c) T′ X′ L′ at′ o′
     → Listed (selected (w .query) (tree T X)) L at o × Listed (selected (w .query) (tree T′ X′)) L′ at′ o′
 one-plan-serves w T X T′ X′ L L′ at at′ h h′ r r′ = (written-runs w T X L at h r, written-runs w T′ X′ L′ at′ h′ r′)

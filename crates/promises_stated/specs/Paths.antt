@@ -3,7 +3,7 @@ use Prim.Native.Nat.{ℕ, _+_, _≤_, _<_}
 use native.Mathlib.Omega.{arith}
 use mathlib.Core.Path.{_≡_, refl, sym, ap, _∙_, subst}
 use mathlib.Core.Logic.{inl, inr}
-use mathlib.Core.List.{List, [], _∷_, _++_}
+use mathlib.Core.List.{List, [], _∷_}
 use mathlib.Core.Bool.{Bool, true, false, cond}
 use borrow.Author.Tests.{ltb-true, ltb-false}
 use lib.Dec.{ltb}
@@ -21,7 +21,7 @@ use Rattle.table_path_laws.specs.Addresses.{path-reads}
 use Rattle.promises_stated.specs.Promises.{CompilesOnly, SelectsOnly, PathOnly, PathCase, Listed, Answers, alone, planIn, poolIn}
 use Rattle.promises_stated.specs.Promises.PathCase.{wrongSize, wrongNode, wrongText, noNode, smallRoom, writes}
 use Rattle.promises_stated.specs.Promises.Listed.{listed}
-use Rattle.promises_stated.specs.Refusals.{Rule, rule, First, NoNode, PathTooLong, tableRules, pathRules}
+use Rattle.promises_stated.specs.Refusals.{Rule, rule, First, NoNode, PathTooLong, pathRules}
 use Rattle.promises_stated.specs.Checks.{checkedOr, table-first}
 use Rattle.promises_stated.specs.Lists.{listed-one}
 use Rattle.promises_stated.specs.Written.{enough}

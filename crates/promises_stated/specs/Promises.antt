@@ -157,7 +157,7 @@ pub record Holds (q : Query) (P R : List ℕ) (c : CompileOutcome) : Type 0 wher
   pub behindPool : drop (c .poolLength) (c .poolRoom) ≡ drop (c .poolLength) R
 
 -- The query has a form, and its plan and its pool were written.
-pub record Written (s P R : List ℕ) (c : CompileOutcome) : Type 0 where
+pub record PlanWritten (s P R : List ℕ) (c : CompileOutcome) : Type 0 where
   pub query : Query
   pub reads : Reads s (form query)
   pub holds : Holds query P R c

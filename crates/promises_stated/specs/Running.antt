@@ -13,7 +13,7 @@ use Rattle.definition.specs.Outcomes.{Reading, Reads, Translates, spelled, Comp
 use Rattle.definition.specs.Outcomes.Reading.{form}
 use Rattle.compile_forms.specs.Keeps.{compiled-keeps}
 use Rattle.plan_laws.specs.One.{checks-one, runs-one}
-use Rattle.promises_stated.specs.Promises.{ReadsOnly, SelectsOnly, RunsOnly, ChecksPlanOnly, Listed, planIn, poolIn, Holds, Written}
+use Rattle.promises_stated.specs.Promises.{ReadsOnly, SelectsOnly, RunsOnly, ChecksPlanOnly, Listed, planIn, poolIn, Holds, PlanWritten}
 use Rattle.promises_stated.specs.Cases.{accepted-lists}
 
 -- ---- plans that translate a form
@@ -73,7 +73,7 @@ pub held-runs : {s P R : List ℕ} {c : CompileOutcome} (q : Query) (T X L : Lis
     → Runs (planIn c) (poolIn c) T X L at o → o ≡ runBy (form q) T X L at
 held-runs q T X L at r h u = runs-as q T X L at (held-translates q r h) u
 
-module _ {s P R : List ℕ} {c : CompileOutcome} (w : Written s P R c) where
+module _ {s P R : List ℕ} {c : CompileOutcome} (w : PlanWritten s P R c) where
   abbrev translates : Translates (w .query) (planIn c) (poolIn c)
   translates = held-translates (w .query) (w .reads) (w .holds)
 

@@ -13,7 +13,7 @@ use Rattle.definition.specs.Outcomes.{Reading, Reads, CompileOutcome, Compiles,
 use Rattle.definition.specs.Outcomes.Reading.{refused, form}
 use Rattle.compile_forms.specs.Keeps.{compiled-keeps}
 use Rattle.plan_laws.specs.One.{translates-one}
-use Rattle.promises_stated.specs.Promises.{ReadsOnly, CompilesOnly, CompileCase, Holds, Written}
+use Rattle.promises_stated.specs.Promises.{ReadsOnly, CompilesOnly, CompileCase, Holds, PlanWritten}
 use Rattle.promises_stated.specs.Promises.CompileCase.{smallPlan, smallPool, writes}
 use Rattle.promises_stated.specs.Firsts.{refusal-range}
 use Rattle.promises_stated.specs.Cases.{compile-case}
@@ -42,10 +42,10 @@ unfolding compileBy
 outcome-refused n P R r e z = omega (arith, refusal-range r .0, ap (λ (o : CompileOutcome). o .refusal) e, z)
 
 -- a compile that answers refusal 0 wrote the plan and the pool of the query's form
-pub written : {s P R : List ℕ} {c : CompileOutcome} → Compiles s P R c → c .refusal ≡ 0 → Written s P R c
+pub written : {s P R : List ℕ} {c : CompileOutcome} → Compiles s P R c → c .refusal ≡ 0 → PlanWritten s P R c
 written {s} {P} {R} {c} k z = by (k .reading) (k .reads) (k .is)
   where
-    by : (x : Reading) → Reads s x → c ≡ compileBy x P R → Written s P R c
+    by : (x : Reading) → Reads s x → c ≡ compileBy x P R → PlanWritten s P R c
     by (refused n) r e = absurd (outcome-refused n P R r e z)
     by (form q) r e = record { query = q; reads = r; holds = outcome-holds q e z }
 
@@ -63,7 +63,7 @@ pub only-holds : {s P R : List ℕ} {c : CompileOutcome} (q : Query) → Compile
 only-holds {P = P} {R = R} q k r z = outcome-holds q (sym (k .only (compileBy (form q) P R) (record { reading = form q; reads = r; is = refl }))) z
 
 -- So it leaves the query one reading.
-pub written-only : {s P R : List ℕ} {c : CompileOutcome} → CompilesOnly s P R c → c .refusal ≡ 0 → (w : Written s P R c) → ReadsOnly s (form (w .query))
+pub written-only : {s P R : List ℕ} {c : CompileOutcome} → CompilesOnly s P R c → c .refusal ≡ 0 → (w : PlanWritten s P R c) → ReadsOnly s (form (w .query))
 written-only {s} {P} {R} {c} k z w = record { is = w .reads; only = only }
   where
     only : (y : Reading) → Reads s y → y ≡ form (w .query)

@@ -3,7 +3,7 @@ use mathlib.Core.Path.{_≡_, sym, ap, _∙_}
 use mathlib.Core.List.{List}
 use Prim.Native.Nat.{ℕ}
 use Rattle.definition.specs.Outcomes.{refuseRun}
-use Rattle.compile.specs.Steps.{outcome, numberOf}
+use Rattle.compile.specs.Outcomes.{outcome, numberOf}
 use Rattle.compile.specs.declared.Compiled.{Compiled}
 use Rattle.compile.specs.declared.Compiled.the-variants as compiled
 use Rattle.compile.specs.declared.Refusal.{Refusal}

@@ -2,7 +2,7 @@
 use mathlib.Core.Path.{_≡_}
 use mathlib.Core.List.{List}
 use Prim.Native.Nat.{ℕ}
-use Rattle.compile.specs.Steps.{outcome}
+use Rattle.compile.specs.Outcomes.{outcome}
 use Rattle.compile.specs.declared.Compiled.{Compiled}
 use Rattle.run.specs.Outcomes.{ran}
 use Rattle.run.specs.declared.Ran.{Ran}

@@ -2,10 +2,10 @@
 use mathlib.Core.Path.{_≡_, ap, sym, _∙_}
 use mathlib.Core.Bool.{Bool, true, false}
 use mathlib.Core.List.{List, []}
-use Prim.Native.Nat.{ℕ, _+_, _-_, _≤_, _<_, _^_, min}
+use Prim.Native.Nat.{ℕ, _-_, _≤_, _<_, _^_, min}
 use native.Mathlib.Omega.{arith}
-use lib.ListN.{length, take, drop}
-use lib.Seq.{length-take-le, sets-eq, take-at}
+use lib.ListN.{length, take}
+use lib.Seq.{length-take-le}
 use Rattle.definition.specs.Utf8.{encodeAll, scalarsOf}
 use Rattle.utf8_laws.specs.Decode.{decode}
 use Rattle.utf8_laws.specs.Scalars.{scalars-encoded}
@@ -19,7 +19,6 @@ use Rattle.regex_total.specs.Answers.{Matched, Widths}
 use Rattle.regex_marks.specs.Moves.{Fits}
 use Rattle.regex_marks.specs.Runs.{Ran, Weighs, Grows}
 use Rattle.regex_plain.specs.Rows.{Known, Open}
-use Rattle.basics.specs.Reads.{Wrote}
 use Rattle.regex_bytes.specs.Bytes.{Scalars}
 use Rattle.regex_bytes.specs.Points.{points-utf8}
 use Rattle.regex_bytes.proofs.OfBytes.{written, counted}
@@ -27,6 +26,7 @@ use Rattle.regex_places.specs.Places.{Placed}
 use Rattle.regex_needed.specs.Needed.{Alike, Lessened, repeated}
 use Rattle.regex_needed.proofs.Alike.{alike-on, alike-back, alike-once}
 use Rattle.regex.specs.Tested.{Tested, Missed}
+use Rattle.regex_leaves.proofs.Stores.{at-front}
 
 -- for any expression that the code is of, and any text that the bytes are of
 by :
@@ -77,10 +77,6 @@ fits s ms n m h k e l =
     let q = length-take-le (n - 0) ms (omega arith) in
     record { place = omega arith; words = omega arith; room = omega arith; few = omega arith }
 
--- what is written from the beginning on stands there
-front : {p q c : List ℕ} (n : ℕ) → n ≡ 0 + length c → n ≤ length p → Wrote p 0 c q → take n q ≡ c
-front {p} {q} {c} n e h w = rw (w .is, sets-eq c p 0 (omega arith)) (take-at c (drop (0 + length c) p) n (omega arith))
-
 -- by an expression that describes the same short texts
 pub by-less :
     (s t : List ℕ) {q q' : List ℕ} {next n : ℕ} {b : Bool} → Lessened s 0 (repeated 1 1) (length t) q 0 q' next n → n ≤ length q
@@ -96,7 +92,7 @@ by-less s t {q} {q'} {next} {n} {b} l h m =
           let w = i .written .is h in
           let a : Alike (length t) (Describes (widen k x)) (Describes y) = alike-on (alike-back (alike-once _)) (i .alike) in
           let f : length (encodeAll (d .0)) ≤ length t = omega (arith, ap length (d .2)) in
-          m .of whole y (front n (w .0) h (w .1)) u ∙ ap (described y) c
+          m .of whole y (at-front n (w .1) (omega (arith, w .0)) h) u ∙ ap (described y) c
           ∙ told-same (told (a .back (d .0) f) (a .forth (d .0) f) (agree y (d .0))) (agree (widen k x) (d .0))
           ∙ ap (described (widen k x)) (sym c);
     }

@@ -6,12 +6,12 @@ use Prim.Native.Nat.{ℕ, zero, suc, _+_, _-_, _*_, _≤_, _<_}
 use native.Mathlib.Omega.{arith}
 use borrow.Author.Tests.{lt-ltb, le-ltb, le-leb, lt-leb}
 use lib.ListN.{length, drop, take, getD, set, length-append, drop-of-length-le}
-use lib.Seq.{sets-eq, getD-drop, take-at}
+use lib.Seq.{getD-drop}
 use Rattle.definition.specs.Bytes.{within}
 use Rattle.utf8_laws.specs.Unique.{point}
 use Rattle.utf8_laws.specs.Scalars.{scalars-few}
 use Rattle.basics.specs.Reads.{Wrote}
-use Rattle.definition.specs.Utf8.{isUtf8, scalarsOf}
+use Rattle.definition.specs.Utf8.{isUtf8}
 use Rattle.definition.specs.Regexps.{regexpOf}
 use Rattle.basics.specs.Lists.{drop-at}
 use Rattle.regex_reader.specs.Reads.{ReadsWhole}
@@ -22,6 +22,7 @@ use Rattle.regex_reader.proofs.Parts.{wrote-then}
 use Rattle.regex_bytes.specs.Points.{pointsOf, points-utf8}
 use Rattle.regex_bytes.specs.Bytes.{OneMore, Scalars, ReadsBytes}
 use Rattle.regex_bytes.specs.Bytes.ReadsBytes.{code, outside}
+use Rattle.regex_leaves.proofs.Stores.{at-front}
 
 -- behind the end stands nothing
 pub beyond : (s : List ℕ) (at : ℕ) → length s ≤ at → 0 ≡ getD s at 0
@@ -108,7 +109,7 @@ pub written : {s p q : List ℕ} {n : ℕ} → Scalars s p q n → length s ≤ 
 written {s} {p} {q} {n} g h =
     let c = g .count in
     let f = g .few in
-    rw (g .buf .is, sets-eq (pointsOf s) p 0 (omega arith)) (take-at (pointsOf s) (drop (0 + length (pointsOf s)) p) n (sym c))
+    at-front n (g .buf) c (omega arith)
 
 pub counted : {s p q : List ℕ} {n : ℕ} → Scalars s p q n → length s ≤ length p → n ≡ length (take n q)
 counted g h = g .count ∙ sym (ap length (written g h))

@@ -1,5 +1,5 @@
 -- Parts of a text, and the bytes of lists of code points. Assumes nothing.
-use Prim.Native.Nat.{ℕ, zero, suc, _+_, _-_, _≤_, _<_}
+use Prim.Native.Nat.{ℕ, suc, _+_, _-_, _≤_, _<_}
 use mathlib.Core.Path.{_≡_, refl, ap, sym, _∙_}
 use mathlib.Core.List.{List, [], _∷_, _++_, append-assoc}
 use native.Mathlib.Numerals.{add-one}
@@ -9,6 +9,10 @@ use lib.Seq.{slice, slice-cons, slice-empty, length-slice, take-length}
 use Rattle.definition.specs.Utf8.{encode, encodeAll}
 use Rattle.utf8_laws.specs.Unique.{never-empty}
 use Rattle.utf8_laws.specs.Decode.{encode-long}
+
+-- the bytes from..to of t are those of the text w
+abbrev pub Spells : List ℕ → ℕ → ℕ → List ℕ → Type 0
+Spells t from to w = slice from to t ≡ encodeAll w
 
 -- the first element of a part, and what stands behind it
 pub slice-first :

@@ -6,7 +6,7 @@ use Prim.Native.Nat.{ℕ, _+_, _-_, _*_, _≤_, _<_}
 use native.Mathlib.Omega.{arith}
 use lib.ListN.{length, drop, getD, drop-of-length-le, length-drop}
 use lib.Seq.{drop-drop}
-use Rattle.regex_definition.specs.Regexp.{Range, class}
+use Rattle.regex_definition.specs.Regexp.{Range}
 use Rattle.regex_code.specs.Flat.{of-empty, of-class, of-then, of-or, of-upto, of-any, of-other, of-nothing, behind, word-of, flatRanges, drop-ranges}
 use Rattle.regex_code.specs.Skips.{Skips, SkipsClass}
 use Rattle.basics.specs.Lists.{drop-at as word}

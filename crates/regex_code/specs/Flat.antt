@@ -9,7 +9,7 @@
 use mathlib.Core.Path.{_≡_, refl, ap, sym, _∙_}
 use mathlib.Core.List.{List, [], _∷_, _++_}
 use mathlib.Core.Bool.{Bool, true, false}
-use Prim.Native.Nat.{ℕ, suc, _+_, _-_, _*_, _<_}
+use Prim.Native.Nat.{ℕ, suc, _+_, _-_, _*_, _≤_, _<_}
 use native.Mathlib.Omega.{arith}
 use lib.ListN.{length, drop, getD, length-drop}
 use lib.Seq.{drop-drop}
@@ -42,6 +42,15 @@ module _ (k : ℕ) (l : List ℕ) where
 
 pub head : {k n : ℕ} {l m : List ℕ} → k ∷ l ≡ n ∷ m → k ≡ n
 head e = cc
+
+-- every expression has a word
+some-code : (x : Regexp) (r : List ℕ) → 1 ≤ length (flat x r)
+some-code empty r = omega arith
+some-code (class comp gs) r = omega arith
+some-code (then x y) r = omega arith
+some-code (or x y) r = omega arith
+some-code (times lo (upto n) x) r = omega arith
+some-code (times lo any x) r = omega arith
 
 module _ (F : Regexp → List ℕ → Type 0) (k : ℕ) (l : List ℕ) where
   pub of-empty : k ≡ 0 → ((r : List ℕ) → l ≡ r → F empty r) → (x : Regexp) (r : List ℕ) → k ∷ l ≡ flat x r → F x r
@@ -102,6 +111,15 @@ module _ (F : Regexp → List ℕ → Type 0) (k : ℕ) (l : List ℕ) where
   of-any h f (times lo (upto n) x) r e = absurd (differ k l _ _ (omega arith) e)
   of-any h f (times lo any x) r e = f lo x r (tail e)
 
+  -- a repeat has three words or more
+  pub of-short : 3 < k → length l < 2 → (x : Regexp) (r : List ℕ) → k ∷ l ≡ flat x r → F x r
+  of-short h m empty r e = absurd (differ k l _ _ (omega arith) e)
+  of-short h m (class comp gs) r e = absurd (differ k l _ _ (omega arith) e)
+  of-short h m (then x y) r e = absurd (differ k l _ _ (omega arith) e)
+  of-short h m (or x y) r e = absurd (differ k l _ _ (omega arith) e)
+  of-short h m (times lo (upto n) x) r e = absurd (omega (arith, ap length e))
+  of-short h m (times lo any x) r e = absurd (omega (arith, ap length e, some-code x r))
+
   -- any other word begins no code
   pub of-other : 5 < k → (x : Regexp) (r : List ℕ) → k ∷ l ≡ flat x r → F x r
   of-other h empty r e = absurd (differ k l _ _ (omega arith) e)
@@ -129,6 +147,11 @@ word-of s i k l e =
     let p : i < length s = omega arith in
     let w = word s i p in
     (p, cc, cc)
+
+-- the word k stands at a place
+pub record Word (s : List ℕ) (at k : ℕ) : Type 0 where
+  pub here : at < length s
+  pub is : getD s at 0 ≡ k
 
 -- the words of ranges are two for each, and what is behind them is behind them
 pub drop-ranges : (gs : List Range) (r : List ℕ) → drop (2 * length gs) (flatRanges gs r) ≡ r

@@ -1,15 +1,15 @@
 -- THE TWO DEFINITIONS AGREE: `described x w` is true if and only if `Describes x w`. Assumes nothing.
-use mathlib.Core.Path.{_≡_, refl, ap, sym, _∙_, subst}
+use mathlib.Core.Path.{_≡_, refl, ap}
 use mathlib.Core.Bool.{Bool, true, false, _&&_, _||_}
-use mathlib.Core.List.{List, [], _∷_, _++_}
+use mathlib.Core.List.{List, [], _∷_}
 use mathlib.Core.Logic.{_⊎_, inl, inr, ⊎-elim, _↔_}
-use Prim.Native.Nat.{ℕ, zero, suc, pred, _+_, _-_, _≤_, _<_, zero-le, suc-le-suc}
+use Prim.Native.Nat.{ℕ, zero, suc, _≤_}
 use native.Mathlib.Omega.{arith}
 use native.Mathlib.Nat.{le-refl}
-use lib.ListN.{length, length-append}
-use lib.Dec.{eqb, leb}
+use lib.ListN.{length}
+use lib.Dec.{leb}
 use borrow.Author.Tests.{leb-true, leb-false}
-use Rattle.regex_definition.specs.Words.{Join, Row, Times, Most, upto, any, Within, Told, holds, fails}
+use Rattle.regex_definition.specs.Words.{Join, Row, Times, Most, upto, any, Told, holds, fails}
 use Rattle.regex_definition.specs.Regexp.{
   Regexp,
   empty,

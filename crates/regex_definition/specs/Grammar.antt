@@ -2,9 +2,9 @@
 -- One type of trees for each rule, with a function that spells a tree in characters, followed by the characters r, and one that gives
 -- its meaning. A leaf carries the proof that its characters are of their class, so every tree is a text of the part.
 use mathlib.Core.Path.{_≡_}
-use mathlib.Core.Bool.{Bool, true, false, _||_, cond}
+use mathlib.Core.Bool.{Bool, true, false}
 use mathlib.Core.List.{List, [], _∷_, _++_}
-use Prim.Native.Nat.{ℕ, zero, suc, _+_, _-_, _*_}
+use Prim.Native.Nat.{ℕ, _+_, _-_, _*_}
 use lib.Dec.{eqb, leb}
 use Rattle.regex_definition.specs.Chars.{maxRepeat, every, isNormal, isEscaped, isClassChar, isDigit, escapeValue}
 use Rattle.regex_definition.specs.Words.{Most, upto, any}

@@ -1,14 +1,12 @@
 -- Laws of sets of words: what a first character leaves of a Join, a Row and a Times. They hold for any sets, so no
 -- expression stands here. Assumes nothing.
 use mathlib.Core.Path.{_≡_, refl, ap, sym, _∙_, subst}
-use mathlib.Core.Bool.{Bool, true, false, _&&_, _||_}
 use mathlib.Core.List.{List, [], _∷_, _++_, append-assoc}
 use mathlib.Core.Logic.{_⊎_, inl, inr, ⊎-elim}
-use Prim.Native.Nat.{ℕ, zero, suc, pred, _+_, _-_, _≤_, _<_, zero-le, suc-le-suc}
+use Prim.Native.Nat.{ℕ, zero, suc, _+_, _-_, zero-le}
 use native.Mathlib.Omega.{arith}
 use native.Mathlib.Nat.{zero-add, suc-add}
-use lib.ListN.{length, length-append}
-use Rattle.regex_definition.specs.Words.{Join, Row, Times, Most, upto, any, Within, Told, holds, fails}
+use Rattle.regex_definition.specs.Words.{Join, Row, Times, any}
 
 module _ {P Q : List ℕ → Type 0} where
   pub join : (u v : List ℕ) → P u → Q v → Join P Q (u ++ v)

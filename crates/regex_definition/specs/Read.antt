@@ -1,6 +1,5 @@
 -- The expression that characters spell, worked out from left to right. `Reading` proves that it is the meaning of the tree that spells
 -- them, and that there is no tree where it is none.
-use mathlib.Core.Path.{_≡_}
 use mathlib.Core.Bool.{Bool, true, false, _&&_, _||_, not, cond}
 use mathlib.Core.List.{List, [], _∷_, _++_}
 use mathlib.Core.Option.{Option, none, some}

@@ -2,13 +2,13 @@
 -- Assumes nothing: these are definitions.
 use mathlib.Core.Path.{_≡_}
 use mathlib.Core.Bool.{Bool, true, false, _&&_, _||_, not}
-use mathlib.Core.List.{List, [], _∷_, _++_}
-use mathlib.Core.Logic.{_⊎_, inl, inr}
-use Prim.Native.Nat.{ℕ, zero, suc, _+_, _-_, _≤_, _<_}
-use lib.Dec.{eqb, leb}
+use mathlib.Core.List.{List, [], _∷_}
+use mathlib.Core.Logic.{_⊎_}
+use Prim.Native.Nat.{ℕ, zero, suc}
+use lib.Dec.{leb}
 use lib.ListN.{length}
 use Rattle.regex_definition.specs.Chars.{within}
-use Rattle.regex_definition.specs.Words.{Join, Row, Times, Most, upto, any}
+use Rattle.regex_definition.specs.Words.{Join, Times, Most, upto, any}
 
 -- the characters from low to high; none where high is less
 pub record Range : Type 0 where

@@ -1,10 +1,9 @@
 -- match takes the whole of a text, search any part of it: search is match of the widened expression. Assumes nothing.
-use mathlib.Core.Path.{_≡_, refl, ap, sym, _∙_}
-use mathlib.Core.Bool.{Bool, true, false}
+use mathlib.Core.Path.{_≡_, refl, ap, _∙_}
+use mathlib.Core.Bool.{true}
 use mathlib.Core.List.{List, [], _∷_, _++_}
-use Prim.Native.Nat.{ℕ, zero, suc, _+_, _≤_, zero-le}
-use lib.ListN.{length}
-use Rattle.regex_definition.specs.Words.{Join, Row, Times, upto, any}
+use Prim.Native.Nat.{ℕ}
+use Rattle.regex_definition.specs.Words.{any}
 use Rattle.regex_definition.specs.Regexp.{Regexp, class, then, times, Describes, One}
 use Rattle.regex_definition.specs.Laws.{cons-star, star-nil}
 

@@ -1,11 +1,9 @@
 -- Sets of words, and the three ways to make one of others: two in a row, n in a row, from lo to hi in a row.
 -- `Told P b`: the Bool b says whether P. Assumes nothing.
-use mathlib.Core.Path.{_≡_, refl, ap, sym, _∙_}
-use mathlib.Core.Bool.{Bool, true, false, _&&_, _||_, not}
-use mathlib.Core.List.{List, [], _∷_, _++_}
-use mathlib.Core.Logic.{_⊎_, inl, inr}
-use Prim.Native.Nat.{ℕ, zero, suc, _+_, _-_, _≤_, _<_}
-use lib.ListN.{length}
+use mathlib.Core.Path.{_≡_}
+use mathlib.Core.Bool.{Bool, true, false}
+use mathlib.Core.List.{List, [], _++_}
+use Prim.Native.Nat.{ℕ, zero, suc, _≤_}
 
 -- a word of P, and then a word of Q
 pub record Join (P Q : List ℕ → Type 0) (w : List ℕ) : Type 0 where

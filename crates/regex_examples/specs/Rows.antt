@@ -4,14 +4,14 @@ use Prim.Native.Nat.{ℕ}
 use Prim.Native.Char.{code}
 use Prim.Native.String.{String, [] as noChar, _∷_ as _before_}
 use mathlib.Core.Path.{_≡_, refl}
-use mathlib.Core.List.{List, [], _∷_, _++_}
+use mathlib.Core.List.{List, [], _∷_}
 use mathlib.Core.Bool.{Bool, true, false, _&&_, not}
 use mathlib.Core.Option.{Option, none, some}
 use lib.ListN.{replicate}
 use Rattle.definition.specs.Utf8.{encode, encodeAll, leading, continued, scalarsOf}
 use Rattle.definition.specs.Regexps.{regexpOf, testBy, regexTest}
 use Rattle.regex_definition.specs.Regexp.{Regexp}
-use Rattle.regex_definition.specs.Scope.{Scope, whole, part}
+use Rattle.regex_definition.specs.Scope.{whole, part}
 use Rattle.regex_definition.specs.Read.{readCCchar, readEnd, readItem, readFirst, readItems, readRanges, readClass, countFrom, readCount, readUpper, readBraces, readQuantifier, readLeaf, readAlternatives, readBranch, readPiece, readAtom, readRegexp}
 
 -- one name that opens every definition

@@ -6,7 +6,7 @@ use mathlib.Core.Logic.{_↔_}
 use mathlib.Core.Option.{Option, none, some}
 use Prim.Native.Nat.{ℕ}
 use Rattle.regex_definition.specs.Regexp.{Regexp}
-use Rattle.regex_definition.specs.Grammar.{Alternatives, spell, meaning, Spells}
+use Rattle.regex_definition.specs.Grammar.{Alternatives, spell, Spells}
 use Rattle.regex_definition.specs.Read.{allRead, steps, readAlternatives, readRegexp}
 use Rattle.regex_laws.specs.Steps.{none-some}
 use Rattle.regex_laws.specs.Complete.{complete}

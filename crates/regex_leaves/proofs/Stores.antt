@@ -8,6 +8,7 @@ use lib.ListN.{length, drop, take, getD, set, length-drop}
 use lib.Seq.{sets, length-sets, sets-eq, set-set, take-suc, take-all, take-at, drop-at, length-take-le, getD-set-other, getD-take, getD-drop}
 use Rattle.regex_leaves.specs.Reads.{Inserted}
 use Rattle.basics.specs.Lists.{set-sets, sets-append}
+use Rattle.basics.specs.Reads.{Wrote}
 
 -- a longer run over a shorter one
 pub sets-over : (p : List ℕ) (n : ℕ) (c d : List ℕ) → length c ≤ length d → sets (sets p n c) n d ≡ sets p n d
@@ -41,6 +42,10 @@ pub between-wrote : (p₀ : List ℕ) (from to : ℕ) (c : List ℕ) → length 
 between-wrote p₀ from to c e h l =
     let f = length-take-le from p₀ (omega arith) in
     rw (sets-eq c p₀ from (omega arith), append-assoc (take from p₀) c (drop (from + length c) p₀), drop-at (take from p₀) (c ++ drop (from + length c) p₀) from f) (take-at c (drop (from + length c) p₀) (to - from) e)
+
+-- what is written from the beginning on stands there
+pub at-front : {p q c : List ℕ} (n : ℕ) → Wrote p 0 c q → n ≡ length c → n ≤ length p → take n q ≡ c
+at-front {p} {q} {c} n w e h = rw (w .is, sets-eq c p 0 (omega arith)) (take-at c (drop (0 + length c) p) n (sym e))
 
 -- the word x goes in at `from`: those before i have moved up by one, and w is the one that i takes
 pub record Carry (p : List ℕ) (from to x : ℕ) (q : List ℕ) (i w : ℕ) : Type 0 where

@@ -1,8 +1,8 @@
 // Classes of characters, an escape, a character of an expression or of a class.
 ghost use mathlib.Core.Path.{_≡_};
-ghost use Prim.Native.Nat.{_+_, _≤_};
+ghost use Prim.Native.Nat.{_+_};
 ghost use lib.Dec.{eqb};
-ghost use lib.ListN.{length, drop};
+ghost use lib.ListN.{drop};
 ghost use Rattle.regex_definition.specs.Chars.{within, isNormal, isEscaped, isClassChar, escapeValue};
 ghost use Rattle.regex_definition.specs.Read.{readEscape, readBare, readCCchar};
 ghost use Rattle.regex_leaves.specs.Reads.{Is, ReadChar};

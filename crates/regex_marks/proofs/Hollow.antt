@@ -3,7 +3,7 @@ use mathlib.Core.Path.{_≡_, refl, ap, sym, _∙_, subst}
 use mathlib.Core.Bool.{Bool, false, _&&_, _||_}
 use mathlib.Core.List.{List, [], _∷_, _++_}
 use mathlib.Core.Logic.{_⊎_, inl, inr, ⊎-elim}
-use Prim.Native.Nat.{ℕ, zero, suc, _+_, _-_, _≤_, _<_, zero-le}
+use Prim.Native.Nat.{ℕ, zero, suc, _+_, _≤_, _<_, zero-le}
 use native.Mathlib.Omega.{arith}
 use native.Mathlib.Nat.{le-refl}
 use lib.Dec.{eqb, leb}
@@ -14,14 +14,19 @@ use Rattle.regex_definition.specs.Agree.{told, both, either, leb-told}
 use Rattle.regex_marks.specs.Marks.{size, copies, endless, Rest, Good, GoodUpto}
 use Rattle.regex_marks.specs.Turn.{Turn}
 use Rattle.regex_marks.specs.Moves.{Moved}
-use Rattle.regex_marks.proofs.Turns.{turn-none, turn-same, eqb-told}
+use Rattle.regex_marks.proofs.Turns.{turn-none, turn-same}
 use Rattle.regex_marks.proofs.Frames.{upto-none, any-none, good-frame}
+use Rattle.regex_code.specs.Tests.{eqb-told}
 
 -- a repeat without end has a mark
 pub endless-some : (n lo : ℕ) → 1 ≤ endless n lo
 endless-some n zero = omega arith
 endless-some n (suc zero) = omega arith
 endless-some n (suc (suc l)) = let h = endless-some n (suc l) in omega arith
+
+-- a word of one character or more is not the empty one
+pub not-nil : {c : ℕ} {w : List ℕ} → c ∷ w ≡ [] → ⊥
+not-nil e = let z : _≡_ {A = ℕ} 0 1 = cc in omega arith
 
 -- words that are all empty, in a row
 row-empty : (P : List ℕ → Type 0) → ((u : List ℕ) → P u → u ≡ []) → (n : ℕ) (w : List ℕ) → Row P n w → w ≡ []
@@ -68,9 +73,6 @@ module _ (P : List ℕ → Type 0) (lo hi : ℕ) where
       go : (n : ℕ) → lo ≤ n → n ≤ hi → Row P n [] → (lo ≡ 0) ⊎ (P [] × (lo ≤ hi))
       go zero a b r = inl (omega arith)
       go (suc n) a b r = inr (join-nil r .0, omega arith)
-
-  not-nil : {c : ℕ} {w : List ℕ} → c ∷ w ≡ [] → ⊥
-  not-nil e = let z : _≡_ {A = ℕ} 0 1 = cc in omega arith
 
   -- copies of a part that describes the empty word at most
   turn-bare :
@@ -125,16 +127,13 @@ module _ (P : List ℕ → Type 0) (lo : ℕ) (h : 1 < lo) where
   some-nil zero a r = absurd (omega arith)
   some-nil (suc n) a r = join-nil r .0
 
-  hollow-not-nil : {c : ℕ} {w : List ℕ} → c ∷ w ≡ [] → ⊥
-  hollow-not-nil e = let z : _≡_ {A = ℕ} 0 1 = cc in omega arith
-
   turn-hollow :
       ((u : List ℕ) → P u → u ≡ []) → {m : Bool} {c : ℕ} {e : Bool} → Told (P []) e
       → Turn (Times lo any P) (λ w. ⊥) (λ w. ⊥) m c e false false
   turn-hollow f {m} {c} {e} k =
       turn-none (Times lo any P) e
       (told (λ p. record { count = lo; least = le-refl _; most = tt; row = row-nil P p lo }) (λ t. some-nil (t .count) (t .least) (t .row)) k)
-      (λ w t. hollow-not-nil (row-empty P f (t .count) (c ∷ w) (t .row)))
+      (λ w t. not-nil (row-empty P f (t .count) (c ∷ w) (t .row)))
 
 -- one pass over a part without marks is one over all its copies
 pub moved-hollow :

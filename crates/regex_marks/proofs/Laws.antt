@@ -1,4 +1,4 @@
--- What each answer of a step rests on. Assumes nothing.
+-- What each answer of a pass rests on. Assumes nothing.
 use mathlib.Core.Path.{_≡_, refl, ap, sym, _∙_, subst}
 use mathlib.Core.Bool.{Bool, true, false, _&&_, _||_}
 use mathlib.Core.List.{List, [], _∷_}
@@ -7,196 +7,18 @@ use native.Mathlib.Omega.{arith}
 use lib.ListN.{length, drop, getD, set, length-drop, length-set, drop-of-length-le}
 use lib.Seq.{getD-set-same, getD-set-other}
 use lib.Dec.{eqb, leb}
-use Rattle.regex_definition.specs.Words.{Times, upto, any, Told, holds}
-use Rattle.regex_definition.specs.Regexp.{Regexp, empty, class, then, or, times, Describes}
-use Rattle.regex_code.specs.Flat.{flat, head, of-empty, of-class, of-then, of-or, of-upto, of-any, of-other, of-nothing, behind, word-of}
+use Rattle.regex_definition.specs.Words.{upto, any, Told, holds}
+use Rattle.regex_definition.specs.Regexp.{Regexp, times, Describes}
+use Rattle.regex_code.specs.Flat.{flat, of-empty, of-class, of-then, of-or, of-upto, of-any, of-short, of-other, of-nothing, word-of}
 use Rattle.regex_code.specs.Skips.{Skips, SkipsClass}
-use Rattle.regex_marks.specs.Marks.{size, Rest, Good}
-use Rattle.regex_marks.specs.Turn.{Turn}
-use Rattle.regex_marks.specs.Moves.{Kept, Moved, Shifted, Copied, Endless}
-use Rattle.regex_marks.proofs.Turns.{turn-same, turn-none, turn-or, turn-then, turn-zero, turn-last, turn-more, turn-plus, turn-next, turn-class, eqb-told}
+use Rattle.regex_marks.specs.Marks.{size, Good}
+use Rattle.regex_marks.specs.Moves.{Moved, Shifted, Copied, Endless}
+use Rattle.regex_marks.proofs.Turns.{turn-none, turn-zero, turn-class}
 use Rattle.regex_marks.specs.Runs.{Entered}
 use Rattle.regex_marks.proofs.Hollow.{moved-bare, moved-hollow, endless-some}
-use Rattle.regex_marks.proofs.Frames.{Same, flip, below, above, frame, good-frame}
 use Rattle.basics.specs.Lists.{drop-at as word}
-
-pub kept-refl : {lo hi : ℕ} {ms : List ℕ} → Kept lo hi ms ms
-kept-refl = record { low = λ i p. refl; high = λ i p. refl }
-
--- two parts, side by side: what the second leaves of the first, and what the first leaves of the second
-module _
-    {x y : Regexp} {b c : ℕ} {ms ms1 ms2 : List ℕ} {m m2 : Bool} {n n2 : ℕ} {e v w e2 v2 w2 : Bool}
-    (p : Moved x b ms ms1 m c n e v w) (q : Moved y (b + n) ms1 ms2 m2 c n2 e2 v2 w2)
-  where
-    first-same : Same b (b + size x) ms1 ms2
-    first-same = below b (b + size x) (omega (arith, p .wide)) (q .kept)
-
-    first-turn : Turn (Describes x) (Rest x b ms) (Rest x b ms2) m c e v w
-    first-turn =
-        turn-same (Rest x b ms) (Rest x b ms2) (λ u r. r) (λ u r. r) (frame x b ms1 ms2 first-same)
-        (frame x b ms2 ms1 (flip first-same)) (p .turn)
-
-    first-good : Good x b ms2
-    first-good = good-frame x b ms1 ms2 first-same (p .good)
-
-    second-same : Same (b + size x) (b + size x + size y) ms ms1
-    second-same = above (b + size x) (b + size x + size y) (omega (arith, p .wide)) (p .kept)
-
-    second-turn : Turn (Describes y) (Rest y (b + size x) ms) (Rest y (b + size x) ms2) m2 c e2 v2 w2
-    second-turn =
-        turn-same (Rest y (b + size x) ms) (Rest y (b + size x) ms2) (frame y (b + size x) ms1 ms (flip second-same))
-        (frame y (b + size x) ms ms1 second-same) (λ u r. r) (λ u r. r)
-        (subst (λ k. Turn (Describes y) (Rest y (b + k) ms1) (Rest y (b + k) ms2) m2 c e2 v2 w2) (p .wide) (q .turn))
-
-    second-good : Good y (b + size x) ms2
-    second-good = subst (λ k. Good y (b + k) ms2) (p .wide) (q .good)
-
-    pub both-kept : Kept b (b + (n + n2)) ms ms2
-    both-kept =
-        record {
-          low = λ i h. q .kept .low i (omega arith) ∙ p .kept .low i h;
-          high = λ i h. q .kept .high i (omega arith) ∙ p .kept .high i (omega arith);
-        }
-
-    both-wide : n + n2 ≡ size x + size y
-    both-wide = omega (arith, p .wide, q .wide)
-
--- what the second part asks, before it is read
-pub second-ready :
-    {x : Regexp} (y : Regexp) {b c : ℕ} {ms ms1 : List ℕ} {m : Bool} {n : ℕ} {e v w : Bool} → Moved x b ms ms1 m c n e v w
-    → Good y (b + size x) ms → Good y (b + n) ms1
-second-ready {x} y {b} {ms} {ms1} p g =
-    subst (λ k. Good y (b + k) ms1) (sym (p .wide))
-    (good-frame y (b + size x) ms ms1 (above (b + size x) (b + size x + size y) (omega (arith, p .wide)) (p .kept)) g)
-
-module _
-    {x y : Regexp} {b c : ℕ} {ms ms1 ms2 : List ℕ} {m m2 : Bool} {n n2 : ℕ} {e v w e2 v2 w2 : Bool}
-    (p : Moved x b ms ms1 m c n e v w) (q : Moved y (b + n) ms1 ms2 m2 c n2 e2 v2 w2)
-  where
-    moved-then :
-        m2 ≡ (v || (m && e)) → Moved (then x y) b ms ms2 m c (n + n2) (e && e2) ((v && e2) || v2) ((w && e2) || w2)
-    moved-then h =
-        record {
-          wide = both-wide p q;
-          turn =
-              turn-then (first-turn p q)
-              (subst (λ k. Turn (Describes y) (Rest y (b + size x) ms) (Rest y (b + size x) ms2) k c e2 v2 w2) h (second-turn p q));
-          good = (first-good p q, second-good p q);
-          kept = both-kept p q;
-        }
-
-    moved-or : m2 ≡ m → Moved (or x y) b ms ms2 m c (n + n2) (e || e2) (v || v2) (w || w2)
-    moved-or h =
-        record {
-          wide = both-wide p q;
-          turn =
-              turn-or (first-turn p q)
-              (subst (λ k. Turn (Describes y) (Rest y (b + size x) ms) (Rest y (b + size x) ms2) k c e2 v2 w2) h (second-turn p q));
-          good = (first-good p q, second-good p q);
-          kept = both-kept p q;
-        }
-
--- one copy more
-module _
-    {x : Regexp} (lo h : ℕ) {b c : ℕ} {ms ms1 ms2 : List ℕ} {m m2 : Bool} {n n2 : ℕ} {e v w e2 v2 w2 : Bool}
-    (p : Moved x b ms ms1 m c n e v w) (q : Moved (times (pred lo) (upto h) x) (b + n) ms1 ms2 m2 c n2 e2 v2 w2)
-  where
-    moved-more :
-        m2 ≡ (v || (m && e))
-        → Moved (times lo (upto (suc h)) x) b ms ms2 m c (n + n2) (eqb lo 0 || (e && e2)) ((v && e2) || v2) ((w && e2) || w2)
-    moved-more g =
-        record {
-          wide = both-wide p q;
-          turn =
-              turn-more (Describes x) lo h (first-turn p q)
-              (subst
-              (λ k. Turn (Times (pred lo) (upto h) (Describes x)) (Rest (times (pred lo) (upto h) x) (b + size x) ms) (Rest (times (pred lo) (upto h) x) (b + size x) ms2) k c e2 v2 w2)
-              g (second-turn p q));
-          good = (first-good p q, second-good p q);
-          kept = both-kept p q;
-        }
-
-module _
-    {x : Regexp} (l : ℕ) {b c : ℕ} {ms ms1 ms2 : List ℕ} {m m2 : Bool} {n n2 : ℕ} {e v w e2 v2 w2 : Bool}
-    (p : Moved x b ms ms1 m c n e v w) (q : Moved (times (suc l) any x) (b + n) ms1 ms2 m2 c n2 e2 v2 w2)
-  where
-    moved-next :
-        m2 ≡ (v || (m && e))
-        → Moved (times (suc (suc l)) any x) b ms ms2 m c (n + n2) (e && e2) ((v && e2) || v2) ((w && e2) || w2)
-    moved-next g =
-        record {
-          wide = both-wide p q;
-          turn =
-              turn-next (Describes x) l (first-turn p q)
-              (subst
-              (λ k. Turn (Times (suc l) any (Describes x)) (Rest (times (suc l) any x) (b + size x) ms) (Rest (times (suc l) any x) (b + size x) ms2) k c e2 v2 w2)
-              g (second-turn p q));
-          good = (first-good p q, second-good p q);
-          kept = both-kept p q;
-        }
-
--- none behind the last
-moved-last :
-    (x : Regexp) (lo : ℕ) {b c : ℕ} {ms : List ℕ} {m : Bool}
-    → Moved (times (pred lo) (upto 0) x) b ms ms m c 0 (leb lo 1) false false
-moved-last x lo = record { wide = refl; turn = turn-last (Describes x) lo; good = tt; kept = kept-refl }
-
--- a copy that may follow itself: its mark stands before it
-module _
-    {x : Regexp} {b c : ℕ} {ms ms1 : List ℕ} {m2 : Bool} {n : ℕ} {e v w : Bool} (p : Moved x (b + 1) ms ms1 m2 c n e v w)
-    (k : ℕ) (s : b < length ms1) (k-is : eqb k 1 ≡ w)
-  where
-    loop-same : Same (b + 1) (b + 1 + size x) ms1 (set ms1 b k)
-    loop-same = record { at = λ i u v. getD-set-other ms1 b i k 0 (λ e. omega arith) }
-
-    loop-kept : Kept b (b + (1 + n)) ms (set ms1 b k)
-    loop-kept =
-        record {
-          low = λ i h. getD-set-other ms1 b i k 0 (λ e. omega arith) ∙ p .kept .low i (omega arith);
-          high = λ i h. getD-set-other ms1 b i k 0 (λ e. omega arith) ∙ p .kept .high i (omega arith);
-        }
-
-    loop-turn : Turn (Describes x) (Rest x (b + 1) ms) (Rest x (b + 1) (set ms1 b k)) m2 c e v w
-    loop-turn =
-        turn-same (Rest x (b + 1) ms) (Rest x (b + 1) (set ms1 b k)) (λ u r. r) (λ u r. r)
-        (frame x (b + 1) ms1 (set ms1 b k) loop-same) (frame x (b + 1) (set ms1 b k) ms1 (flip loop-same)) (p .turn)
-
-    loop-good : Told (Rest x (b + 1) (set ms1 b k) []) (eqb (getD (set ms1 b k) b 0) 1) × Good x (b + 1) (set ms1 b k)
-    loop-good = (
-      rw (getD-set-same ms1 b k 0 s, k-is) (loop-turn .on-now),
-      good-frame x (b + 1) ms1 (set ms1 b k) loop-same (p .good),
-    )
-
-    moved-loop :
-        {m : Bool} (lo : ℕ) → lo ≤ 1 → (f : Bool) → m2 ≡ (m || f) → f ≡ eqb (getD ms b 0) 1 → Good (times lo any x) b ms
-        → Moved (times lo any x) b ms (set ms1 b k) m c (1 + n) (eqb lo 0 || e) v w
-    moved-loop zero h f q g d =
-        record {
-          wide = omega (arith, p .wide);
-          turn =
-              turn-plus (Describes x) 0 h f (rw g (d .0))
-              (subst (λ k'. Turn (Describes x) (Rest x (b + 1) ms) (Rest x (b + 1) (set ms1 b k)) k' c e v w) q loop-turn);
-          good = loop-good;
-          kept = loop-kept;
-        }
-    moved-loop (suc zero) h f q g d =
-        record {
-          wide = omega (arith, p .wide);
-          turn =
-              turn-plus (Describes x) 1 h f (rw g (d .0))
-              (subst (λ k'. Turn (Describes x) (Rest x (b + 1) ms) (Rest x (b + 1) (set ms1 b k)) k' c e v w) q loop-turn);
-          good = loop-good;
-          kept = loop-kept;
-        }
-    moved-loop (suc (suc l)) h f q g d = absurd (omega arith)
-
-pub some-code : (x : Regexp) (r : List ℕ) → 1 ≤ length (flat x r)
-some-code empty r = omega arith
-some-code (class comp gs) r = omega arith
-some-code (then x y) r = omega arith
-some-code (or x y) r = omega arith
-some-code (times lo (upto n) x) r = omega arith
-some-code (times lo any x) r = omega arith
+use Rattle.regex_marks.proofs.Moved.{kept-refl, second-ready, moved-then, moved-or, moved-more, moved-next, moved-last, moved-loop}
+use Rattle.regex_code.specs.Tests.{eqb-told}
 
 -- what is asked of an expression at a place
 Asked : List ℕ → ℕ → List ℕ → List ℕ → Bool → ℕ → ℕ → ℕ → Bool → Bool → Bool → Regexp → List ℕ → Type 0
@@ -325,28 +147,20 @@ module _ (s : List ℕ) (m : Bool) (c b : ℕ) (ms : List ℕ) (room : b ≤ len
                 x r (sym (word s at p) ∙ e');
           }
 
-    module _ (n0 : getD s at 0 ≡ 0 → ⊥) (n1 : getD s at 0 ≡ 1 → ⊥) (n2 : getD s at 0 ≡ 2 → ⊥) (n3 : getD s at 0 ≡ 3 → ⊥) where
-      pub stop-short : length s - at < 3 → Shifted s at m c b ms ms at 0 false false false
-      unfolding Asked
-      stop-short h =
-          record {
-            from = omega arith;
-            to = omega arith;
-            fits = omega arith;
-            long = refl;
-            of = λ x r e. go x r (sym (word s at p) ∙ e) (sym (length-drop at s) ∙ ap length e);
-          }
-        where
-          go :
-              (x : Regexp) (r : List ℕ) → getD s at 0 ∷ drop (at + 1) s ≡ flat x r → length s - at ≡ length (flat x r)
-              → Asked s b ms ms m c at 0 false false false x r
-          go empty r e l = absurd (n0 (head e))
-          go (class comp gs) r e l = absurd (n1 (head e))
-          go (then x y) r e l = absurd (n2 (head e))
-          go (or x y) r e l = absurd (n3 (head e))
-          go (times lo (upto n) x) r e l = absurd (omega arith)
-          go (times lo any x) r e l = absurd (omega (arith, some-code x r))
+    pub stop-short : 3 < getD s at 0 → length s - at < 3 → Shifted s at m c b ms ms at 0 false false false
+    unfolding Asked
+    stop-short k h =
+        record {
+          from = omega arith;
+          to = omega arith;
+          fits = omega arith;
+          long = refl;
+          of =
+              λ x r e. of-short (Asked s b ms ms m c at 0 false false false) _ _ k (omega (arith, length-drop (at + 1) s)) x r
+              (sym (word s at p) ∙ e);
+        }
 
+    module _ (n0 : getD s at 0 ≡ 0 → ⊥) (n1 : getD s at 0 ≡ 1 → ⊥) (n2 : getD s at 0 ≡ 2 → ⊥) (n3 : getD s at 0 ≡ 3 → ⊥) where
       pub stop-other : (getD s at 0 ≡ 4 → ⊥) → (getD s at 0 ≡ 5 → ⊥) → Shifted s at m c b ms ms at 0 false false false
       unfolding Asked
       stop-other n4 n5 =

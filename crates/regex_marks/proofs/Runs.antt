@@ -2,7 +2,7 @@
 use mathlib.Core.Path.{_≡_, refl, ap, sym, _∙_, subst}
 use mathlib.Core.Bool.{Bool, true, false, _&&_}
 use mathlib.Core.List.{List, [], _∷_, _++_, append-nil, append-assoc}
-use mathlib.Core.Logic.{_⊎_, inl, inr, ⊎-elim}
+use mathlib.Core.Logic.{inl, inr, ⊎-elim}
 use Prim.Native.Nat.{ℕ, zero, suc, pred, _+_, _*_, _-_, _≤_, _<_, _^_}
 use native.Mathlib.Omega.{arith}
 use native.Mathlib.Nat.{mul-suc, mul-zero, mul-le-mul-left, le-of-lt}
@@ -15,16 +15,15 @@ use Rattle.regex_chars.specs.Classes.{Hits}
 use Rattle.regex_chars.specs.Laws.{slice-end, slice-nil, encodeAll-none, encodeAll-cons, encodeAll-nil}
 use lib.Dec.{eqb, leb}
 use borrow.Author.Tests.{eqb-true, eqb-false, eq-eqb, leb-true, leb-false}
-use Rattle.regex_definition.specs.Words.{upto, any, Told, holds, fails}
-use Rattle.regex_definition.specs.Regexp.{Regexp, empty, class, then, or, times, Describes, hits}
+use Rattle.regex_definition.specs.Words.{Told, holds, fails}
+use Rattle.regex_definition.specs.Regexp.{Regexp, Describes, hits}
 use Rattle.regex_definition.specs.Agree.{told, told-true}
-use Rattle.regex_code.specs.Flat.{flat, head, of-empty, of-class, of-then, of-or, of-upto, of-any, of-other, of-nothing, behind, word-of}
+use Rattle.regex_code.specs.Flat.{flat, of-empty, of-class, of-then, of-or, of-upto, of-any, of-short, of-other, of-nothing, behind, word-of}
 use Rattle.regex_code.specs.Skips.{SkipsClass}
 use Rattle.regex_marks.specs.Marks.{size, copies, endless, Rest}
 use Rattle.regex_marks.specs.Moves.{Moved, Shifted}
 use Rattle.regex_marks.specs.Runs.{Clear, Grows, Reading, Read, Ran, Weighs, Capped, Entered}
 use Rattle.regex_marks.proofs.Frames.{rest-none, good-none}
-use Rattle.regex_marks.proofs.Laws.{some-code}
 
 -- CLEAR
 pub clear-more : (ms : List ℕ) (i : ℕ) → i < length ms → ((k : ℕ) → k < i → getD ms k 0 ≡ 0) → (k : ℕ) → k < i + 1 → getD (set ms i 0) k 0 ≡ 0
@@ -49,7 +48,7 @@ clear-all ms i h f = record { at = λ k. go k (leb (length ms) k) refl }
     go k true e = List·getD-eq-default ms 0 (leb-true (length ms) k e)
     go k false e = f k (omega (arith, leb-false (length ms) k e))
 
--- START: a step that enters nothing leaves nothing, and says whether the empty word is described
+-- START: a pass that enters nothing leaves nothing, and says whether the empty word is described
 pub read-start :
     {s t ms ms' : List ℕ} {c next n : ℕ} {e v w : Bool} → Clear ms → Shifted s 0 false c 0 ms ms' next n e v w → Read s t 0 ms' e
 read-start {s} {t} {ms} {ms'} {c} {next} {n} {e} {v} {w} z p =
@@ -240,26 +239,16 @@ module _ (s : List ℕ) (cap : ℕ) where
                 x r (sym (word s at p) ∙ e);
           }
 
-    module _ (n0 : getD s at 0 ≡ 0 → ⊥) (n1 : getD s at 0 ≡ 1 → ⊥) (n2 : getD s at 0 ≡ 2 → ⊥) (n3 : getD s at 0 ≡ 3 → ⊥) where
-      pub weigh-short : length s - at < 3 → Weighs s at cap at 0
-      unfolding Weighed
-      weigh-short h =
-          record {
-            from = omega arith;
-            fits = omega arith;
-            of = λ x r e. go x r (sym (word s at p) ∙ e) (sym (length-drop at s) ∙ ap length e);
-          }
-        where
-          go :
-              (x : Regexp) (r : List ℕ) → getD s at 0 ∷ drop (at + 1) s ≡ flat x r → length s - at ≡ length (flat x r)
-              → Weighed s cap at 0 x r
-          go empty r e l = absurd (n0 (head e))
-          go (class comp gs) r e l = absurd (n1 (head e))
-          go (then x y) r e l = absurd (n2 (head e))
-          go (or x y) r e l = absurd (n3 (head e))
-          go (times lo (upto n) x) r e l = absurd (omega arith)
-          go (times lo any x) r e l = absurd (omega (arith, some-code x r))
+    pub weigh-short : 3 < getD s at 0 → length s - at < 3 → Weighs s at cap at 0
+    unfolding Weighed
+    weigh-short k h =
+        record {
+          from = omega arith;
+          fits = omega arith;
+          of = λ x r e. of-short (Weighed s cap at 0) _ _ k (omega (arith, length-drop (at + 1) s)) x r (sym (word s at p) ∙ e);
+        }
 
+    module _ (n0 : getD s at 0 ≡ 0 → ⊥) (n1 : getD s at 0 ≡ 1 → ⊥) (n2 : getD s at 0 ≡ 2 → ⊥) (n3 : getD s at 0 ≡ 3 → ⊥) where
       pub weigh-other : (getD s at 0 ≡ 4 → ⊥) → (getD s at 0 ≡ 5 → ⊥) → Weighs s at cap at 0
       unfolding Weighed
       weigh-other n4 n5 =

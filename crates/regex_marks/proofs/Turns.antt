@@ -3,16 +3,16 @@ use mathlib.Core.Path.{_≡_, refl, ap}
 use mathlib.Core.Bool.{Bool, true, false, _&&_, _||_}
 use mathlib.Core.List.{List, [], _∷_}
 use mathlib.Core.Logic.{_⊎_, inl, inr, ⊎-elim}
-use Prim.Native.Nat.{ℕ, zero, suc, pred, _-_, _≤_, zero-le}
+use Prim.Native.Nat.{ℕ, zero, suc, pred, _≤_, zero-le}
 use native.Mathlib.Omega.{arith}
 use lib.Dec.{eqb, leb}
-use borrow.Author.Tests.{eqb-true, eqb-false}
 use Rattle.regex_definition.specs.Words.{Join, Row, Times, upto, any, Told, holds, fails}
 use Rattle.regex_definition.specs.Regexp.{One, Range, hits}
 use Rattle.regex_definition.specs.Laws.{join-nil, join-cons, cons-join, nil-join, join-map, star-cons, cons-star, star-nil}
 use Rattle.regex_definition.specs.Agree.{told, both, either, told-true, true-told, leb-told, bool-told}
 use Rattle.regex_marks.specs.Turn.{Turn}
 use Rattle.basics.specs.Lists.{cons-not}
+use Rattle.regex_code.specs.Tests.{eqb-told}
 
 -- the same with other sets of the same words
 pub turn-same :
@@ -159,13 +159,6 @@ module _ {P A A' : List ℕ → Type 0} {m : Bool} {c : ℕ} {e v n : Bool} wher
           (star-cons P c w (p .1)))
           (λ i. join-map A' (Times 0 any P) (λ g p. t .forth g (inr p)) (λ g q. q) w i)
           (join-cons c w j)
-
-pub eqb-told : (a b : ℕ) → Told (a ≡ b) (eqb a b)
-eqb-told a b = go (eqb a b) refl
-  where
-    go : (t : Bool) → eqb a b ≡ t → Told (a ≡ b) t
-    go true e = holds (eqb-true a b e)
-    go false e = fails (eqb-false a b e)
 
 module _ (P : List ℕ → Type 0) where
   -- no copy

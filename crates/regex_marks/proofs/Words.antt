@@ -1,19 +1,20 @@
--- A step in one word, a place that is none behind the end, and two parts by the word before them. Assumes nothing.
+-- A pass in one word, a place that is none behind the end, and two parts by the word before them. Assumes nothing.
 use mathlib.Core.Path.{_≡_, refl, ap, sym, _∙_, subst}
 use mathlib.Core.Bool.{Bool, true, false, cond}
 use mathlib.Core.List.{List}
-use Prim.Native.Nat.{ℕ, _+_, _-_, _*_, _/_, _%_, _≤_, _<_, _^_, min}
+use Prim.Native.Nat.{ℕ, _+_, _*_, _/_, _%_, _≤_, _<_, _^_, min}
 use native.Mathlib.Omega.{arith}
-use borrow.Author.Tests.{eqb-true, eqb-false, leb-true, leb-false}
-use lib.Dec.{eqb, leb}
-use lib.ListN.{length, drop, getD, drop-of-length-le}
-use Rattle.regex_code.specs.Skips.{Skips, SkipsClass}
-use Rattle.regex_marks.specs.declared.Step.{Step}
-use Rattle.regex_marks.specs.Steps.{flagOf, stepOf, enterOf, chainOf, forkOf, secondOf, joinedOf}
-use Rattle.regex_marks.specs.Moves.{Fits, Word, Shifted, Copied, Endless, ShiftedBy, CopiedBy, EndlessBy}
+use borrow.Author.Tests.{eqb-true, eqb-false}
+use lib.Dec.{eqb}
+use lib.ListN.{length, drop}
+use Rattle.regex_code.specs.Skips.{Skips, SkipsClass, drop-min}
+use Rattle.regex_marks.specs.declared.passes.Pass.{Pass}
+use Rattle.regex_marks.specs.Passes.{flagOf, passOf, enterOf, chainOf, forkOf, secondOf, joinedOf}
+use Rattle.regex_marks.specs.Moves.{Fits, Shifted, Copied, Endless, ShiftedBy, CopiedBy, EndlessBy}
 use Rattle.regex_marks.proofs.Laws.{shift-then, shift-or}
 use Rattle.regex_marks.specs.Runs.{Weighs, Capped}
 use Rattle.regex_marks.proofs.Runs.{weigh-then, weigh-or}
+use Rattle.regex_code.specs.Flat.{Word}
 
 flag-few : (b : Bool) → flagOf b ≤ 1
 flag-few true = omega arith
@@ -25,8 +26,8 @@ flag-back false = refl
 
 -- what is packed comes back
 pub packed :
-    (s : Step) {e v w : ℕ} → e ≡ flagOf (s .empty) → v ≡ flagOf (s .was) → w ≡ flagOf (s .now) → s .size < 2 ^ 16
-    → stepOf ((s .next * 65536 + s .size) * 8 + e * 4 + v * 2 + w) ≡ s
+    (s : Pass) {e v w : ℕ} → e ≡ flagOf (s .empty) → v ≡ flagOf (s .was) → w ≡ flagOf (s .now) → s .size < 2 ^ 16
+    → passOf ((s .next * 65536 + s .size) * 8 + e * 4 + v * 2 + w) ≡ s
 packed s {e} {v} {w} p q r h =
     let i = flag-few (s .empty) in
     let j = flag-few (s .was) in
@@ -38,19 +39,19 @@ packed s {e} {v} {w} p q r h =
     let f : ((s .next * 65536 + s .size) * 8 + e * 4 + v * 2 + w) % 2 ≡ w = omega arith in
     rw (a, b, c, d, f, p, q, r, flag-back (s .empty), flag-back (s .was), flag-back (s .now))
 
--- the same step
+-- the same pass
 pub shifted-by :
-    {s : List ℕ} {at : ℕ} {m : Bool} {c b : ℕ} {ms ms' : List ℕ} {t u : Step} → t ≡ u → ShiftedBy s at m c b ms ms' u
+    {s : List ℕ} {at : ℕ} {m : Bool} {c b : ℕ} {ms ms' : List ℕ} {t u : Pass} → t ≡ u → ShiftedBy s at m c b ms ms' u
     → ShiftedBy s at m c b ms ms' t
 shifted-by {s} {at} {m} {c} {b} {ms} {ms'} e p = subst (λ k. ShiftedBy s at m c b ms ms' k) (sym e) p
 
 pub copied-by :
-    {s : List ℕ} {at : ℕ} {m : Bool} {c b lo hi : ℕ} {ms ms' : List ℕ} {t u : Step} → t ≡ u → CopiedBy s at m c b lo hi ms ms' u
+    {s : List ℕ} {at : ℕ} {m : Bool} {c b lo hi : ℕ} {ms ms' : List ℕ} {t u : Pass} → t ≡ u → CopiedBy s at m c b lo hi ms ms' u
     → CopiedBy s at m c b lo hi ms ms' t
 copied-by {s} {at} {m} {c} {b} {lo} {hi} {ms} {ms'} e p = subst (λ k. CopiedBy s at m c b lo hi ms ms' k) (sym e) p
 
 pub endless-by :
-    {s : List ℕ} {at : ℕ} {m : Bool} {c b lo : ℕ} {ms ms' : List ℕ} {t u : Step} → t ≡ u → EndlessBy s at m c b lo ms ms' u
+    {s : List ℕ} {at : ℕ} {m : Bool} {c b lo : ℕ} {ms ms' : List ℕ} {t u : Pass} → t ≡ u → EndlessBy s at m c b lo ms ms' u
     → EndlessBy s at m c b lo ms ms' t
 endless-by {s} {at} {m} {c} {b} {lo} {ms} {ms'} e p = subst (λ k. EndlessBy s at m c b lo ms ms' k) (sym e) p
 
@@ -84,19 +85,6 @@ pub again-fits :
 again-fits f p =
     record { place = f .place; words = f .words; room = omega (arith, p .fits, p .long); few = omega (arith, f .few, p .long) }
 
--- no place behind the end is needed
-drop-min : (s : List ℕ) (n : ℕ) → drop (min n (length s)) s ≡ drop n s
-drop-min s n = go (leb n (length s)) refl
-  where
-    go : (b : Bool) → leb n (length s) ≡ b → drop (min n (length s)) s ≡ drop n s
-    go true e = let h = leb-true n (length s) e in let k : min n (length s) ≡ n = omega arith in rw k
-    go false e =
-        let h = leb-false n (length s) e in
-        let k : min n (length s) ≡ length s = omega arith in
-        let i : length s ≤ length s = omega arith in
-        let j : length s ≤ n = omega arith in
-        rw k (drop-of-length-le s i ∙ sym (drop-of-length-le s j))
-
 pub clip-class : {s : List ℕ} {at n r : ℕ} → at < length s → SkipsClass s at n → r ≡ min n (length s) → SkipsClass s at r × (r ≤ length s)
 clip-class {s} {at} {n} {r} h k e = (
   record { from = omega (arith, k .from); rest = λ comp gs l q. ap (λ i. drop i s) e ∙ drop-min s n ∙ k .rest comp gs l q },
@@ -111,7 +99,7 @@ clip-skip {s} {at} {n} {r} h k e = (
 
 -- two parts behind their word
 pub shift-two :
-    {s : List ℕ} {m : Bool} {c b : ℕ} {ms : List ℕ} {at k : ℕ} {ms1 ms2 : List ℕ} {m2 : Bool} {t u : Step} → Fits s at ms b
+    {s : List ℕ} {m : Bool} {c b : ℕ} {ms : List ℕ} {at k : ℕ} {ms1 ms2 : List ℕ} {m2 : Bool} {t u : Pass} → Fits s at ms b
     → Word s at k → (2 ≤ k) × (k ≤ 3) → ShiftedBy s (at + 1) m c b ms ms1 t → ShiftedBy s (t .next) m2 c (b + t .size) ms1 ms2 u
     → m2 ≡ secondOf k m t → ShiftedBy s at m c b ms ms2 (joinedOf k t u)
 shift-two {s} {m} {c} {b} {ms} {at} {k} {ms1} {ms2} {m2} {t} {u} f d h p q e = go (eqb k 2) refl

@@ -1,10 +1,9 @@
 -- Marks: one for each character position of the written-out expression, and one for each repeat without end, which says whether
 -- its part may end here. `Rest x b ms w`: w is an end that the marks from b on await. Assumes nothing: these are definitions.
 use mathlib.Core.Path.{_≡_}
-use mathlib.Core.Bool.{Bool}
-use mathlib.Core.List.{List, [], _∷_}
+use mathlib.Core.List.{List, []}
 use mathlib.Core.Logic.{_⊎_}
-use Prim.Native.Nat.{ℕ, zero, suc, pred, _+_, _≤_, _<_}
+use Prim.Native.Nat.{ℕ, zero, suc, pred, _+_}
 use lib.Dec.{eqb}
 use lib.ListN.{getD}
 use Rattle.regex_definition.specs.Words.{Join, Times, Most, upto, any, Told}

@@ -1,5 +1,25 @@
 // The fast matcher: one mark for each character position of the written-out expression; each character of the text is one pass over
 // the code. Nothing is written out: the copies of a repeat share their code and have marks of their own.
+mod passes;
+
+use passes::Pass;
+use passes::bare;
+use passes::bare_loop;
+use passes::bit;
+use passes::chain;
+use passes::either;
+use passes::enters;
+use passes::joined;
+use passes::last;
+use passes::less;
+use passes::lesser;
+use passes::link;
+use passes::looped;
+use passes::pack;
+use passes::second;
+use passes::stop;
+use passes::unmarked;
+use passes::unpack;
 use regex_chars::char_at;
 use regex_chars::class_has;
 use regex_code::skip;
@@ -7,47 +27,13 @@ use regex_code::skip_class;
 use regex_code::small;
 use regex_code::wide;
 ghost use mathlib.Core.Path.{_≡_};
-ghost use mathlib.Core.Bool.{true, _&&_, _||_};
-ghost use Prim.Native.Nat.{_+_, _-_, _≤_, _<_, _^_, pred, min};
-ghost use lib.Dec.{eqb, leb};
-ghost use lib.ListN.{length, getD};
-ghost use Rattle.regex_marks.specs.Moves.{Fits, Word, ShiftedBy, CopiedBy, EndlessBy};
+ghost use mathlib.Core.Bool.{true};
+ghost use Prim.Native.Nat.{_+_, _-_, _≤_, _<_, _^_};
+ghost use lib.ListN.{length};
+ghost use Rattle.regex_marks.specs.Moves.{Fits, ShiftedBy, CopiedBy, EndlessBy};
 ghost use Rattle.regex_marks.specs.Runs.{Read, Ran, Clear, Dead, Grows, Weighs, Capped, Entered};
-ghost use Rattle.regex_marks.specs.Steps.{flagOf, stepOf, emptyOf, secondOf, joinedOf, chainOf, forkOf, linkOf, loopOf, lastOf, enterOf, stopOf, bareOf, bareLoopOf};
-
-// What a pass over a part says: the place behind its code, the number of its marks, whether it describes the empty word, and
-// whether a word of it may end here, before the character and after it.
-pub struct Step {
-    pub next: usize,
-    pub size: usize,
-    pub empty: bool,
-    pub was: bool,
-    pub now: bool,
-}
-
-fn either(a: bool, b: bool) -> bool
-    ensures { λ r. ⌜ r ≡ (a || b) ⌝ }
-{
-    if a { true } else { b }
-}
-
-fn both(a: bool, b: bool) -> bool
-    ensures { λ r. ⌜ r ≡ (a && b) ⌝ }
-{
-    if a { b } else { false }
-}
-
-fn bit(b: bool) -> u8
-    ensures { λ r. ⌜ eqb r 1 ≡ b ⌝ }
-{
-    if b { 1 } else { 0 }
-}
-
-fn less(n: usize) -> usize
-    ensures { λ r. ⌜ r ≡ pred n ⌝ }
-{
-    if n == 0 { 0 } else { n - 1 }
-}
+ghost use Rattle.regex_marks.specs.Passes.{passOf};
+ghost use Rattle.regex_code.specs.Flat.{Word};
 
 // Whether the class at `at` is entered and has c.
 fn hits(code: &[u32], at: usize, enter: bool, c: u32) -> bool
@@ -57,187 +43,8 @@ fn hits(code: &[u32], at: usize, enter: bool, c: u32) -> bool
     if enter { class_has(code, at, c) } else { false }
 }
 
-// Whether the second of two parts is entered.
-fn enters(enter: bool, s: Step) -> bool
-    ensures { λ r. ⌜ r ≡ enterOf enter s ⌝ }
-{
-    either(s.was, both(enter, s.empty))
-}
-
-fn stop(at: usize) -> Step
-    ensures { λ r. ⌜ r ≡ stopOf at ⌝ }
-{
-    Step {
-        next: at,
-        size: 0,
-        empty: false,
-        was: false,
-        now: false,
-    }
-}
-
-fn chain(s: Step, t: Step) -> Step
-    requires { ⌜ s .size + t .size < 2 ^ 64 ⌝ }
-    ensures { λ r. ⌜ r ≡ chainOf s t ⌝ }
-{
-    Step {
-        next: t.next,
-        size: s.size + t.size,
-        empty: both(s.empty, t.empty),
-        was: either(both(s.was, t.empty), t.was),
-        now: either(both(s.now, t.empty), t.now),
-    }
-}
-
-fn fork(s: Step, t: Step) -> Step
-    requires { ⌜ s .size + t .size < 2 ^ 64 ⌝ }
-    ensures { λ r. ⌜ r ≡ forkOf s t ⌝ }
-{
-    Step {
-        next: t.next,
-        size: s.size + t.size,
-        empty: either(s.empty, t.empty),
-        was: either(s.was, t.was),
-        now: either(s.now, t.now),
-    }
-}
-
-// A copy, and the copies behind it.
-fn link(lo: usize, s: Step, t: Step) -> Step
-    requires { ⌜ s .size + t .size < 2 ^ 64 ⌝ }
-    ensures { λ r. ⌜ r ≡ linkOf lo s t ⌝ }
-{
-    let none = lo == 0;
-    Step {
-        next: t.next,
-        size: s.size + t.size,
-        empty: either(none, both(s.empty, t.empty)),
-        was: either(both(s.was, t.empty), t.was),
-        now: either(both(s.now, t.empty), t.now),
-    }
-}
-
-// No copy behind the last.
-fn last(lo: usize, s: Step) -> Step
-    ensures { λ r. ⌜ r ≡ lastOf lo s ⌝ }
-{
-    Step {
-        next: s.next,
-        size: 0,
-        empty: lo <= 1,
-        was: false,
-        now: false,
-    }
-}
-
-// Copies of a part without marks: it describes the empty word at most.
-fn bare(lo: usize, hi: usize, s: Step) -> Step
-    ensures { λ r. ⌜ r ≡ bareOf lo hi s ⌝ }
-{
-    let none = lo == 0;
-    let some = lo <= hi;
-    Step {
-        next: s.next,
-        size: 0,
-        empty: either(none, both(s.empty, some)),
-        was: false,
-        now: false,
-    }
-}
-
-// Two copies or more of a part without marks.
-fn bare_loop(s: Step) -> Step
-    ensures { λ r. ⌜ r ≡ bareLoopOf s ⌝ }
-{
-    Step {
-        next: s.next,
-        size: 1,
-        empty: s.empty,
-        was: false,
-        now: false,
-    }
-}
-
-// A copy that may follow itself.
-fn looped(lo: usize, s: Step) -> Step
-    requires { ⌜ 1 + s .size < 2 ^ 64 ⌝ }
-    ensures { λ r. ⌜ r ≡ loopOf lo s ⌝ }
-{
-    let none = lo == 0;
-    Step {
-        next: s.next,
-        size: 1 + s.size,
-        empty: either(none, s.empty),
-        was: s.was,
-        now: s.now,
-    }
-}
-
-// A step in one word: the place behind the code, 16 bits for the number of marks, and a bit for each of the three. A word comes back in a register, and a
-// struct takes room in every frame of the recursion.
-fn flag(b: bool) -> usize
-    ensures { λ r. ⌜ (r ≡ flagOf b) × (r ≤ 1) ⌝ }
-{
-    if b { 1 } else { 0 }
-}
-
-fn pack(s: Step) -> usize
-    requires { ⌜ (s .next < 2 ^ 33) × (s .size < 2 ^ 16) ⌝ }
-    ensures { λ r. ⌜ stepOf r ≡ s ⌝ }
-{
-    let empty = flag(s.empty);
-    let was = flag(s.was);
-    let now = flag(s.now);
-    (s.next * 65536 + s.size) * 8 + empty * 4 + was * 2 + now
-}
-
-fn unpack(w: usize) -> Step
-    ensures { λ r. ⌜ r ≡ stepOf w ⌝ }
-{
-    Step {
-        next: w / 524288,
-        size: w / 8 % 65536,
-        empty: w / 4 % 2 == 1,
-        was: w / 2 % 2 == 1,
-        now: w % 2 == 1,
-    }
-}
-
-fn lesser(a: usize, b: usize) -> usize
-    ensures { λ r. ⌜ r ≡ min a b ⌝ }
-{
-    if a <= b { a } else { b }
-}
-
-// A part with no marks.
-fn unmarked(at: usize, empty: bool) -> Step
-    ensures { λ r. ⌜ r ≡ emptyOf at empty ⌝ }
-{
-    Step {
-        next: at,
-        size: 0,
-        empty: empty,
-        was: false,
-        now: false,
-    }
-}
-
-// Whether the second of two parts is entered: in a row, or one of the two.
-fn second(k: u32, enter: bool, s: Step) -> bool
-    ensures { λ r. ⌜ r ≡ secondOf k enter s ⌝ }
-{
-    if k == 2 { enters(enter, s) } else { enter }
-}
-
-fn joined(k: u32, s: Step, t: Step) -> Step
-    requires { ⌜ s .size + t .size < 2 ^ 64 ⌝ }
-    ensures { λ r. ⌜ r ≡ joinedOf k s t ⌝ }
-{
-    if k == 2 { chain(s, t) } else { fork(s, t) }
-}
-
 // One character of the class at `at`.
-fn spot(code: &[u32], at: usize, marks: &mut [u8], base: usize, enter: bool, c: u32) -> Step
+fn spot(code: &[u32], at: usize, marks: &mut [u8], base: usize, enter: bool, c: u32) -> Pass
     requires { ⌜ Word (now code) at 1 ⌝ ∗ ⌜ base ≤ length (now marks) ⌝ }
     ensures { λ r. ⌜ ShiftedBy (now (code .entry)) at enter c base (now (marks .entry)) (now (marks .exit)) r ⌝ }
 {
@@ -248,7 +55,7 @@ fn spot(code: &[u32], at: usize, marks: &mut [u8], base: usize, enter: bool, c: 
     let hit = hits(code, at, enter, c);
     marks[base] = bit(hit);
     let n = skip_class(code, at);
-    Step {
+    Pass {
         next: lesser(n, code.len()),
         size: 1,
         empty: false,
@@ -260,7 +67,7 @@ fn spot(code: &[u32], at: usize, marks: &mut [u8], base: usize, enter: bool, c: 
 // The marks of the part at `at`, from `base` on, read c.
 pub fn shift(code: &[u32], at: usize, marks: &mut [u8], base: usize, enter: bool, c: u32) -> usize
     requires { ⌜ Fits (now code) at (now marks) base ⌝ }
-    ensures { λ r. ⌜ ShiftedBy (now (code .entry)) at enter c base (now (marks .entry)) (now (marks .exit)) (stepOf r) ⌝ }
+    ensures { λ r. ⌜ ShiftedBy (now (code .entry)) at enter c base (now (marks .entry)) (now (marks .exit)) (passOf r) ⌝ }
 {
     if code.len() <= at {
         let s = stop(at);
@@ -291,7 +98,7 @@ pub fn shift(code: &[u32], at: usize, marks: &mut [u8], base: usize, enter: bool
 // Two parts: in a row behind the word 2, one of them behind the word 3.
 fn two(code: &[u32], at: usize, k: u32, marks: &mut [u8], base: usize, enter: bool, c: u32) -> usize
     requires { ⌜ Fits (now code) at (now marks) base ⌝ ∗ ⌜ Word (now code) at k ⌝ ∗ ⌜ (2 ≤ k) × (k ≤ 3) ⌝ }
-    ensures { λ r. ⌜ ShiftedBy (now (code .entry)) at enter c base (now (marks .entry)) (now (marks .exit)) (stepOf r) ⌝ }
+    ensures { λ r. ⌜ ShiftedBy (now (code .entry)) at enter c base (now (marks .entry)) (now (marks .exit)) (passOf r) ⌝ }
 {
     let p = shift(code, at + 1, marks, base, enter, c);
     let s = unpack(p);
@@ -307,7 +114,7 @@ fn two(code: &[u32], at: usize, k: u32, marks: &mut [u8], base: usize, enter: bo
 // A part that is repeated from one number to another.
 fn counted(code: &[u32], at: usize, marks: &mut [u8], base: usize, enter: bool, c: u32) -> usize
     requires { ⌜ Fits (now code) at (now marks) base ⌝ ∗ ⌜ Word (now code) at 4 ⌝ }
-    ensures { λ r. ⌜ ShiftedBy (now (code .entry)) at enter c base (now (marks .entry)) (now (marks .exit)) (stepOf r) ⌝ }
+    ensures { λ r. ⌜ ShiftedBy (now (code .entry)) at enter c base (now (marks .entry)) (now (marks .exit)) (passOf r) ⌝ }
 {
     if code.len() - at < 3 {
         let s = stop(at);
@@ -326,7 +133,7 @@ fn counted(code: &[u32], at: usize, marks: &mut [u8], base: usize, enter: bool, 
 // A part that is repeated from one number on.
 fn least(code: &[u32], at: usize, marks: &mut [u8], base: usize, enter: bool, c: u32) -> usize
     requires { ⌜ Fits (now code) at (now marks) base ⌝ ∗ ⌜ Word (now code) at 5 ⌝ }
-    ensures { λ r. ⌜ ShiftedBy (now (code .entry)) at enter c base (now (marks .entry)) (now (marks .exit)) (stepOf r) ⌝ }
+    ensures { λ r. ⌜ ShiftedBy (now (code .entry)) at enter c base (now (marks .entry)) (now (marks .exit)) (passOf r) ⌝ }
 {
     if code.len() - at < 3 {
         let s = stop(at);
@@ -347,7 +154,7 @@ fn copies(
     c: u32,
 ) -> usize
     requires { ⌜ Fits (now code) at (now marks) base ⌝ ∗ ⌜ 1 ≤ hi ⌝ }
-    ensures { λ r. ⌜ CopiedBy (now (code .entry)) at enter c base lo hi (now (marks .entry)) (now (marks .exit)) (stepOf r) ⌝ }
+    ensures { λ r. ⌜ CopiedBy (now (code .entry)) at enter c base lo hi (now (marks .entry)) (now (marks .exit)) (passOf r) ⌝ }
 {
     let p = shift(code, at, marks, base, enter, c);
     let s = unpack(p);
@@ -379,7 +186,7 @@ fn endless(
     c: u32,
 ) -> usize
     requires { ⌜ Fits (now code) at (now marks) base ⌝ }
-    ensures { λ r. ⌜ EndlessBy (now (code .entry)) at enter c base lo (now (marks .entry)) (now (marks .exit)) (stepOf r) ⌝ }
+    ensures { λ r. ⌜ EndlessBy (now (code .entry)) at enter c base lo (now (marks .entry)) (now (marks .exit)) (passOf r) ⌝ }
 {
     if marks.len() <= base {
         let s = stop(at);

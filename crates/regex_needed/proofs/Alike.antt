@@ -1,9 +1,9 @@
 -- Which repeats have the same short texts. The laws hold for any set of words. Assumes nothing.
 use mathlib.Core.Path.{_≡_, refl, ap, sym, _∙_}
 use mathlib.Core.Bool.{Bool, true, false}
-use mathlib.Core.List.{List, [], _∷_, _++_, append-nil}
+use mathlib.Core.List.{List, [], _++_, append-nil}
 use mathlib.Core.Logic.{_⊎_, inl, inr, ⊎-elim}
-use Prim.Native.Nat.{ℕ, zero, suc, min, _+_, _-_, _*_, _≤_, _<_, zero-le}
+use Prim.Native.Nat.{ℕ, zero, suc, min, _+_, _-_, _*_, _≤_, zero-le}
 use native.Mathlib.Omega.{arith}
 use native.Mathlib.Nat.{le-refl, mul-suc, mul-comm, mul-le-mul-left}
 use borrow.Author.Tests.{leb-true, leb-false}
@@ -11,11 +11,11 @@ use lib.Dec.{leb}
 use lib.ListN.{length}
 use Rattle.regex_chars.specs.Laws.{fewer-chars}
 use Rattle.regex_definition.specs.Words.{Join, Row, Times, Most, upto, any}
-use Rattle.regex_definition.specs.Laws.{join, nil-join, row-add, row-split}
+use Rattle.regex_definition.specs.Laws.{row-add, row-split}
 use Rattle.regex_total.specs.Answers.{bytes}
 use Rattle.regex_total.proofs.Count.{of-once, to-once, any-upto, upto-any, row-nil}
-use Rattle.regex_total.proofs.Lengths.{nil-bytes, join-bytes, row-least}
-use Rattle.regex_needed.specs.Needed.{Alike, Endless, repeated}
+use Rattle.regex_total.proofs.Lengths.{join-bytes, row-least}
+use Rattle.regex_needed.specs.Needed.{Alike, Endless}
 use Rattle.regex_needed.specs.Needed.Endless.{zero as from-none, some as from-some}
 
 module _ (P : List ℕ → Type 0) where

@@ -2,36 +2,35 @@
 use mathlib.Core.Path.{_≡_, refl, ap, sym, _∙_, subst}
 use mathlib.Core.Bool.{Bool, true, false, false≢true}
 use mathlib.Core.List.{List, [], _∷_, _++_}
-use Prim.Native.Nat.{ℕ, suc, min, _+_, _-_, _*_, _^_, _≤_, _<_}
+use Prim.Native.Nat.{ℕ, suc, min, _+_, _*_, _^_, _≤_, _<_}
 use native.Mathlib.Omega.{arith}
 use native.Mathlib.Nat.{le-refl, mul-le-mul-left}
-use borrow.Author.Tests.{eqb-true, eqb-false, leb-true, leb-false}
-use lib.Dec.{eqb, leb}
+use borrow.Author.Tests.{eqb-true, eqb-false}
+use lib.Dec.{eqb}
 use lib.ListN.{length, set, drop, getD, length-append, length-set, drop-of-length-le}
-use lib.Seq.{slice, slice-cons, slice-empty, drop-drop}
-use Rattle.basics.specs.Reads.{Wrote}
+use lib.Seq.{slice, slice-cons, slice-empty}
 use Rattle.basics.specs.Lists.{drop-at as word}
-use Rattle.regex_definition.specs.Words.{Join, Times, Most, upto, any}
-use Rattle.regex_definition.specs.Regexp.{Regexp, empty, class, then, or, times, Describes}
+use Rattle.regex_definition.specs.Words.{Times, upto, any}
+use Rattle.regex_definition.specs.Regexp.{Regexp, class, then, or, times, Describes}
 use Rattle.regex_definition.specs.Agree.{told-true}
-use Rattle.regex_code.specs.Flat.{flat, of-empty, of-then, of-or, of-upto, of-any, of-nothing, word-of}
-use Rattle.regex_code.specs.Skips.{Skips}
+use Rattle.regex_code.specs.Flat.{flat, of-empty, of-then, of-or, of-upto, of-any, of-nothing, word-of, Word}
+use Rattle.regex_code.specs.Skips.{Skips, drop-min}
 use Rattle.regex_reader.proofs.Parts.{flat-behind, wrote-then}
 use Rattle.regex_chars.specs.Laws.{slice-end, encodeAll-none}
-use Rattle.regex_total.specs.Answers.{bytes, Matched, Widths}
+use Rattle.regex_total.specs.Answers.{Matched, Widths}
 use Rattle.regex_total.proofs.Parts.{slice-join, front-same}
-use Rattle.regex_needed.specs.Needed.{Alike, Goes, Written, Instead, once, repeated, Lessened, Asks, Word, Closes, Misses, Needed, Joint, Joins, Endless, Head, Headed}
+use Rattle.regex_needed.specs.Needed.{Alike, Goes, WroteInRoom, Instead, once, repeated, Lessened, Asks, Closes, Misses, Needed, Joint, Joins, Endless, Headed}
 use Rattle.regex_needed.specs.Needed.Needed.{all, none}
 use Rattle.regex_needed.specs.Needed.Endless.{zero as from-none, some as from-some}
 use Rattle.regex_needed.proofs.Alike.{alike-same, alike-on, alike-back, alike-join, alike-sum, alike-times, alike-once, alike-end, alike-none, alike-needed, alike-needed-any, alike-fold, alike-few, alike-endless}
 
 -- ---- words behind words
 
-pub put-none : (q : List ℕ) (to v : ℕ) → length q ≤ to → to ≤ length q + 1 → Written q to (v ∷ []) q (length q + 1)
+pub put-none : (q : List ℕ) (to v : ℕ) → length q ≤ to → to ≤ length q + 1 → WroteInRoom q to (v ∷ []) q (length q + 1)
 put-none q to v h k =
     record { goes = record { long = refl; from = k; most = le-refl _ }; is = λ l. absurd (omega arith) }
 
-pub put-one : (q : List ℕ) (to v : ℕ) → to < length q → Written q to (v ∷ []) (set q to v) (to + 1)
+pub put-one : (q : List ℕ) (to v : ℕ) → to < length q → WroteInRoom q to (v ∷ []) (set q to v) (to + 1)
 put-one q to v h =
     record { goes = record { long = length-set q to v; from = omega arith; most = omega arith }; is = λ l. (refl, record { is = refl }) }
 
@@ -42,11 +41,11 @@ pub goes-on : {q q1 q2 : List ℕ} {to e f : ℕ} → Goes q to q1 e → Goes q1
 goes-on a b =
     record { long = b .long ∙ a .long; from = omega (arith, a .from, b .from); most = omega (arith, b .most, a .long) }
 
-pub written-none : (q : List ℕ) (to : ℕ) → to ≤ length q + 1 → Written q to [] q to
+pub written-none : (q : List ℕ) (to : ℕ) → to ≤ length q + 1 → WroteInRoom q to [] q to
 written-none q to h = record { goes = goes-none q to h; is = λ l. (omega arith, record { is = refl }) }
 
 pub written-on :
-    {q q1 q2 : List ℕ} {to e f : ℕ} {c d : List ℕ} → Written q to c q1 e → Written q1 e d q2 f → Written q to (c ++ d) q2 f
+    {q q1 q2 : List ℕ} {to e f : ℕ} {c d : List ℕ} → WroteInRoom q to c q1 e → WroteInRoom q1 e d q2 f → WroteInRoom q to (c ++ d) q2 f
 written-on {q} {q1} {q2} {to} {e} {f} {c} {d} a b =
     record {
       goes = goes-on (a .goes) (b .goes);
@@ -63,8 +62,8 @@ asks-on a g = record { short = a .short; place = omega (arith, g .most, g .long)
 
 -- one more word of the code
 pub copy-more :
-    (s : List ℕ) (i from : ℕ) {q q1 q2 : List ℕ} {to e f : ℕ} → from ≤ i → i < length s → Written q to (slice from i s) q1 e
-    → Written q1 e (getD s i 0 ∷ []) q2 f → Written q to (slice from (i + 1) s) q2 f
+    (s : List ℕ) (i from : ℕ) {q q1 q2 : List ℕ} {to e f : ℕ} → from ≤ i → i < length s → WroteInRoom q to (slice from i s) q1 e
+    → WroteInRoom q1 e (getD s i 0 ∷ []) q2 f → WroteInRoom q to (slice from (i + 1) s) q2 f
 copy-more s i from {q} {q1} {q2} {to} {e} {f} h k a b =
     let z : i + 1 ≡ suc i = omega arith in
     let c : slice i (suc i) s ≡ getD s i 0 ∷ slice (suc i) (suc i) s = slice-cons i (suc i) s 0 (omega arith) (omega arith) in
@@ -73,18 +72,6 @@ copy-more s i from {q} {q1} {q2} {to} {e} {f} h k a b =
     rw (z, g) (written-on a b)
 
 -- ---- the code as it is
-
-drop-min : (s : List ℕ) (n : ℕ) → drop (min n (length s)) s ≡ drop n s
-drop-min s n = go (leb n (length s)) refl
-  where
-    go : (b : Bool) → leb n (length s) ≡ b → drop (min n (length s)) s ≡ drop n s
-    go true e = let h = leb-true n (length s) e in let k : min n (length s) ≡ n = omega arith in rw k
-    go false e =
-        let h = leb-false n (length s) e in
-        let k : min n (length s) ≡ length s = omega arith in
-        let i : length s ≤ length s = omega arith in
-        let j : length s ≤ n = omega arith in
-        rw k (drop-of-length-le s i ∙ sym (drop-of-length-le s j))
 
 words-of :
     (s : List ℕ) (at m : ℕ) → at ≤ m → m ≤ length s → (x : Regexp) (r : List ℕ) → drop at s ≡ flat x r → drop m s ≡ r
@@ -95,7 +82,7 @@ words-of s at m h k x r e f =
     ∙ flat-behind x r)
 
 pub as-it-is :
-    {s q q' : List ℕ} {at n m to e k : ℕ} → at < length s → Skips s at n → m ≡ min n (length s) → Written q to (slice at m s) q' e
+    {s q q' : List ℕ} {at n m to e k : ℕ} → at < length s → Skips s at n → m ≡ min n (length s) → WroteInRoom q to (slice at m s) q' e
     → Lessened s at once k q to q' n e
 as-it-is {s} {q} {q'} {at} {n} {m} {to} {e} {k} h j z w =
     record {
@@ -106,13 +93,13 @@ as-it-is {s} {q} {q'} {at} {n} {m} {to} {e} {k} h j z w =
           let d = j .rest x r c in
           let f : drop m s ≡ r = ap (λ i. drop i s) z ∙ drop-min s n ∙ d in
           let g : slice at m s ≡ flat x [] = words-of s at m (omega (arith, j .from)) (omega arith) x r c f in
-          (d, record { expr = x; written = subst (λ l. Written q to l q' e) g w; alike = alike-same });
+          (d, record { expr = x; written = subst (λ l. WroteInRoom q to l q' e) g w; alike = alike-same });
     }
 
 -- ---- nothing, an end, and a lower end
 
 pub no-text :
-    {s q q' : List ℕ} {at n to e k : ℕ} → Misses s at k → Skips s at n → Written q to (1 ∷ 0 ∷ 0 ∷ []) q' e
+    {s q q' : List ℕ} {at n to e k : ℕ} → Misses s at k → Skips s at n → WroteInRoom q to (1 ∷ 0 ∷ 0 ∷ []) q' e
     → Lessened s at once k q to q' n e
 no-text {s} {q} {q'} {at} {n} {to} {e} {k} m j w =
     record {
@@ -224,7 +211,7 @@ head-once {s} {q} {at} {lo} {hi} {n} {to} a b h =
     }
 
 pub head-endless :
-    {s q q' : List ℕ} {at lo hi n to e next m top : ℕ} → Widths s at next m top → Endless lo hi m n → Written q to (5 ∷ lo ∷ []) q' e
+    {s q q' : List ℕ} {at lo hi n to e next m top : ℕ} → Widths s at next m top → Endless lo hi m n → WroteInRoom q to (5 ∷ lo ∷ []) q' e
     → Headed s at lo hi n q to q' e
 head-endless {s} {q} {q'} {at} {lo} {hi} {n} {to} {e} {next} {m} {top} p g w =
     record {
@@ -240,7 +227,7 @@ head-endless {s} {q} {q'} {at} {lo} {hi} {n} {to} {e} {next} {m} {top} p g w =
           };
     }
 
-pub head-counted : {s q q' : List ℕ} {at lo hi n to e : ℕ} → Written q to (4 ∷ lo ∷ hi ∷ []) q' e → Headed s at lo hi n q to q' e
+pub head-counted : {s q q' : List ℕ} {at lo hi n to e : ℕ} → WroteInRoom q to (4 ∷ lo ∷ hi ∷ []) q' e → Headed s at lo hi n q to q' e
 head-counted {s} {q} {q'} {at} {lo} {hi} {n} {to} {e} w =
     record {
       goes = w .goes;
@@ -292,7 +279,7 @@ module _ {s : List ℕ} {at lo hi n : ℕ} {q : List ℕ} {to : ℕ} where
                 o .0,
                 record {
                   expr = i .wrap y;
-                  written = subst (λ l. Written q to l q' end) (sym (i .code y)) (written-on (i .written) (o .1 .written));
+                  written = subst (λ l. WroteInRoom q to l q' end) (sym (i .code y)) (written-on (i .written) (o .1 .written));
                   alike = i .alike y (o .1 .alike);
                 },
               );
@@ -339,7 +326,7 @@ module _ {s : List ℕ} {at lo hi n : ℕ} {q : List ℕ} {to : ℕ} where
 
 module _ {s : List ℕ} {at n : ℕ} {q q1 q2 : List ℕ} {to e f next : ℕ} where
   pub plain-least :
-      {k l : ℕ} → Word s at 5 → k ≡ getD s (at + 1) 0 → Needed s (at + 2) k k l → Written q to (5 ∷ l ∷ []) q1 e
+      {k l : ℕ} → Word s at 5 → k ≡ getD s (at + 1) 0 → Needed s (at + 2) k k l → WroteInRoom q to (5 ∷ l ∷ []) q1 e
       → Lessened s (at + 2) (repeated 1 1) n q1 e q2 next f → Lessened s at once n q to q2 next f
   plain-least {k} {l} d z m w p =
       record {
@@ -365,15 +352,15 @@ module _ {s : List ℕ} {at n : ℕ} {q q1 q2 : List ℕ} {to e f next : ℕ} wh
             x r (sym (word s at (d .here)) ∙ c);
       }
 
-  module _ {q3 : List ℕ} {g next2 : ℕ} {k : ℕ} (d : Word s at k) (w : Written q to (k ∷ []) q1 e)
+  module _ {q3 : List ℕ} {g next2 : ℕ} {k : ℕ} (d : Word s at k) (w : WroteInRoom q to (k ∷ []) q1 e)
       (a : Lessened s (at + 1) (repeated 1 1) n q1 e q2 next f) (b : Lessened s next (repeated 1 1) n q2 f q3 next2 g) where
     itself : {P Q : List ℕ → Type 0} → Alike n (repeated 1 1 P) Q → Alike n P Q
     itself h = alike-on (alike-back (alike-once _)) h
 
     both-written :
-        (x y : Regexp) → Written q1 e (flat x []) q2 f → Written q2 f (flat y []) q3 g → Written q to (k ∷ flat x (flat y [])) q3 g
+        (x y : Regexp) → WroteInRoom q1 e (flat x []) q2 f → WroteInRoom q2 f (flat y []) q3 g → WroteInRoom q to (k ∷ flat x (flat y [])) q3 g
     both-written x y i j =
-        subst (λ l. Written q to (k ∷ l) q3 g) (sym (flat-behind x (flat y []))) (written-on (written-on w i) j)
+        subst (λ l. WroteInRoom q to (k ∷ l) q3 g) (sym (flat-behind x (flat y []))) (written-on (written-on w i) j)
 
     plain-then : k ≡ 2 → Lessened s at once n q to q3 next2 g
     plain-then z =
@@ -389,7 +376,7 @@ module _ {s : List ℕ} {at n : ℕ} {q q1 q2 : List ℕ} {to e f next : ℕ} wh
                 record {
                   expr = then (i .1 .expr) (j .1 .expr);
                   written =
-                      subst (λ h. Written q to (h ∷ flat (i .1 .expr) (flat (j .1 .expr) [])) q3 g) z
+                      subst (λ h. WroteInRoom q to (h ∷ flat (i .1 .expr) (flat (j .1 .expr) [])) q3 g) z
                       (both-written (i .1 .expr) (j .1 .expr) (i .1 .written) (j .1 .written));
                   alike = alike-join (itself (i .1 .alike)) (itself (j .1 .alike));
                 },
@@ -411,7 +398,7 @@ module _ {s : List ℕ} {at n : ℕ} {q q1 q2 : List ℕ} {to e f next : ℕ} wh
                 record {
                   expr = or (i .1 .expr) (j .1 .expr);
                   written =
-                      subst (λ h. Written q to (h ∷ flat (i .1 .expr) (flat (j .1 .expr) [])) q3 g) z
+                      subst (λ h. WroteInRoom q to (h ∷ flat (i .1 .expr) (flat (j .1 .expr) [])) q3 g) z
                       (both-written (i .1 .expr) (j .1 .expr) (i .1 .written) (j .1 .written));
                   alike = alike-sum (itself (i .1 .alike)) (itself (j .1 .alike));
                 },

@@ -1,9 +1,8 @@
 -- What is written in place of an expression for texts of at most n bytes. Assumes nothing: these are definitions.
 use mathlib.Core.Path.{_≡_}
 use mathlib.Core.List.{List, [], _∷_, _++_}
-use mathlib.Core.Logic.{_⊎_}
-use Prim.Native.Nat.{ℕ, _+_, _*_, _^_, _≤_, _<_}
-use lib.ListN.{length, drop, getD}
+use Prim.Native.Nat.{ℕ, _+_, _*_, _^_, _≤_}
+use lib.ListN.{length, drop}
 use Rattle.basics.specs.Reads.{Wrote}
 use Rattle.regex_definition.specs.Words.{Times, upto}
 use Rattle.regex_definition.specs.Regexp.{Regexp, Describes}
@@ -22,14 +21,14 @@ pub record Goes (q : List ℕ) (to : ℕ) (q' : List ℕ) (end : ℕ) : Type 0 w
   pub most : end ≤ length q + 1
 
 -- the words c are written from a place on, if there is room for them
-pub record Written (q : List ℕ) (to : ℕ) (c : List ℕ) (q' : List ℕ) (end : ℕ) : Type 0 where
+pub record WroteInRoom (q : List ℕ) (to : ℕ) (c : List ℕ) (q' : List ℕ) (end : ℕ) : Type 0 where
   pub goes : Goes q to q' end
   pub is : end ≤ length q → (end ≡ to + length c) × Wrote q to c q'
 
 -- an expression is written that describes the short texts of P
 pub record Instead (n : ℕ) (P : List ℕ → Type 0) (q : List ℕ) (to : ℕ) (q' : List ℕ) (end : ℕ) : Type 0 where
   pub expr : Regexp
-  pub written : Written q to (flat expr []) q' end
+  pub written : WroteInRoom q to (flat expr []) q' end
   pub alike : Alike n P (Describes expr)
 
 -- the texts of a part itself, and of a part from lo to hi times
@@ -49,11 +48,6 @@ pub record Lessened (s : List ℕ) (at : ℕ) (F : (List ℕ → Type 0) → Lis
 pub record Asks (t q : List ℕ) (to : ℕ) : Type 0 where
   pub short : length t ≤ 2 ^ 31
   pub place : to ≤ length q + 1
-
--- the word at a place
-pub record Word (s : List ℕ) (at k : ℕ) : Type 0 where
-  pub here : at < length s
-  pub is : getD s at 0 ≡ k
 
 -- behind the part at `at` stands the empty expression
 pub record Closes (s : List ℕ) (at : ℕ) : Type 0 where
@@ -89,7 +83,7 @@ pub record Head (lo hi n : ℕ) (P : List ℕ → Type 0) (q : List ℕ) (to : �
   pub wrap : Regexp → Regexp
   pub code : (y : Regexp) → flat (wrap y) [] ≡ words ++ flat y []
   pub alike : (y : Regexp) → Alike n P (Describes y) → Alike n (repeated lo hi P) (Describes (wrap y))
-  pub written : Written q to words q' end
+  pub written : WroteInRoom q to words q' end
 
 pub record Headed (s : List ℕ) (at lo hi n : ℕ) (q : List ℕ) (to : ℕ) (q' : List ℕ) (end : ℕ) : Type 0 where
   pub goes : Goes q to q' end

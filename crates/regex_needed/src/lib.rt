@@ -15,7 +15,8 @@ ghost use mathlib.Core.List.{[], _∷_};
 ghost use Prim.Native.Nat.{_+_, _*_, _≤_, _<_, _^_, min};
 ghost use lib.ListN.{length};
 ghost use lib.Seq.{slice};
-ghost use Rattle.regex_needed.specs.Needed.{Written, Lessened, once, repeated, Asks, Word, Closes, Misses, Needed, Joins, Endless, Headed};
+ghost use Rattle.regex_needed.specs.Needed.{WroteInRoom, Lessened, once, repeated, Asks, Closes, Misses, Needed, Joins, Endless, Headed};
+ghost use Rattle.regex_code.specs.Flat.{Word};
 
 // The places behind what was read, and behind what was written. One more than the room has says that it is too small.
 pub struct Part {
@@ -39,7 +40,7 @@ fn lesser(a: usize, b: usize) -> usize
 // Writes a word, and answers the place behind it.
 fn put(out: &mut [u32], to: usize, v: u32) -> usize
     requires { ⌜ to ≤ length (now out) + 1 ⌝ }
-    ensures { λ r. ⌜ Written (now (out .entry)) to (v ∷ []) (now (out .exit)) r ⌝ }
+    ensures { λ r. ⌜ WroteInRoom (now (out .entry)) to (v ∷ []) (now (out .exit)) r ⌝ }
 {
     if out.len() <= to {
         return out.len() + 1;
@@ -51,7 +52,7 @@ fn put(out: &mut [u32], to: usize, v: u32) -> usize
 // Writes the words from..end of the code.
 fn copy(code: &[u32], from: usize, end: usize, out: &mut [u32], to: usize) -> usize
     requires { ⌜ (from ≤ end) × (end ≤ length (now code)) × (to ≤ length (now out) + 1) ⌝ }
-    ensures { λ r. ⌜ Written (now (out .entry)) to (slice from end (now (code .entry))) (now (out .exit)) r ⌝ }
+    ensures { λ r. ⌜ WroteInRoom (now (out .entry)) to (slice from end (now (code .entry))) (now (out .exit)) r ⌝ }
 {
     let mut i = from;
     let mut e = to;

@@ -1,12 +1,12 @@
 -- To which places the words of a set lead. The laws hold for any sets of words and of places. Assumes nothing.
 use mathlib.Core.Path.{_≡_, refl, ap, sym, _∙_, subst}
-use mathlib.Core.List.{List, [], _∷_, _++_}
-use mathlib.Core.Logic.{_⊎_, inl, inr, ⊎-elim}
-use Prim.Native.Nat.{ℕ, zero, suc, _+_, _-_, _≤_, _<_, zero-le}
+use mathlib.Core.List.{List, [], _++_}
+use mathlib.Core.Logic.{_⊎_, inl, inr}
+use Prim.Native.Nat.{ℕ, zero, suc, _+_, _-_, _≤_, zero-le}
 use native.Mathlib.Omega.{arith}
 use lib.ListN.{length, length-append}
 use lib.Seq.{slice, length-slice}
-use Rattle.regex_definition.specs.Words.{Join, Row, Times, upto, any}
+use Rattle.regex_definition.specs.Words.{Join, Row, Times, upto}
 use Rattle.regex_chars.specs.Laws.{nil-slice, slice-nil}
 use Rattle.regex_total.proofs.Parts.{slice-join, append-same}
 use Rattle.regex_places.specs.Places.{Reach}

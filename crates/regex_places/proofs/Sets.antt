@@ -2,19 +2,19 @@
 use mathlib.Core.Path.{_≡_, refl, ap, sym, _∙_, subst}
 use mathlib.Core.Bool.{Bool, true, false, false≢true}
 use mathlib.Core.List.{List, [], _∷_}
-use mathlib.Core.Logic.{_⊎_, inl, inr, ⊎-elim}
+use mathlib.Core.Logic.{inl, inr, ⊎-elim}
 use Prim.Native.Nat.{ℕ, zero, suc, _+_, _-_, _≤_, _<_}
 use native.Mathlib.Omega.{arith}
 use borrow.Author.Tests.{eqb-true, eqb-false}
 use lib.Dec.{eqb}
 use lib.ListN.{length, set, drop, getD, length-set}
-use lib.Seq.{slice, slice-cons, slice-empty, getD-set-same, getD-set-other}
+use lib.Seq.{slice-cons, slice-empty, getD-set-same, getD-set-other}
 use Rattle.basics.specs.Lists.{drop-at as word}
-use Rattle.regex_definition.specs.Regexp.{Regexp, Range, One, hits, Describes, class}
-use Rattle.regex_code.specs.Flat.{flat, flag, flatRanges, of-class}
+use Rattle.regex_definition.specs.Regexp.{Range, One, hits, Describes}
+use Rattle.regex_code.specs.Flat.{flag, flatRanges, of-class, Word}
 use Rattle.regex_chars.specs.Laws.{slice-first, slice-nil}
 use Rattle.regex_chars.specs.Classes.{Hits}
-use Rattle.regex_places.specs.Places.{Reach, In, Image, Fits, Reached, once, Word, Moves, Moving, Same, Adds, Both, None, IsRow}
+use Rattle.regex_places.specs.Places.{Reach, In, Image, Reached, once, Moves, Moving, Same, Adds, Both, None, IsRow}
 use Rattle.regex_places.specs.Places.Adds.{was, new}
 
 -- a decision on two numbers

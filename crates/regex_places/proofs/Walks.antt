@@ -1,9 +1,9 @@
 -- The places to which an expression leads, by the expression's parts. Assumes nothing.
 use mathlib.Core.Path.{_≡_, refl, ap, sym, _∙_, subst}
 use mathlib.Core.Bool.{Bool, true, false, not}
-use mathlib.Core.List.{List, [], _∷_, _++_}
+use mathlib.Core.List.{List, [], _∷_}
 use mathlib.Core.Logic.{_⊎_, inl, inr, ⊎-elim}
-use Prim.Native.Nat.{ℕ, zero, suc, _+_, _-_, _≤_, _<_, zero-le}
+use Prim.Native.Nat.{ℕ, suc, _+_, _-_, _≤_, _<_, zero-le}
 use native.Mathlib.Omega.{arith}
 use native.Mathlib.Nat.{le-refl}
 use borrow.Author.Tests.{eqb-true, eqb-false}
@@ -14,12 +14,11 @@ use Rattle.regex_chars.specs.Laws.{slice-end}
 use Rattle.basics.specs.Lists.{drop-at as word}
 use Rattle.regex_definition.specs.Words.{Join, Row, Times, upto, any, Told, holds, fails}
 use Rattle.regex_definition.specs.Laws.{row-add, row-split, times-split, times-join}
-use Rattle.regex_definition.specs.Regexp.{Regexp, empty, class, then, or, times, Describes}
-use Rattle.regex_code.specs.Flat.{flat, head, of-empty, of-then, of-or, of-upto, of-any, of-other, of-nothing, word-of}
+use Rattle.regex_definition.specs.Regexp.{Regexp, Describes}
+use Rattle.regex_code.specs.Flat.{flat, of-empty, of-then, of-or, of-upto, of-any, of-short, of-other, of-nothing, word-of, Word}
 use Rattle.regex_code.specs.Skips.{Skips}
 use Rattle.regex_total.proofs.Count.{any-upto, upto-any, upto-more}
-use Rattle.regex_total.proofs.Steps.{some-code}
-use Rattle.regex_places.specs.Places.{Reach, In, Image, Fits, Reached, once, rows, most, Word, IsRow, Same, Both, None, Wider, Left, Rest, Row-left, Placed}
+use Rattle.regex_places.specs.Places.{Reach, In, Image, Fits, Reached, once, rows, most, IsRow, Same, Both, None, Wider, Left, Rest, Row-left, Placed}
 use Rattle.regex_places.proofs.Sets.{same-or-not}
 use Rattle.regex_places.proofs.Reaching.{reach-map, reach-empty, empty-reach, reach-then, then-reach, closed-times, times-grow, grow-times}
 
@@ -75,20 +74,16 @@ module _ {s : List ℕ} {at : ℕ} {t ms : List ℕ} where
         of = λ x r e. of-empty (λ x r. Image t (Describes x) ms ms) _ _ z (λ r e. image-empty) x r (sym (word s at p) ∙ e);
       }
 
-  module _ (p : at < length s) (n0 : getD s at 0 ≡ 0 → ⊥) (n1 : getD s at 0 ≡ 1 → ⊥) (n2 : getD s at 0 ≡ 2 → ⊥) (n3 : getD s at 0 ≡ 3 → ⊥) where
-    pub too-short : length s - at < 3 → Reached s at t once ms ms
-    too-short h = record { long = refl; of = λ x r e. go x r (sym (word s at p) ∙ e) (sym (length-drop at s) ∙ ap length e) }
-      where
-        go :
-            (x : Regexp) (r : List ℕ) → getD s at 0 ∷ drop (at + 1) s ≡ flat x r → length s - at ≡ length (flat x r)
-            → Image t (Describes x) ms ms
-        go empty r e l = absurd (n0 (head e))
-        go (class comp gs) r e l = absurd (n1 (head e))
-        go (then x y) r e l = absurd (n2 (head e))
-        go (or x y) r e l = absurd (n3 (head e))
-        go (times lo (upto n) x) r e l = absurd (omega arith)
-        go (times lo any x) r e l = absurd (omega (arith, some-code x r))
+  pub too-short : at < length s → 3 < getD s at 0 → length s - at < 3 → Reached s at t once ms ms
+  too-short p g h =
+      record {
+        long = refl;
+        of =
+            λ x r e. of-short (λ x r. Image t (Describes x) ms ms) _ _ g (omega (arith, length-drop (at + 1) s)) x r
+            (sym (word s at p) ∙ e);
+      }
 
+  module _ (p : at < length s) (n0 : getD s at 0 ≡ 0 → ⊥) (n1 : getD s at 0 ≡ 1 → ⊥) (n2 : getD s at 0 ≡ 2 → ⊥) (n3 : getD s at 0 ≡ 3 → ⊥) where
     pub no-word : (getD s at 0 ≡ 4 → ⊥) → (getD s at 0 ≡ 5 → ⊥) → Reached s at t once ms ms
     no-word n4 n5 =
         record {

@@ -3,12 +3,12 @@ use mathlib.Core.Path.{_≡_}
 use mathlib.Core.Bool.{Bool, true, false}
 use mathlib.Core.List.{List, [], _∷_}
 use mathlib.Core.Logic.{_⊎_}
-use Prim.Native.Nat.{ℕ, _+_, _-_, _≤_, _<_}
+use Prim.Native.Nat.{ℕ, _+_, _≤_, _<_}
 use lib.ListN.{length, set, drop, getD}
 use lib.Seq.{slice}
 use Rattle.regex_definition.specs.Words.{Row, Times, upto, Told}
 use Rattle.regex_definition.specs.Regexp.{Range, Regexp, hits, Describes}
-use Rattle.regex_code.specs.Flat.{flat, flag, flatRanges}
+use Rattle.regex_code.specs.Flat.{flat, flag, flatRanges, Word}
 
 pub record Reach (t : List ℕ) (P : List ℕ → Type 0) (S : ℕ → Type 0) (j : ℕ) : Type 0 where
   pub from : ℕ
@@ -44,11 +44,6 @@ rows n P = Row P n
 
 abbrev pub most : ℕ → (List ℕ → Type 0) → List ℕ → Type 0
 most h P = Times 0 (upto h) P
-
--- the word at a place
-pub record Word (s : List ℕ) (at k : ℕ) : Type 0 where
-  pub here : at < length s
-  pub is : getD s at 0 ≡ k
 
 -- whether the word at a place is 2
 pub record IsRow (s : List ℕ) (at : ℕ) (b : Bool) : Type 0 where

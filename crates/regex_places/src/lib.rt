@@ -7,7 +7,8 @@ ghost use mathlib.Core.Path.{_≡_};
 ghost use mathlib.Core.Bool.{true, false};
 ghost use Prim.Native.Nat.{_+_, _≤_, _<_};
 ghost use lib.ListN.{length, getD};
-ghost use Rattle.regex_places.specs.Places.{Fits, Word, IsRow, Reached, once, rows, most, Moves, Same, Adds, Both, None, Wider, Placed};
+ghost use Rattle.regex_places.specs.Places.{Fits, IsRow, Reached, once, rows, most, Moves, Same, Adds, Both, None, Wider, Placed};
+ghost use Rattle.regex_code.specs.Flat.{Word};
 
 // A text has fewer characters: its places and its end are as many bytes.
 pub const PLACES: usize = 1024;

@@ -10,7 +10,7 @@ use lib.Dec.{eqb, leb}
 use lib.ListN.{length, drop, getD}
 use Rattle.regex_definition.specs.Chars.{within}
 use Rattle.regex_definition.specs.Words.{Join, Times, any}
-use Rattle.regex_definition.specs.Regexp.{Regexp, Range, class, then, One, Describes}
+use Rattle.regex_definition.specs.Regexp.{Regexp, Range, then, One, Describes}
 use Rattle.regex_definition.specs.Laws.{join, join-map, join-left, nil-join}
 use Rattle.regex_definition.specs.Scope.{anything-all}
 use Rattle.regex_code.specs.Flat.{flat, flag, flatRanges, of-empty, of-class, of-then, of-any, word-of}

@@ -3,9 +3,8 @@ use Prim.Native.Nat.{ℕ, zero, suc, _+_, _-_, _*_, _≤_, _<_}
 use mathlib.Core.Path.{_≡_, refl, ap, sym, _∙_, subst}
 use mathlib.Core.Bool.{Bool, true, false, false≢true, true≢false}
 use mathlib.Core.List.{List, [], _∷_, _++_, append-nil, append-assoc}
-use mathlib.Core.Logic.{_⊎_, ⊎-elim}
+use mathlib.Core.Logic.{⊎-elim}
 use native.Mathlib.Omega.{arith}
-use borrow.Author.Tests.{eqb-true, eqb-false}
 use lib.Dec.{eqb}
 use lib.ListN.{length, drop, getD, drop-of-length-le}
 use lib.Seq.{drop-append-seam}
@@ -16,15 +15,9 @@ use Rattle.regex_definition.specs.Regexp.{Describes}
 use Rattle.regex_definition.specs.Laws.{join-cons, cons-join, nil-join, join-nil, join-map}
 use Rattle.regex_definition.specs.Agree.{told}
 use Rattle.regex_chars.specs.Chars.{Stands}
-use Rattle.regex_chars.specs.Laws.{slice-end, slice-nil, nil-slice, encodeAll-none, encodeAll-cons, encodeAll-nil}
-use Rattle.regex_plain.specs.Rows.{letters, Every, Front, Spells, Begins, Whole, Found, Sought, Plainly, Known}
-
-eqb-told : (a b : ℕ) → Told (a ≡ b) (eqb a b)
-eqb-told a b = go (eqb a b) refl
-  where
-    go : (t : Bool) → eqb a b ≡ t → Told (a ≡ b) t
-    go true e = holds (eqb-true a b e)
-    go false e = fails (eqb-false a b e)
+use Rattle.regex_chars.specs.Laws.{slice-end, slice-nil, nil-slice, encodeAll-none, encodeAll-cons, encodeAll-nil, Spells}
+use Rattle.regex_plain.specs.Rows.{letters, Every, Front, Begins, Whole, Found, Sought, Plainly, Known}
+use Rattle.regex_code.specs.Tests.{eqb-told}
 
 -- lists with one front that are equal go on alike
 append-left : (u v k : List ℕ) → u ++ v ≡ u ++ k → v ≡ k

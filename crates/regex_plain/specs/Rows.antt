@@ -5,11 +5,11 @@ use mathlib.Core.Path.{_≡_}
 use mathlib.Core.Bool.{Bool, true, false}
 use mathlib.Core.List.{List, [], _∷_, _++_}
 use lib.ListN.{length, drop, getD}
-use lib.Seq.{slice}
 use Rattle.definition.specs.Utf8.{encodeAll}
 use Rattle.regex_definition.specs.Words.{Join, Told}
 use Rattle.regex_definition.specs.Regexp.{Regexp, Describes}
 use Rattle.regex_code.specs.Flat.{flat}
+use Rattle.regex_chars.specs.Laws.{Spells}
 
 -- n characters from `at` on
 abbrev pub letters : List ℕ → ℕ → ℕ → List ℕ
@@ -46,10 +46,6 @@ Every w = Unit {0}
 
 abbrev pub Front : List ℕ → List ℕ → Type 0
 Front l w = Join (λ u. u ≡ l) Every w
-
--- the bytes from..to of t are those of the text w
-abbrev pub Spells : List ℕ → ℕ → ℕ → List ℕ → Type 0
-Spells t from to w = slice from to t ≡ encodeAll w
 
 -- behind n characters of x stands what is left of it
 pub record Past (s : List ℕ) (at n i : ℕ) (x : Regexp) (r : List ℕ) : Type 0 where

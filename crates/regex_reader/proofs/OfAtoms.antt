@@ -3,7 +3,7 @@ use mathlib.Core.Path.{_≡_, refl, sym, _∙_}
 use mathlib.Core.Bool.{Bool, true, false, _||_}
 use mathlib.Core.List.{List, [], _∷_}
 use mathlib.Core.Option.{Option, some}
-use Prim.Native.Nat.{ℕ, _+_, _-_, _≤_, _<_}
+use Prim.Native.Nat.{ℕ, _+_, _≤_, _<_}
 use native.Mathlib.Omega.{arith}
 use lib.Dec.{eqb}
 use lib.ListN.{length, drop, getD, drop-of-length-le}
@@ -21,7 +21,7 @@ use Rattle.regex_reader.specs.Reads.{Post, PutChar, Repeats, outClass, o
 use Rattle.regex_reader.specs.Reads.Post.{next, stop}
 use Rattle.regex_reader.specs.Reads.PutChar.{next as put-next, stop as put-stop}
 use Rattle.regex_reader.specs.Reads.Repeats.{endless, bounded}
-use Rattle.regex_reader.specs.declared.steps.State.{State}
+use Rattle.regex_reader.specs.declared.steps.Cursor.{Cursor}
 use Rattle.regex_reader.specs.declared.steps.Step.{Step}
 use Rattle.regex_reader.specs.declared.steps.Step.the-variants as step
 use Rattle.regex_reader.proofs.Parts.{same-post}
@@ -107,7 +107,7 @@ module _ (s p : List ℕ) (at len : ℕ) where
 
 -- ---- repeats
 
-module _ {p : List ℕ} {from : ℕ} (n : State) (h : from ≤ n .len) where
+module _ {p : List ℕ} {from : ℕ} (n : Cursor) (h : from ≤ n .len) where
   pub repeat-endless : (b lo : ℕ) {p' q : List ℕ} → Inserted p from (n .len) lo p' → Inserted p' from (n .len + 1) 5 q
       → Repeats p q from n (quant.Least b lo) (step.Next (record { at = b; len = n .len + 2 }))
   repeat-endless b lo i j = endless b lo (λ p₀ c w l. j .is p₀ (lo ∷ c) (i .is p₀ c w l) (omega arith))

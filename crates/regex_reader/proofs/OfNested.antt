@@ -22,7 +22,7 @@ use Rattle.regex_reader.specs.Reads.{Room, Read, Post, Repeats, outLeaf,
 use Rattle.regex_reader.specs.Reads.Post.{next, stop}
 use Rattle.regex_reader.specs.Reads.Repeats.{once, endless, bounded, stop as repeat-none}
 use Rattle.regex_reader.specs.Reads.ReadsWhole.{code, outside}
-use Rattle.regex_reader.specs.declared.steps.State.{State}
+use Rattle.regex_reader.specs.declared.steps.Cursor.{Cursor}
 use Rattle.regex_reader.specs.declared.steps.Step.{Step}
 use Rattle.regex_reader.specs.declared.steps.Step.the-variants as step
 use Rattle.regex_reader.specs.declared.nested.Reading.the-variants as reading
@@ -31,10 +31,10 @@ use Rattle.regex_reader.proofs.OfAtoms.{stops-end}
 use Rattle.basics.specs.Lists.{drop-at}
 
 -- what an answer that is given says
-pub read-is : {out : ℕ → Option (Regexp × List ℕ)} {j k : ℕ} {s p q : List ℕ} {a b : State} → Post out j k s p q a (step.Next b) → Read out j k s p q a b
+pub read-is : {out : ℕ → Option (Regexp × List ℕ)} {j k : ℕ} {s p q : List ℕ} {a b : Cursor} → Post out j k s p q a (step.Next b) → Read out j k s p q a b
 read-is (next b d) = d
 
-pub read-none : {out : ℕ → Option (Regexp × List ℕ)} {j k : ℕ} {s p q : List ℕ} {a : State} → Post out j k s p q a step.Stop → (n : ℕ) → 4 * (length s - a .at) + j ≤ n → out n ≡ none
+pub read-none : {out : ℕ → Option (Regexp × List ℕ)} {j k : ℕ} {s p q : List ℕ} {a : Cursor} → Post out j k s p q a step.Stop → (n : ℕ) → 4 * (length s - a .at) + j ≤ n → out n ≡ none
 read-none (stop o) = o
 
 -- ---- an atom
@@ -74,7 +74,7 @@ module _ (s p : List ℕ) (at len : ℕ) where
         → {q' : List ℕ} → Post (outAtom s (record { at = at; len = len })) 1 0 s p q' (record { at = at; len = len }) step.Stop
     atom-none o = stop (λ n l. let m = group-steps n l in m .2 ∙ rw (read-none o (m .0) (m .1)) refl)
 
-    module _ {q : List ℕ} {b : State} (d : Read (outAlternatives s (record { at = at + 1; len = len })) 4 2 s p q (record { at = at + 1; len = len }) b) where
+    module _ {q : List ℕ} {b : Cursor} (d : Read (outAlternatives s (record { at = at + 1; len = len })) 4 2 s p q (record { at = at + 1; len = len }) b) where
       pub atom-group : {u : Bool} → Is s (b .at) 0x29 u → u ≡ true
           → Post (outAtom s (record { at = at; len = len })) 1 0 s p q (record { at = at; len = len }) (step.Next (record { at = b .at + 1; len = b .len }))
       atom-group c f =
@@ -106,7 +106,7 @@ module _ (s p : List ℕ) (at len : ℕ) where
       → {q' : List ℕ} → Post (outPiece s (record { at = at; len = len })) 2 0 s p q' (record { at = at; len = len }) step.Stop
   piece-none o = stop (λ n l. let m = piece-steps n l in m .2 ∙ rw (read-none o (m .0) (m .1)) refl)
 
-  module _ {q : List ℕ} {b : State} (d : Read (outAtom s (record { at = at; len = len })) 1 0 s p q (record { at = at; len = len }) b) where
+  module _ {q : List ℕ} {b : Cursor} (d : Read (outAtom s (record { at = at; len = len })) 1 0 s p q (record { at = at; len = len }) b) where
     size : length (flat (d .expr) []) ≡ b .len - len
     size = omega (arith, d .grown)
 
@@ -149,7 +149,7 @@ module _ (s p : List ℕ) (at len : ℕ) where
 -- ---- a branch
 
 -- from the place of a to `at` stand pieces: what is still to be read is handed to `fill`, and their words are `done`
-pub record Branching (s p : List ℕ) (a : State) (q : List ℕ) (at len : ℕ) : Type 0 where
+pub record Branching (s p : List ℕ) (a : Cursor) (q : List ℕ) (at len : ℕ) : Type 0 where
   pub fill : Regexp → Regexp
   pub done : List ℕ
   pub codes : (x : Regexp) → flat (fill x) [] ≡ done ++ flat x []
@@ -160,7 +160,7 @@ pub record Branching (s p : List ℕ) (a : State) (q : List ℕ) (at len : ℕ) 
   pub cost : len ≤ a .len + 8 * (at - a .at)
   pub buf : Wrote p (a .len) done q
 
-pub branching-none : (s p : List ℕ) (a : State) → a .at ≤ length s → Branching s p a p (a .at) (a .len)
+pub branching-none : (s p : List ℕ) (a : Cursor) → a .at ≤ length s → Branching s p a p (a .at) (a .len)
 branching-none s p a h =
     record {
       fill = λ x. x;
@@ -182,7 +182,7 @@ begun s at e = by (ltb at (length s)) refl
     by true t = ltb-true at (length s) t
     by false f = absurd (let z = sym (stops-end s at (ltb-false at (length s) f)) ∙ e in let n : _≡_ {A = ℕ} 1 0 = ap (λ b. cond b 1 0) z in omega arith)
 
-module _ {s p : List ℕ} {a : State} {q : List ℕ} {at len : ℕ} (g : Branching s p a q at len) where
+module _ {s p : List ℕ} {a : Cursor} {q : List ℕ} {at len : ℕ} (g : Branching s p a q at len) where
   end-steps : (n : ℕ) → stops (drop at s) ≡ true → 4 * (length s - at) + 3 ≤ n → readBranch n (g .fill) (drop at s) ≡ some (g .fill empty, drop at s)
   unfolding readBranch
   end-steps zero e l = absurd (omega arith)
@@ -215,7 +215,7 @@ module _ {s p : List ℕ} {a : State} {q : List ℕ} {at len : ℕ} (g : Branchi
     branch-none o =
         stop (λ n l. let m = g .is n l in let k = more-steps (m .0) e (m .1) in m .2 ∙ k .2 ∙ rw (read-none o (k .0) (k .1)) refl)
 
-    pub branch-more : {q' : List ℕ} {b : State} → Read (outPiece s (record { at = at; len = len + 1 })) 2 0 s (set q len 2) q' (record { at = at; len = len + 1 }) b
+    pub branch-more : {q' : List ℕ} {b : Cursor} → Read (outPiece s (record { at = at; len = len + 1 })) 2 0 s (set q len 2) q' (record { at = at; len = len + 1 }) b
         → Branching s p a q' (b .at) (b .len)
     branch-more {q'} {b} d =
         let h = begun s at e in
@@ -239,7 +239,7 @@ module _ {s p : List ℕ} {a : State} {q : List ℕ} {at len : ℕ} (g : Branchi
 
 -- ---- alternatives
 
-pub record Alternating (s p : List ℕ) (a : State) (q : List ℕ) (at len : ℕ) : Type 0 where
+pub record Alternating (s p : List ℕ) (a : Cursor) (q : List ℕ) (at len : ℕ) : Type 0 where
   pub fill : Regexp → Regexp
   pub done : List ℕ
   pub codes : (x : Regexp) → flat (fill x) [] ≡ done ++ flat x []
@@ -250,7 +250,7 @@ pub record Alternating (s p : List ℕ) (a : State) (q : List ℕ) (at len : ℕ
   pub cost : len ≤ a .len + 8 * (at - a .at)
   pub buf : Wrote p (a .len) done q
 
-pub alternating-none : (s p : List ℕ) (a : State) → a .at ≤ length s → Alternating s p a p (a .at) (a .len)
+pub alternating-none : (s p : List ℕ) (a : Cursor) → a .at ≤ length s → Alternating s p a p (a .at) (a .len)
 alternating-none s p a h =
     record {
       fill = λ x. x;
@@ -264,7 +264,7 @@ alternating-none s p a h =
       buf = record { is = refl };
     }
 
-module _ {s p : List ℕ} {a : State} {q : List ℕ} {at len : ℕ} (g : Alternating s p a q at len) where
+module _ {s p : List ℕ} {a : Cursor} {q : List ℕ} {at len : ℕ} (g : Alternating s p a q at len) where
   branch-steps : (n : ℕ) → 4 * (length s - at) + 4 ≤ n
       → (m : ℕ) × (4 * (length s - at) + 3 ≤ m)
       × (readAlternatives n (g .fill) (drop at s) ≡ andThen (readBranch m (λ x. x) (drop at s)) (λ b r. cond (begins 0x7C r) (readAlternatives m (λ x. g .fill (or b x)) (rest r)) (some (g .fill b, r))))
@@ -277,7 +277,7 @@ module _ {s p : List ℕ} {a : State} {q : List ℕ} {at len : ℕ} (g : Alterna
   alts-none o =
       stop (λ n l. let m = g .is n l in let k = branch-steps (m .0) (m .1) in m .2 ∙ k .2 ∙ rw (read-none o (k .0) (k .1)) refl)
 
-  module _ {q' : List ℕ} {b : State} (d : Read (outBranch s (record { at = at; len = len })) 3 2 s q q' (record { at = at; len = len }) b) where
+  module _ {q' : List ℕ} {b : Cursor} (d : Read (outBranch s (record { at = at; len = len })) 3 2 s q q' (record { at = at; len = len }) b) where
     pub alts-last : {t : Bool} → Is s (b .at) 0x7C t → t ≡ false → Post (outAlternatives s a) 4 2 s p q' a (step.Next b)
     alts-last i e =
         let c = g .codes (d .expr) in
@@ -322,7 +322,7 @@ module _ (s p : List ℕ) (len : ℕ) where
   unfolding readRegexp
   whole-none o = outside (rw (read-none o (4 * length s + 4) (omega arith)) refl)
 
-  module _ {q : List ℕ} {b : State} (d : Read (outAlternatives s (record { at = 0; len = len })) 4 2 s p q (record { at = 0; len = len }) b) where
+  module _ {q : List ℕ} {b : Cursor} (d : Read (outAlternatives s (record { at = 0; len = len })) 4 2 s p q (record { at = 0; len = len }) b) where
     pub whole-left : b .at < length s → {q' : List ℕ} → ReadsWhole s p q' len reading.Outside
     unfolding readRegexp
     whole-left h = outside (rw (d .is (4 * length s + 4) (omega arith), drop-at s (b .at) h) refl)
@@ -345,14 +345,14 @@ module _ (s p : List ℕ) (len : ℕ) where
 pub room-on : {s p : List ℕ} {at len k : ℕ} → Room s p (record { at = at; len = len }) k → at < length s → Room s p (record { at = at + 1; len = len }) (k + 1)
 room-on r h = record { text = omega arith; small = r .small; fits = omega (arith, r .fits) }
 
-pub room-less : {s p : List ℕ} {a : State} {k : ℕ} → Room s p a (k + 1) → Room s p a k
+pub room-less : {s p : List ℕ} {a : Cursor} {k : ℕ} → Room s p a (k + 1) → Room s p a k
 room-less r = record { text = r .text; small = r .small; fits = omega (arith, r .fits) }
 
 -- behind branches, and behind pieces
-pub room-alts : {s p q : List ℕ} {a : State} {at len : ℕ} → Room s p a 3 → Alternating s p a q at len → Room s q (record { at = at; len = len }) 3
+pub room-alts : {s p q : List ℕ} {a : Cursor} {at len : ℕ} → Room s p a 3 → Alternating s p a q at len → Room s q (record { at = at; len = len }) 3
 room-alts r g = let l = wrote-length (g .buf) in record { text = g .to; small = r .small; fits = omega (arith, r .fits, g .cost, g .from, g .to) }
 
-pub room-branch : {s p q : List ℕ} {a : State} {at len : ℕ} → Room s p a 3 → Branching s p a q at len → Room s q (record { at = at; len = len }) 3
+pub room-branch : {s p q : List ℕ} {a : Cursor} {at len : ℕ} → Room s p a 3 → Branching s p a q at len → Room s q (record { at = at; len = len }) 3
 room-branch r g = let l = wrote-length (g .buf) in record { text = g .to; small = r .small; fits = omega (arith, r .fits, g .cost, g .from, g .to) }
 
 -- for a piece behind the word 2
@@ -360,10 +360,10 @@ pub room-piece : {s q : List ℕ} {at len : ℕ} → Room s q (record { at = at;
 room-piece {s} {q} {at} {len} r = let l = length-set q len 2 in record { text = r .text; small = r .small; fits = omega (arith, r .fits) }
 
 -- for the word of a repeat, and for that of alternatives
-pub room-repeat : {s p q : List ℕ} {at len : ℕ} {b : State} → Room s p (record { at = at; len = len }) 2 → {out : ℕ → Option (Regexp × List ℕ)} {j : ℕ}
+pub room-repeat : {s p q : List ℕ} {at len : ℕ} {b : Cursor} → Room s p (record { at = at; len = len }) 2 → {out : ℕ → Option (Regexp × List ℕ)} {j : ℕ}
     → Read out j 0 s p q (record { at = at; len = len }) b → (len ≤ b .len) × (b .len + 3 ≤ length q)
 room-repeat r d = let l = wrote-length (d .buf) in (omega (arith, d .grown), omega (arith, r .fits, d .cost, d .from, d .to))
 
-pub room-insert : {s p q : List ℕ} {at len : ℕ} {b : State} → Room s p (record { at = at; len = len }) 3 → {out : ℕ → Option (Regexp × List ℕ)} {j : ℕ}
+pub room-insert : {s p q : List ℕ} {at len : ℕ} {b : Cursor} → Room s p (record { at = at; len = len }) 3 → {out : ℕ → Option (Regexp × List ℕ)} {j : ℕ}
     → Read out j 2 s p q (record { at = at; len = len }) b → b .at < length s → (len ≤ b .len) × (b .len + 1 < length q)
 room-insert r d h = let l = wrote-length (d .buf) in (omega (arith, d .grown), omega (arith, r .fits, d .cost, d .from, d .to))

@@ -14,7 +14,7 @@ use Rattle.regex_leaves.specs.declared.chars.Char.{Char}
 use Rattle.regex_leaves.specs.declared.chars.Char.the-variants as char
 use Rattle.regex_leaves.specs.declared.counts.Quant.{Quant}
 use Rattle.regex_leaves.specs.declared.counts.Quant.the-variants as quant
-use Rattle.regex_reader.specs.declared.steps.State.{State}
+use Rattle.regex_reader.specs.declared.steps.Cursor.{Cursor}
 use Rattle.regex_reader.specs.declared.steps.Step.{Step}
 use Rattle.regex_reader.specs.declared.steps.Step.the-variants as step
 use Rattle.regex_reader.specs.declared.classes.More.{More}
@@ -45,13 +45,13 @@ pub data PostRanges (s p q : List ℕ) (at len : ℕ) : More → Type 0 where
 -- ---- a part of an expression
 
 -- what is left of the characters has room behind the words: eight for each, and k more
-pub record Room (s p : List ℕ) (a : State) (k : ℕ) : Type 0 where
+pub record Room (s p : List ℕ) (a : Cursor) (k : ℕ) : Type 0 where
   pub text : a .at ≤ length s
   pub small : length s ≤ 1024
   pub fits : a .len + 8 * (length s - a .at) + k ≤ length p
 
 -- from the place of a to that of b stands an expression, and its code is written; four steps for each character that is left, and j more, are enough
-pub record Read (out : ℕ → Option (Regexp × List ℕ)) (j k : ℕ) (s p q : List ℕ) (a b : State) : Type 0 where
+pub record Read (out : ℕ → Option (Regexp × List ℕ)) (j k : ℕ) (s p q : List ℕ) (a b : Cursor) : Type 0 where
   pub expr : Regexp
   pub is : (n : ℕ) → 4 * (length s - a .at) + j ≤ n → out n ≡ some (expr, drop (b .at) s)
   pub from : a .at ≤ b .at
@@ -60,8 +60,8 @@ pub record Read (out : ℕ → Option (Regexp × List ℕ)) (j k : ℕ) (s p q :
   pub cost : b .len + 1 ≤ a .len + 8 * (b .at - a .at) + k
   pub buf : Wrote p (a .len) (flat expr []) q
 
-pub data Post (out : ℕ → Option (Regexp × List ℕ)) (j k : ℕ) (s p q : List ℕ) (a : State) : Step → Type 0 where
-  next : (b : State) → Read out j k s p q a b → Post out j k s p q a (step.Next b)
+pub data Post (out : ℕ → Option (Regexp × List ℕ)) (j k : ℕ) (s p q : List ℕ) (a : Cursor) : Step → Type 0 where
+  next : (b : Cursor) → Read out j k s p q a b → Post out j k s p q a (step.Next b)
   stop : ((n : ℕ) → 4 * (length s - a .at) + j ≤ n → out n ≡ none) → Post out j k s p q a step.Stop
 
 -- a word as the sign of the complement
@@ -69,29 +69,29 @@ abbrev pub isComplement : ℕ → Bool
 isComplement f = eqb f 1
 
 -- what the definition reads
-abbrev pub outRanges : ℕ → List ℕ → State → ℕ → Option (Regexp × List ℕ)
+abbrev pub outRanges : ℕ → List ℕ → Cursor → ℕ → Option (Regexp × List ℕ)
 outRanges f s a n = readRanges n (isComplement f) (drop (a .at) s)
 
-abbrev pub outClass : List ℕ → State → ℕ → Option (Regexp × List ℕ)
+abbrev pub outClass : List ℕ → Cursor → ℕ → Option (Regexp × List ℕ)
 outClass s a n = readClass n (drop (a .at) s)
 
-abbrev pub outLeaf : List ℕ → State → ℕ → Option (Regexp × List ℕ)
+abbrev pub outLeaf : List ℕ → Cursor → ℕ → Option (Regexp × List ℕ)
 outLeaf s a n = readLeaf n (drop (a .at) s)
 
-abbrev pub outAtom : List ℕ → State → ℕ → Option (Regexp × List ℕ)
+abbrev pub outAtom : List ℕ → Cursor → ℕ → Option (Regexp × List ℕ)
 outAtom s a n = readAtom n (drop (a .at) s)
 
-abbrev pub outPiece : List ℕ → State → ℕ → Option (Regexp × List ℕ)
+abbrev pub outPiece : List ℕ → Cursor → ℕ → Option (Regexp × List ℕ)
 outPiece s a n = readPiece n (drop (a .at) s)
 
-abbrev pub outBranch : List ℕ → State → ℕ → Option (Regexp × List ℕ)
+abbrev pub outBranch : List ℕ → Cursor → ℕ → Option (Regexp × List ℕ)
 outBranch s a n = readBranch n (λ x. x) (drop (a .at) s)
 
-abbrev pub outAlternatives : List ℕ → State → ℕ → Option (Regexp × List ℕ)
+abbrev pub outAlternatives : List ℕ → Cursor → ℕ → Option (Regexp × List ℕ)
 outAlternatives s a n = readAlternatives n (λ x. x) (drop (a .at) s)
 
 -- the words of a repeat go in before those of an atom
-pub data Repeats (p q : List ℕ) (from : ℕ) (n : State) : Quant → Step → Type 0 where
+pub data Repeats (p q : List ℕ) (from : ℕ) (n : Cursor) : Quant → Step → Type 0 where
   once : q ≡ p → Repeats p q from n quant.Once (step.Next n)
   endless : (b lo : ℕ) → ((p₀ c : List ℕ) → Wrote p₀ from c p → length c ≡ n .len - from → Wrote p₀ from (5 ∷ lo ∷ c) q)
       → Repeats p q from n (quant.Least b lo) (step.Next (record { at = b; len = n .len + 2 }))

@@ -1,6 +1,6 @@
 // What stands between the groups: characters, ".", classes, and the repeat of what was written.
 use crate::classes::class;
-use crate::steps::State;
+use crate::steps::Cursor;
 use crate::steps::Step;
 use regex_leaves::chars::Char;
 use regex_leaves::chars::escape;
@@ -11,7 +11,7 @@ use regex_leaves::counts::Quant;
 use regex_leaves::words::insert;
 ghost use mathlib.Core.Path.{_≡_};
 ghost use mathlib.Core.List.{[], _∷_};
-ghost use Prim.Native.Nat.{_+_, _-_, _*_, _≤_, _<_};
+ghost use Prim.Native.Nat.{_+_, _≤_, _<_};
 ghost use lib.ListN.{length, drop};
 ghost use Rattle.basics.specs.Reads.{Wrote};
 ghost use Rattle.regex_definition.specs.Read.{stops};
@@ -64,7 +64,7 @@ fn put_read(code: &mut [u32], len: usize, c: Char) -> Step
         Char::Stop => Step::Stop,
         Char::Next(b, x) => {
             put_char(code, len, x);
-            Step::Next(State {
+            Step::Next(Cursor {
                 at: b,
                 len: len + 5,
             })
@@ -73,18 +73,18 @@ fn put_read(code: &mut [u32], len: usize, c: Char) -> Step
 }
 
 // An atom that is no group.
-pub fn leaf(s: &[u32], code: &mut [u32], st: State) -> Step
+pub fn leaf(s: &[u32], code: &mut [u32], st: Cursor) -> Step
     requires { ⌜ Room (now s) (now code) st 2 × (st .at < length (now s)) ⌝ }
     ensures { λ r. ⌜ Post (outLeaf (now (s .entry)) st) 0 0 (now (s .entry)) (now (code .entry)) (now (code .exit)) st r ⌝ }
 {
     let at = st.at;
     let len = st.len;
     if is(s, at, 0x5B) {
-        return class(s, code, State { at: at + 1, len });
+        return class(s, code, Cursor { at: at + 1, len });
     }
     if is(s, at, 0x2E) {
         put_dot(code, len);
-        return Step::Next(State {
+        return Step::Next(Cursor {
             at: at + 1,
             len: len + 7,
         });
@@ -98,7 +98,7 @@ pub fn leaf(s: &[u32], code: &mut [u32], st: State) -> Step
 }
 
 // The repeat q of the atom whose code stands from `from` on up to n.
-pub fn repeat(code: &mut [u32], from: usize, n: State, q: Quant) -> Step
+pub fn repeat(code: &mut [u32], from: usize, n: Cursor, q: Quant) -> Step
     requires { ⌜ (from ≤ n .len) × (n .len + 3 ≤ length (now code)) ⌝ }
     ensures { λ r. ⌜ Repeats (now (code .entry)) (now (code .exit)) from n q r ⌝ }
 {
@@ -109,7 +109,7 @@ pub fn repeat(code: &mut [u32], from: usize, n: State, q: Quant) -> Step
         Quant::Least(b, lo) => {
             insert(code, from, len, lo);
             insert(code, from, len + 1, 5);
-            Step::Next(State {
+            Step::Next(Cursor {
                 at: b,
                 len: len + 2,
             })
@@ -118,7 +118,7 @@ pub fn repeat(code: &mut [u32], from: usize, n: State, q: Quant) -> Step
             insert(code, from, len, hi);
             insert(code, from, len + 1, lo);
             insert(code, from, len + 2, 4);
-            Step::Next(State {
+            Step::Next(Cursor {
                 at: b,
                 len: len + 3,
             })

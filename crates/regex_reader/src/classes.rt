@@ -1,5 +1,5 @@
 // A class: its code is the word 1, the word of the complement, the number of ranges, and two words for each.
-use crate::steps::State;
+use crate::steps::Cursor;
 use crate::steps::Step;
 use regex_leaves::chars::is;
 use regex_leaves::items::Item;
@@ -8,11 +8,10 @@ use regex_leaves::items::one_item;
 ghost use mathlib.Core.Path.{_≡_};
 ghost use mathlib.Core.List.{[], _∷_};
 ghost use Rattle.regex_code.specs.Flat.{flag};
-ghost use mathlib.Core.Bool.{true, false};
-ghost use Prim.Native.Nat.{_+_, _-_, _*_, _≤_, _<_};
+ghost use mathlib.Core.Bool.{false};
+ghost use Prim.Native.Nat.{_+_, _-_, _*_, _≤_};
 ghost use lib.ListN.{length};
 ghost use Rattle.basics.specs.Reads.{Wrote};
-ghost use Rattle.regex_definition.specs.Read.{readClass, readRanges};
 ghost use Rattle.regex_reader.specs.Reads.{IsEnd, PostRanges, Room, Post, isComplement, outClass, outRanges};
 
 // The place behind the "]" and the number of ranges behind the first; or there is none.
@@ -78,7 +77,7 @@ fn items(s: &[u32], code: &mut [u32], at: usize, len: usize) -> More
 }
 
 // Behind the "[" or the "[^".
-fn ranges(s: &[u32], code: &mut [u32], st: State, sign: u32) -> Step
+fn ranges(s: &[u32], code: &mut [u32], st: Cursor, sign: u32) -> Step
     requires { ⌜ Room (now s) (now code) st 2 × (flag (isComplement sign) ≡ sign) ⌝ }
     ensures { λ r. ⌜ Post (outRanges sign (now (s .entry)) st) 4 0 (now (s .entry)) (now (code .entry)) (now (code .exit)) st r ⌝ }
 {
@@ -92,7 +91,7 @@ fn ranges(s: &[u32], code: &mut [u32], st: State, sign: u32) -> Step
                 More::Stop => Step::Stop,
                 More::Next(e, n) => {
                     code[len + 2] = (n + 1) as u32;
-                    Step::Next(State {
+                    Step::Next(Cursor {
                         at: e,
                         len: len + 5 + 2 * n,
                     })
@@ -103,14 +102,14 @@ fn ranges(s: &[u32], code: &mut [u32], st: State, sign: u32) -> Step
 }
 
 // Behind the "[".
-pub fn class(s: &[u32], code: &mut [u32], st: State) -> Step
+pub fn class(s: &[u32], code: &mut [u32], st: Cursor) -> Step
     requires { ⌜ Room (now s) (now code) st 2 ⌝ }
     ensures { λ r. ⌜ Post (outClass (now (s .entry)) st) 4 0 (now (s .entry)) (now (code .entry)) (now (code .exit)) st r ⌝ }
 {
     let at = st.at;
     let len = st.len;
     if is(s, at, 0x5E) {
-        return ranges(s, code, State { at: at + 1, len }, 1);
+        return ranges(s, code, Cursor { at: at + 1, len }, 1);
     }
-    ranges(s, code, State { at, len }, 0)
+    ranges(s, code, Cursor { at, len }, 0)
 }

@@ -3,7 +3,7 @@
 use crate::atoms::leaf;
 use crate::atoms::repeat;
 use crate::atoms::stop_at;
-use crate::steps::State;
+use crate::steps::Cursor;
 use crate::steps::Step;
 use regex_leaves::chars::is;
 use regex_leaves::counts::quantifier;
@@ -18,22 +18,22 @@ pub enum Reading {
     Outside,
 }
 
-fn atom(s: &[u32], code: &mut [u32], st: State) -> Step
+fn atom(s: &[u32], code: &mut [u32], st: Cursor) -> Step
     requires { ⌜ Room (now s) (now code) st 2 × (st .at < length (now s)) ⌝ }
     ensures { λ r. ⌜ Post (outAtom (now (s .entry)) st) 1 0 (now (s .entry)) (now (code .entry)) (now (code .exit)) st r ⌝ }
 {
     let at = st.at;
     let len = st.len;
     if !is(s, at, 0x28) {
-        return leaf(s, code, State { at, len });
+        return leaf(s, code, Cursor { at, len });
     }
-    match alts(s, code, State { at: at + 1, len }) {
+    match alts(s, code, Cursor { at: at + 1, len }) {
         Step::Stop => Step::Stop,
         Step::Next(n) => {
             let end = n.at;
             let out = n.len;
             if is(s, end, 0x29) {
-                return Step::Next(State {
+                return Step::Next(Cursor {
                     at: end + 1,
                     len: out,
                 });
@@ -43,13 +43,13 @@ fn atom(s: &[u32], code: &mut [u32], st: State) -> Step
     }
 }
 
-fn piece(s: &[u32], code: &mut [u32], st: State) -> Step
+fn piece(s: &[u32], code: &mut [u32], st: Cursor) -> Step
     requires { ⌜ Room (now s) (now code) st 2 × (st .at < length (now s)) ⌝ }
     ensures { λ r. ⌜ Post (outPiece (now (s .entry)) st) 2 0 (now (s .entry)) (now (code .entry)) (now (code .exit)) st r ⌝ }
 {
     let at = st.at;
     let len = st.len;
-    match atom(s, code, State { at, len }) {
+    match atom(s, code, Cursor { at, len }) {
         Step::Stop => Step::Stop,
         Step::Next(n) => {
             let q = quantifier(s, n.at);
@@ -58,7 +58,7 @@ fn piece(s: &[u32], code: &mut [u32], st: State) -> Step
     }
 }
 
-fn branch(s: &[u32], code: &mut [u32], st: State) -> Step
+fn branch(s: &[u32], code: &mut [u32], st: Cursor) -> Step
     requires { ⌜ Room (now s) (now code) st 3 ⌝ }
     ensures { λ r. ⌜ Post (outBranch (now (s .entry)) st) 3 2 (now (s .entry)) (now (code .entry)) (now (code .exit)) st r ⌝ }
 {
@@ -67,10 +67,10 @@ fn branch(s: &[u32], code: &mut [u32], st: State) -> Step
     loop {
         if stop_at(s, at) {
             code[len] = 0;
-            return Step::Next(State { at, len: len + 1 });
+            return Step::Next(Cursor { at, len: len + 1 });
         }
         code[len] = 2;
-        match piece(s, code, State { at, len: len + 1 }) {
+        match piece(s, code, Cursor { at, len: len + 1 }) {
             Step::Stop => return Step::Stop,
             Step::Next(n) => {
                 at = n.at;
@@ -80,20 +80,20 @@ fn branch(s: &[u32], code: &mut [u32], st: State) -> Step
     }
 }
 
-fn alts(s: &[u32], code: &mut [u32], st: State) -> Step
+fn alts(s: &[u32], code: &mut [u32], st: Cursor) -> Step
     requires { ⌜ Room (now s) (now code) st 3 ⌝ }
     ensures { λ r. ⌜ Post (outAlternatives (now (s .entry)) st) 4 2 (now (s .entry)) (now (code .entry)) (now (code .exit)) st r ⌝ }
 {
     let mut at = st.at;
     let mut len = st.len;
     loop {
-        match branch(s, code, State { at, len }) {
+        match branch(s, code, Cursor { at, len }) {
             Step::Stop => return Step::Stop,
             Step::Next(n) => {
                 let end = n.at;
                 let out = n.len;
                 if !is(s, end, 0x7C) {
-                    return Step::Next(State { at: end, len: out });
+                    return Step::Next(Cursor { at: end, len: out });
                 }
                 insert(code, len, out, 3);
                 at = end + 1;
@@ -108,7 +108,7 @@ pub fn read(s: &[u32], code: &mut [u32], len: usize) -> Reading
     requires { ⌜ (length (now s) ≤ 1024) × (len + 8 * length (now s) + 3 ≤ length (now code)) ⌝ }
     ensures { λ r. ⌜ ReadsWhole (now (s .entry)) (now (code .entry)) (now (code .exit)) len r ⌝ }
 {
-    match alts(s, code, State { at: 0, len }) {
+    match alts(s, code, Cursor { at: 0, len }) {
         Step::Stop => Reading::Outside,
         Step::Next(n) => {
             let end = n.at;

@@ -2,13 +2,11 @@
 use mathlib.Core.Path.{_≡_, refl, ap, sym, _∙_}
 use mathlib.Core.Bool.{Bool, true, false}
 use mathlib.Core.List.{List, [], _∷_, _++_}
-use mathlib.Core.Option.{Option, none, some}
-use Prim.Native.Nat.{ℕ, suc, _+_, _*_, _≤_, _<_}
+use mathlib.Core.Option.{none, some}
+use Prim.Native.Nat.{ℕ, _+_, _*_, _≤_, _<_}
 use native.Mathlib.Omega.{arith}
 use borrow.Author.Tests.{lt-leb, ne-eqb}
-use lib.Dec.{eqb, leb}
-use lib.ListN.{length, take, drop, set, length-append}
-use lib.Seq.{sets-eq, take-at}
+use lib.ListN.{length, take, set, length-append}
 use Rattle.regex_definition.specs.Regexp.{Regexp, described}
 use Rattle.regex_definition.specs.Scope.{Scope, whole, part, widen}
 use Rattle.definition.specs.Utf8.{isUtf8, scalarsOf}
@@ -23,6 +21,7 @@ use Rattle.regex_reader.specs.declared.nested.Reading.{Reading}
 use Rattle.regex_reader.specs.declared.nested.Reading.the-variants as reading
 use Rattle.regex_rooms.specs.Rooms.{scopeFor, IsWidened, Widened}
 use Rattle.regex_rooms.specs.Rooms.Widened.{code, outside}
+use Rattle.regex_leaves.proofs.Stores.{at-front}
 
 -- ---- words
 
@@ -31,10 +30,6 @@ before = 2 ∷ 5 ∷ 0 ∷ 1 ∷ 1 ∷ 0 ∷ 2 ∷ []
 
 abbrev pub anything : List ℕ
 anything = 5 ∷ 0 ∷ 1 ∷ 1 ∷ 0 ∷ []
-
--- what is written from the beginning on stands there
-pub at-front : {p q : List ℕ} {c : List ℕ} (n : ℕ) → Wrote p 0 c q → n ≡ length c → length c ≤ length p → take n q ≡ c
-at-front {p} {q} {c} n w e h = rw (w .is, sets-eq c p 0 (omega arith)) (take-at c (drop (0 + length c) p) n (sym e))
 
 -- what stands before an expression
 pub seven : {p q : List ℕ} → Wrote (set p 0 2) 1 anything q → Wrote p 0 before (set q 6 2)

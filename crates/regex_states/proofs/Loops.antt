@@ -8,9 +8,9 @@ use lib.Dec.{eqb}
 use borrow.Author.Tests.{eqb-true, eqb-false}
 use lib.ListN.{length, getD, set}
 use lib.Seq.{getD-set-same, getD-set-other}
-use Rattle.regex_states.specs.Ready.{part, edgeOf}
+use Rattle.regex_states.specs.Ready.{cells, edgeOf}
 use Rattle.regex_states.specs.Texts.{Inside, Trail, more}
-use Rattle.regex_states.proofs.Parts.{part-is}
+use Rattle.regex_states.proofs.Cells.{cells-is}
 
 -- what holds below i and at i holds below i + 1
 pub one-more : (P : ℕ → Type 0) (i : ℕ) → ((j : ℕ) → j < i → P j) → P i → (j : ℕ) → j < i + 1 → P j
@@ -42,10 +42,10 @@ load-more f l i v h e g =
     (λ j k. getD-set-other l i j v 0 (λ z. omega arith) ∙ g j k)
     (getD-set-same l i v 0 h ∙ e)
 
--- all bytes are those of a part
+-- all bytes are those of the cells
 pub loaded :
-    (l ms : List ℕ) (a n i : ℕ) → length ms ≡ n → length ms ≤ i → ((j : ℕ) → j < i → getD ms j 0 ≡ getD l (a + j) 0) → ms ≡ part l a n
-loaded l ms a n i e h f = sym (part-is l ms a (λ j k. sym (f j (omega arith)))) ∙ ap (part l a) e
+    (l ms : List ℕ) (a n i : ℕ) → length ms ≡ n → length ms ≤ i → ((j : ℕ) → j < i → getD ms j 0 ≡ getD l (a + j) 0) → ms ≡ cells l a n
+loaded l ms a n i e h f = sym (cells-is l ms a (λ j k. sym (f j (omega arith)))) ∙ ap (cells l a) e
 
 -- an edge more
 pub follow-more :

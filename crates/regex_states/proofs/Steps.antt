@@ -2,8 +2,8 @@
 use mathlib.Core.Path.{_≡_, refl, ap, sym, _∙_, subst}
 use mathlib.Core.Bool.{Bool, true, false}
 use mathlib.Core.List.{List, [], _∷_, _++_, append-nil, append-assoc}
-use mathlib.Core.Logic.{_⊎_, inl, inr, ⊎-elim}
-use Prim.Native.Nat.{ℕ, _+_, _*_, _-_, _≤_, _<_}
+use mathlib.Core.Logic.{inl, inr, ⊎-elim}
+use Prim.Native.Nat.{ℕ, _≤_, _<_}
 use native.Mathlib.Omega.{arith}
 use lib.Dec.{eqb}
 use borrow.Author.Tests.{eqb-true, eq-eqb}
@@ -17,12 +17,12 @@ use Rattle.regex_code.specs.Flat.{flat}
 use Rattle.regex_chars.specs.Chars.{Stands}
 use Rattle.regex_chars.specs.Laws.{slice-end, slice-nil, encodeAll-none, encodeAll-cons, encodeAll-nil}
 use Rattle.regex_chars.proofs.Bytes.{stands-one}
-use Rattle.regex_marks.specs.Marks.{size, Rest, Good}
+use Rattle.regex_marks.specs.Marks.{Rest, Good}
 use Rattle.regex_marks.specs.Moves.{Moved}
-use Rattle.regex_marks.specs.Runs.{Reading, Read, Ran}
+use Rattle.regex_marks.specs.Runs.{Reading}
 use Rattle.regex_states.specs.States.{After, Leads, Settles}
-use Rattle.regex_states.specs.Ready.{marksOf, edgeOf, count, Tables}
-use Rattle.regex_states.specs.Texts.{Along, Reached, Trail, start, more, Followed}
+use Rattle.regex_states.specs.Ready.{marksOf, count, Tables}
+use Rattle.regex_states.specs.Texts.{Along, Reached, Trail, start, more}
 
 -- a move of the marks leads to any state but the start
 pub leads-by :

@@ -1,25 +1,25 @@
 -- The tables stay right: an edge more, and a state more. Assumes nothing.
 use mathlib.Core.Path.{_≡_, refl, ap, sym, _∙_, subst}
 use mathlib.Core.Bool.{Bool, true, false}
-use mathlib.Core.List.{List, [], _∷_}
+use mathlib.Core.List.{List, []}
 use mathlib.Core.Logic.{⊎-elim}
 use Prim.Native.Nat.{ℕ, _+_, _*_, _≤_, _<_}
 use native.Mathlib.Omega.{arith}
 use lib.Dec.{eqb}
-use borrow.Author.Tests.{eqb-true, eqb-false, eq-eqb}
+use borrow.Author.Tests.{eqb-true, eqb-false}
 use lib.ListN.{length, getD, set, length-set}
 use lib.Seq.{getD-set-same, getD-set-other}
 use Rattle.regex_definition.specs.Words.{Told}
 use Rattle.regex_definition.specs.Regexp.{Regexp}
 use Rattle.regex_code.specs.Flat.{flat}
-use Rattle.regex_marks.specs.Marks.{size, Rest, Good}
+use Rattle.regex_marks.specs.Marks.{Rest, Good}
 use Rattle.regex_marks.specs.Moves.{Shifted}
 use Rattle.regex_marks.proofs.Frames.{rest-none}
-use Rattle.regex_states.specs.States.{Leads, Settles, State}
-use Rattle.regex_states.specs.Ready.{part, width, count, marksOf, edgeOf, otherOf, Known, Tables, Alike}
+use Rattle.regex_states.specs.States.{Leads, StateRight}
+use Rattle.regex_states.specs.Ready.{cells, width, count, marksOf, edgeOf, otherOf, Tables, Interchangeable}
 use Rattle.regex_states.specs.Texts.{Stepped}
 use Rattle.regex_states.specs.Rooms.{Found, Settling, Added, Placed, full, known, fresh, Noted, unnoted, edge, Beyond, nothing, other}
-use Rattle.regex_states.proofs.Parts.{part-same, part-is, length-part}
+use Rattle.regex_states.proofs.Cells.{cells-same, cells-is, length-cells}
 use Rattle.regex_states.proofs.Steps.{leads-by, leads-other, told-by}
 
 -- the same edge, and the same state, in other rooms
@@ -29,10 +29,10 @@ leads-at :
 leads-at p q r u v l = rw (p, q, r, u, v) l
 
 state-at :
-    {x : Regexp} {k : ℕ} {ms ms' : List ℕ} {a b a' b' : Bool} → ms' ≡ ms → a' ≡ a → b' ≡ b → State x k ms a b → State x k ms' a' b'
+    {x : Regexp} {k : ℕ} {ms ms' : List ℕ} {a b a' b' : Bool} → ms' ≡ ms → a' ≡ a → b' ≡ b → StateRight x k ms a b → StateRight x k ms' a' b'
 state-at p q r l = rw (p, q, r) l
 
-flag-at : {n m : ℕ} → n ≡ m → eqb n 1 ≡ eqb m 1
+pub flag-at : {n m : ℕ} → n ≡ m → eqb n 1 ≡ eqb m 1
 flag-at e = ap (λ i. eqb i 1) e
 
 -- AN EDGE MORE
@@ -110,11 +110,11 @@ module _ {s es ss ms es' ss' : List ℕ} {b : Bool} {r : ℕ} (g : Tables s es s
 
   old-marks : (k : ℕ) → 1 ≤ k → k < r → marksOf ss' k ≡ marksOf ss k
   old-marks k p q =
-      ap (part ss' (k * 128)) same-width
-      ∙ part-same (width ss) ss' ss (k * 128) (k * 128) (λ i h. old-byte k i p q (omega (arith, g .few)))
+      ap (cells ss' (k * 128)) same-width
+      ∙ cells-same (width ss) ss' ss (k * 128) (k * 128) (λ i h. old-byte k i p q (omega (arith, g .few)))
 
   new-marks : marksOf ss' r ≡ ms
-  new-marks = ap (part ss' (r * 128)) (same-width ∙ sym n) ∙ part-is ss' ms (r * 128) (a .marks)
+  new-marks = ap (cells ss' (r * 128)) (same-width ∙ sym n) ∙ cells-is ss' ms (r * 128) (a .marks)
 
   old-edge : (k c : ℕ) → k < r → c < 128 → edgeOf es' k c ≡ edgeOf es k c
   old-edge k c q h = a .edges (k * 128 + c) (omega arith)
@@ -122,7 +122,7 @@ module _ {s es ss ms es' ss' : List ℕ} {b : Bool} {r : ℕ} (g : Tables s es s
   below : (k : ℕ) → k < count ss' → (k ≡ r → ⊥) → k < r
   below k h f = omega (arith, a .counted)
 
-  new-state : Moving s ms b → (x : Regexp) → s ≡ flat x [] → (end : Bool) → Settling ms b (eqb (getD ss 2 0) 1) end → State x r ms b end
+  new-state : Moving s ms b → (x : Regexp) → s ≡ flat x [] → (end : Bool) → Settling ms b (eqb (getD ss 2 0) 1) end → StateRight x r ms b end
   new-state f x e end z =
       record {
         good = f x e .0;
@@ -143,7 +143,7 @@ module _ {s es ss ms es' ss' : List ℕ} {b : Bool} {r : ℕ} (g : Tables s es s
 
   state-of :
       Moving s ms b → (x : Regexp) → s ≡ flat x [] → (k : ℕ) → 1 ≤ k → k < count ss' → (i : Bool) → eqb k r ≡ i
-      → State x k (marksOf ss' k) (eqb (getD ss' (k * 128 + 127) 0) 1) (eqb (getD ss' (k * 128 + 126) 0) 1)
+      → StateRight x k (marksOf ss' k) (eqb (getD ss' (k * 128 + 127) 0) 1) (eqb (getD ss' (k * 128 + 126) 0) 1)
   state-of f x e k p q true z =
       let u : k ≡ r = eqb-true k r z in
       rw u (state-at new-marks (a .told) refl (new-state f x e _ (a .settled)))
@@ -239,8 +239,8 @@ module _ {s es ss : List ℕ} (g : Tables s es ss) (k t : ℕ) (low : 1 ≤ k) (
 
   pub beyond-marks : (j : ℕ) → marksOf (set ss (k * 128 + 125) t) j ≡ marksOf ss j
   beyond-marks j =
-      ap (part (set ss (k * 128 + 125) t) (j * 128)) (beside 0 (λ z. omega arith))
-      ∙ part-same (width ss) (set ss (k * 128 + 125) t) ss (j * 128) (j * 128) (λ i h. beside (j * 128 + i) (λ z. omega (arith, g .few)))
+      ap (cells (set ss (k * 128 + 125) t) (j * 128)) (beside 0 (λ z. omega arith))
+      ∙ cells-same (width ss) (set ss (k * 128 + 125) t) ss (j * 128) (j * 128) (λ i h. beside (j * 128 + i) (λ z. omega (arith, g .few)))
 
   pub beyond-count : count (set ss (k * 128 + 125) t) ≡ count ss
   beyond-count = beside 1 (λ z. omega arith)
@@ -335,7 +335,7 @@ placed {s} {es} {ss} {ms} {es'} {ss'} {b} {r} g n f (known p q z h) =
       tables = g;
       wide = refl;
       apart = λ y. omega (arith, h .is z .0);
-      is = λ y. (h .is z .1, ap (part ss (r * 128)) (sym n) ∙ h .is z .2);
+      is = λ y. (h .is z .1, ap (cells ss (r * 128)) (sym n) ∙ h .is z .2);
       old = λ k u v. (v, refl);
     })
 placed g n f (fresh a) =
@@ -368,12 +368,12 @@ other-fits k p q g =
     (omega (arith, g .tables .sets), omega (arith, g .tables .sets, g .tables .some), note-fits k p q g .1)
 
 -- the marks of state k, moved on
-module _ {s es ss ms : List ℕ} {k n : ℕ} (g : Tables s es ss) (low : 1 ≤ k) (high : k < count ss) (l : ms ≡ part ss (k * 128) n) (e : n ≡ width ss) where
+module _ {s es ss ms : List ℕ} {k n : ℕ} (g : Tables s es ss) (low : 1 ≤ k) (high : k < count ss) (l : ms ≡ cells ss (k * 128) n) (e : n ≡ width ss) where
   loaded-marks : ms ≡ marksOf ss k
-  loaded-marks = l ∙ ap (part ss (k * 128)) e
+  loaded-marks = l ∙ ap (cells ss (k * 128)) e
 
   loaded-long : length ms ≡ width ss
-  loaded-long = ap length l ∙ length-part n ss (k * 128) ∙ e
+  loaded-long = ap length l ∙ length-cells n ss (k * 128) ∙ e
 
   pub moved-long :
       {ms' : List ℕ} {c next m : ℕ} {a v w : Bool} → Shifted s 0 (eqb k 1) c 0 ms ms' next m a v w → length ms' ≡ width ss
@@ -408,7 +408,7 @@ noted {s} {ss} {ms} {es'} {ss'} {es2} {k} {c} {r} p q g m f =
 
 -- where one character beyond ASCII leads, all do
 leads-alike :
-    {s : List ℕ} {x : Regexp} {c k t : ℕ} {ms ns : List ℕ} → Alike s → s ≡ flat x [] → 128 ≤ c → Leads x c k ms t ns → (d : ℕ) → 128 ≤ d
+    {s : List ℕ} {x : Regexp} {c k t : ℕ} {ms ns : List ℕ} → Interchangeable s → s ≡ flat x [] → 128 ≤ c → Leads x c k ms t ns → (d : ℕ) → 128 ≤ d
     → Leads x d k ms t ns
 leads-alike {s} {x} {c} {k} {t} {ms} {ns} a e h l d i =
     record {

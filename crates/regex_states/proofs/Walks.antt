@@ -1,18 +1,17 @@
 -- A walk over a text from state to state. Assumes nothing.
-use mathlib.Core.Path.{_≡_, refl, ap, sym, _∙_, subst}
+use mathlib.Core.Path.{_≡_, refl, sym, _∙_, subst}
 use mathlib.Core.Bool.{Bool}
-use mathlib.Core.List.{List, []}
+use mathlib.Core.List.{List}
 use Prim.Native.Nat.{ℕ, _+_, _*_, _≤_, _<_}
 use native.Mathlib.Omega.{arith}
 use lib.Dec.{eqb}
 use borrow.Author.Tests.{eq-eqb}
 use lib.ListN.{length, getD}
-use Rattle.regex_code.specs.Flat.{flat}
 use Rattle.regex_chars.specs.Chars.{Stands}
 use Rattle.regex_marks.specs.Moves.{Fits}
 use Rattle.regex_marks.specs.Runs.{Read, Ran}
 use Rattle.regex_states.specs.Ready.{width, count, Tables}
-use Rattle.regex_states.specs.Texts.{Reached, Inside, Followed, Stepped, Walking}
+use Rattle.regex_states.specs.Texts.{Inside, Followed, Stepped, Walking}
 use Rattle.regex_states.proofs.Steps.{
   along-start,
   along-step,

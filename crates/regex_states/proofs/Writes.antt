@@ -1,33 +1,28 @@
 -- What the functions that write rows leave: a state more, and the start. Assumes nothing.
 use mathlib.Core.Path.{_≡_, refl, ap, sym, _∙_, subst}
 use mathlib.Core.Bool.{Bool, true, false, _&&_, not}
-use mathlib.Core.List.{List, [], _∷_}
+use mathlib.Core.List.{List, []}
 use mathlib.Core.Logic.{inl, ⊎-elim}
 use Prim.Native.Nat.{ℕ, zero, suc, _+_, _*_, _-_, _≤_, _<_}
 use native.Mathlib.Omega.{arith}
 use lib.Dec.{eqb}
-use borrow.Author.Tests.{eqb-true}
 use lib.ListN.{length, getD, set, take, replicate, length-set, length-replicate}
 use lib.Seq.{getD-set-same, getD-set-other, length-take-le}
-use Rattle.regex_definition.specs.Words.{Told}
-use Rattle.regex_definition.specs.Regexp.{Regexp, Describes}
+use Rattle.regex_definition.specs.Regexp.{Regexp}
 use Rattle.regex_definition.specs.Agree.{told}
 use Rattle.regex_code.specs.Flat.{flat}
 use Rattle.regex_plain.specs.Rows.{Open}
-use Rattle.regex_marks.specs.Marks.{size, Rest, Good}
 use Rattle.regex_marks.specs.Moves.{Shifted}
-use Rattle.regex_marks.specs.Runs.{Grows, Weighs}
+use Rattle.regex_marks.specs.Runs.{Weighs}
 use Rattle.regex_marks.proofs.Frames.{rest-none, good-none}
-use Rattle.regex_states.specs.States.{After, State}
-use Rattle.regex_states.specs.Ready.{width, count, marksOf, edgeOf, otherOf, Known, Tables, Ready}
+use Rattle.regex_states.specs.States.{StateRight}
+use Rattle.regex_states.specs.Ready.{width, count, marksOf, edgeOf, otherOf, Tables, Ready}
 use Rattle.regex_states.specs.Rooms.{Put, Blank, Settling, Room, Added, Suits, Weighed, Empties, Sealed, Headed, AllLow}
-use Rattle.regex_states.proofs.Parts.{part-zero}
-use Rattle.regex_states.proofs.Alike.{alike}
+use Rattle.regex_states.proofs.Cells.{cells-zero}
+use Rattle.regex_states.proofs.Interchange.{interchangeable}
+use Rattle.regex_states.proofs.Tables.{flag-at}
 
 -- the flag of a byte that is another's
-flag-at : {n m : ℕ} → n ≡ m → eqb n 1 ≡ eqb m 1
-flag-at e = ap (λ i. eqb i 1) e
-
 -- what a state tells
 pub sealed :
     (ss : List ℕ) (k p q : ℕ) {b end : Bool} → k * 128 + 128 ≤ length ss → eqb p 1 ≡ end → eqb q 1 ≡ b
@@ -169,9 +164,9 @@ module _
         ∙ bs .none i (omega arith)
 
     start-none : (i : ℕ) → getD (marksOf ss3 1) i 0 ≡ 0
-    start-none = part-zero (width ss3) ss3 (1 * 128) (λ i h. start-byte i (omega (arith, he .wide, su .few)))
+    start-none = cells-zero (width ss3) ss3 (1 * 128) (λ i h. start-byte i (omega (arith, he .wide, su .few)))
 
-    start-state : (x : Regexp) → s ≡ flat x [] → State x 1 (marksOf ss3 1) b end
+    start-state : (x : Regexp) → s ≡ flat x [] → StateRight x 1 (marksOf ss3 1) b end
     start-state x e =
         record {
           good = good-none (marksOf ss3 1) start-none x 0;
@@ -212,7 +207,7 @@ module _
           sets = omega (arith, he .rows, he .long, se .long, bs .long);
           inside = λ k c p q h. let z = no-edge k c p q h in omega (arith, he .rows);
           among = λ k p q. let z = no-other k p q in omega (arith, he .rows);
-          alike = λ h. alike (al (sym (he .all-alike) ∙ ap (λ i. eqb i 1) h));
+          alike = λ h. interchangeable (al (sym (he .all-alike) ∙ ap (λ i. eqb i 1) h));
           grows = λ h. record { of = op (sym (he .open-ended) ∙ ap (λ i. eqb i 1) h) .of };
           of =
               λ x e.

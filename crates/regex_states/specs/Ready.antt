@@ -9,12 +9,12 @@ use Rattle.regex_definition.specs.Regexp.{Regexp}
 use Rattle.regex_code.specs.Flat.{flat}
 use Rattle.regex_marks.specs.Marks.{size, Rest}
 use Rattle.regex_marks.specs.Runs.{Grows}
-use Rattle.regex_states.specs.States.{After, State, Leads}
+use Rattle.regex_states.specs.States.{After, StateRight, Leads}
 
 -- n bytes from a place on
-abbrev pub part : List ℕ → ℕ → ℕ → List ℕ
-part l at zero = []
-part l at (suc n) = getD l at 0 ∷ part l (at + 1) n
+abbrev pub cells : List ℕ → ℕ → ℕ → List ℕ
+cells l at zero = []
+cells l at (suc n) = getD l at 0 ∷ cells l (at + 1) n
 
 -- the head of the sets: how many marks a state has, and how many rows are in use
 abbrev pub width : List ℕ → ℕ
@@ -25,7 +25,7 @@ count ss = getD ss 1 0
 
 -- the marks of state k
 abbrev pub marksOf : List ℕ → ℕ → List ℕ
-marksOf ss k = part ss (k * 128) (width ss)
+marksOf ss k = cells ss (k * 128) (width ss)
 
 -- where the character c leads from state k; 0 is not known
 abbrev pub edgeOf : List ℕ → ℕ → ℕ → ℕ
@@ -36,7 +36,7 @@ abbrev pub otherOf : List ℕ → ℕ → ℕ
 otherOf ss k = getD ss (k * 128 + 125) 0
 
 -- no state tells two characters beyond ASCII apart
-pub record Alike (s : List ℕ) : Type 0 where
+pub record Interchangeable (s : List ℕ) : Type 0 where
   pub of :
       (x : Regexp) → s ≡ flat x [] → (c d : ℕ) → 128 ≤ c → 128 ≤ d → (k : ℕ) (ms w : List ℕ) → After x k ms (c ∷ w)
       → After x k ms (d ∷ w)
@@ -47,7 +47,7 @@ pub record Known (x : Regexp) (es ss : List ℕ) : Type 0 where
   pub start : (w : List ℕ) → Rest x 0 (marksOf ss 1) w → ⊥
   pub state :
       (k : ℕ) → 1 ≤ k → k < count ss
-      → State x k (marksOf ss k) (eqb (getD ss (k * 128 + 127) 0) 1) (eqb (getD ss (k * 128 + 126) 0) 1)
+      → StateRight x k (marksOf ss k) (eqb (getD ss (k * 128 + 127) 0) 1) (eqb (getD ss (k * 128 + 126) 0) 1)
   pub edge :
       (k c : ℕ) → 1 ≤ k → k < count ss → c < 128 → (edgeOf es k c ≡ 0 → ⊥)
       → Leads x c k (marksOf ss k) (edgeOf es k c) (marksOf ss (edgeOf es k c))
@@ -66,7 +66,7 @@ pub record Tables (s es ss : List ℕ) : Type 0 where
   pub inside : (k c : ℕ) → 1 ≤ k → k < count ss → c < 128 → edgeOf es k c < count ss
   pub among : (k : ℕ) → 1 ≤ k → k < count ss → otherOf ss k < count ss
   pub grows : getD ss 2 0 ≡ 1 → Grows s
-  pub alike : getD ss 3 0 ≡ 1 → Alike s
+  pub alike : getD ss 3 0 ≡ 1 → Interchangeable s
   pub of : (x : Regexp) → s ≡ flat x [] → Known x es ss
 
 -- the rooms are ready for the code; with no marks in the head the expression has no states

@@ -11,11 +11,11 @@ use Rattle.regex_definition.specs.Regexp.{Regexp, Describes}
 use Rattle.regex_code.specs.Flat.{flat}
 use Rattle.regex_marks.specs.Marks.{size}
 use Rattle.regex_marks.specs.Runs.{Clear, Ran}
-use Rattle.regex_states.specs.Ready.{part, width, count, otherOf, Tables}
+use Rattle.regex_states.specs.Ready.{cells, width, count, otherOf, Tables}
 
 -- r is a state with these marks, not the start, if it is not 0
 pub record Found (ss ms : List ℕ) (n r : ℕ) : Type 0 where
-  pub is : (r ≡ 0 → ⊥) → (2 ≤ r) × (r < n) × (part ss (r * 128) (length ms) ≡ ms)
+  pub is : (r ≡ 0 → ⊥) → (2 ≤ r) × (r < n) × (cells ss (r * 128) (length ms) ≡ ms)
 
 -- the marks stand in row k, and the rows before it are as they were
 pub record Put (ss : List ℕ) (k : ℕ) (ms ss' : List ℕ) : Type 0 where

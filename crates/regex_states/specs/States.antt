@@ -23,7 +23,7 @@ pub record Settles (x : Regexp) (k : ℕ) (ms : List ℕ) (b : Bool) : Type 0 wh
   pub dies : b ≡ false → (w : List ℕ) → After x k ms w → ⊥
 
 -- the marks can be moved on, and what the state tells is right
-pub record State (x : Regexp) (k : ℕ) (ms : List ℕ) (b end : Bool) : Type 0 where
+pub record StateRight (x : Regexp) (k : ℕ) (ms : List ℕ) (b end : Bool) : Type 0 where
   pub good : Good x 0 ms
   pub told : Told (After x k ms []) b
   pub settled : end ≡ true → Settles x k ms b

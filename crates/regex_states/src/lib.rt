@@ -17,12 +17,12 @@ ghost use mathlib.Core.Path.{_≡_};
 ghost use mathlib.Core.Bool.{true, _&&_};
 ghost use Prim.Native.Nat.{_+_, _*_, _≤_, _<_};
 ghost use lib.Dec.{eqb};
-ghost use lib.ListN.{length, getD};
+ghost use lib.ListN.{length};
 ghost use Rattle.regex.specs.Tested.{Tested};
-ghost use Rattle.regex_marks.specs.Runs.{Clear, Grows, Ran, Weighs};
-ghost use Rattle.regex_states.specs.Ready.{part, width, count, Tables, Ready};
+ghost use Rattle.regex_marks.specs.Runs.{Clear};
+ghost use Rattle.regex_states.specs.Ready.{cells, width, count, Tables, Ready};
 ghost use Rattle.regex_states.specs.Texts.{Inside, Followed, Stepped};
-ghost use Rattle.regex_states.specs.Rooms.{Found, Put, Blank, Settling, Room, Added, Placed, Noted, Walked, Suits, Weighed, Empties, Sealed, Headed, Beyond, AllLow};
+ghost use Rattle.regex_states.specs.Rooms.{Found, Put, Blank, Settling, Room, Placed, Noted, Walked, Suits, Weighed, Empties, Sealed, Headed, Beyond, AllLow};
 
 // The bytes of a row, which are also the ASCII characters.
 const ROW: usize = 128;
@@ -92,7 +92,7 @@ fn follow(text: &[u8], edges: &[u8], from: usize, state: usize) -> Spot
 // Sets the marks of state k.
 fn load(sets: &[u8], k: usize, marks: &mut [u8])
     requires { ⌜ k * 128 + length (now marks) ≤ length (now sets) ⌝ }
-    ensures { λ _. ⌜ now (marks .exit) ≡ part (now (sets .entry)) (k * 128) (length (now (marks .entry))) ⌝ }
+    ensures { λ _. ⌜ now (marks .exit) ≡ cells (now (sets .entry)) (k * 128) (length (now (marks .entry))) ⌝ }
 {
     let from = k * ROW;
     let mut i = 0;
@@ -105,7 +105,7 @@ fn load(sets: &[u8], k: usize, marks: &mut [u8])
 // Whether the marks are those of state k.
 fn same(sets: &[u8], k: usize, marks: &[u8]) -> bool
     requires { ⌜ k * 128 + length (now marks) ≤ length (now sets) ⌝ }
-    ensures { λ r. ⌜ (r ≡ true → part (now (sets .entry)) (k * 128) (length (now (marks .entry))) ≡ now (marks .entry)) ⌝ }
+    ensures { λ r. ⌜ (r ≡ true → cells (now (sets .entry)) (k * 128) (length (now (marks .entry))) ≡ now (marks .entry)) ⌝ }
 {
     let from = k * ROW;
     let mut i = 0;

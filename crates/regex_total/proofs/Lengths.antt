@@ -2,7 +2,7 @@
 use mathlib.Core.Path.{_≡_, refl, ap, sym, _∙_}
 use mathlib.Core.Bool.{Bool, true, false, and-eq-true-iff, or-false}
 use mathlib.Core.List.{List, [], _∷_, _++_}
-use mathlib.Core.Logic.{_⊎_, ⊎-elim}
+use mathlib.Core.Logic.{⊎-elim}
 use Prim.Native.Nat.{ℕ, zero, suc, min, max, _+_, _*_, _-_, _/_, _≤_, _<_, _^_, zero-le}
 use native.Mathlib.Omega.{arith}
 use native.Mathlib.Nat.{add-zero, mul-suc, mul-zero, mul-comm, mul-le-mul-left, le-of-lt, div-lt-iff-lt-mul, le-div-iff-mul-le}
@@ -18,11 +18,10 @@ use Rattle.regex_definition.specs.Chars.{within}
 use Rattle.regex_chars.specs.Laws.{encodeAll-append, encodeAll-none, encodeAll-cons}
 use Rattle.regex_code.specs.Skips.{SkipsClass}
 use Rattle.regex_definition.specs.Words.{Join, Row, Times, upto, any, fails}
-use Rattle.regex_definition.specs.Regexp.{Regexp, empty, class, then, or, times, Describes, Range, hits}
-use Rattle.regex_code.specs.Flat.{flat, head, of-empty, of-class, of-then, of-or, of-upto, of-any, of-other, of-nothing, word-of, flag, flatRanges}
+use Rattle.regex_definition.specs.Regexp.{Regexp, Describes, Range, hits}
+use Rattle.regex_code.specs.Flat.{flat, of-empty, of-class, of-then, of-or, of-upto, of-any, of-short, of-other, of-nothing, word-of, flag, flatRanges}
 use Rattle.regex_total.specs.Answers.{Inside, Repeated, Widths, Capped, Apart, few, many, bytes, Reaches}
 use Rattle.regex_total.proofs.Parts.{spells-bytes}
-use Rattle.regex_total.proofs.Steps.{some-code}
 
 pub nil-bytes : (w : List ℕ) → w ≡ [] → bytes w ≡ 0
 nil-bytes w e = ap bytes e ∙ ap length encodeAll-none
@@ -165,27 +164,17 @@ module _ (s : List ℕ) where
                 x r (sym (word s at p) ∙ e);
           }
 
-    module _ (n0 : getD s at 0 ≡ 0 → ⊥) (n1 : getD s at 0 ≡ 1 → ⊥) (n2 : getD s at 0 ≡ 2 → ⊥) (n3 : getD s at 0 ≡ 3 → ⊥) where
-      pub span-short : length s - at < 3 → Widths s at at 0 0
-      unfolding Spans
-      span-short h =
-          record {
-            from = omega arith;
-            lo-fits = omega arith;
-            hi-fits = omega arith;
-            of = λ x r e. go x r (sym (word s at p) ∙ e) (sym (length-drop at s) ∙ ap length e);
-          }
-        where
-          go :
-              (x : Regexp) (r : List ℕ) → getD s at 0 ∷ drop (at + 1) s ≡ flat x r → length s - at ≡ length (flat x r)
-              → Spans s at 0 0 x r
-          go empty r e l = absurd (n0 (head e))
-          go (class comp gs) r e l = absurd (n1 (head e))
-          go (then x y) r e l = absurd (n2 (head e))
-          go (or x y) r e l = absurd (n3 (head e))
-          go (times lo (upto n) x) r e l = absurd (omega arith)
-          go (times lo any x) r e l = absurd (omega (arith, some-code x r))
+    pub span-short : 3 < getD s at 0 → length s - at < 3 → Widths s at at 0 0
+    unfolding Spans
+    span-short g h =
+        record {
+          from = omega arith;
+          lo-fits = omega arith;
+          hi-fits = omega arith;
+          of = λ x r e. of-short (Spans s at 0 0) _ _ g (omega (arith, length-drop (at + 1) s)) x r (sym (word s at p) ∙ e);
+        }
 
+    module _ (n0 : getD s at 0 ≡ 0 → ⊥) (n1 : getD s at 0 ≡ 1 → ⊥) (n2 : getD s at 0 ≡ 2 → ⊥) (n3 : getD s at 0 ≡ 3 → ⊥) where
       pub span-other : (getD s at 0 ≡ 4 → ⊥) → (getD s at 0 ≡ 5 → ⊥) → Widths s at at 0 0
       unfolding Spans
       span-other n4 n5 =

@@ -1,13 +1,13 @@
 -- Parts of a text, cut and put together. Assumes nothing.
 use mathlib.Core.Path.{_≡_, ap, sym, _∙_}
 use mathlib.Core.List.{List, [], _++_}
-use Prim.Native.Nat.{ℕ, _+_, _-_, _≤_}
+use Prim.Native.Nat.{ℕ, _-_, _≤_}
 use native.Mathlib.Omega.{arith}
 use lib.ListN.{length, length-append, take, drop, length-take, take-append-drop}
 use lib.Seq.{slice, length-slice, take-take, drop-append-le, length-take-le, take-append-seam, drop-append-seam}
 use Rattle.definition.specs.Utf8.{encodeAll}
-use Rattle.regex_chars.specs.Laws.{encodeAll-append, encodeAll-none, encodeAll-nil, fewer-chars, nil-slice, slice-nil}
-use Rattle.regex_total.specs.Answers.{Inside, Spells, bytes}
+use Rattle.regex_chars.specs.Laws.{encodeAll-append, encodeAll-none, encodeAll-nil, fewer-chars, nil-slice, slice-nil, Spells}
+use Rattle.regex_total.specs.Answers.{Inside, bytes}
 
 -- a part is its parts before and behind a place
 pub slice-join :

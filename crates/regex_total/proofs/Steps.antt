@@ -2,7 +2,7 @@
 use mathlib.Core.Path.{_≡_, refl, ap, sym, _∙_, subst}
 use mathlib.Core.Bool.{Bool, true, false}
 use mathlib.Core.List.{List, [], _∷_, _++_, append-assoc}
-use mathlib.Core.Logic.{_⊎_, inl, inr, ⊎-elim}
+use mathlib.Core.Logic.{inl, inr, ⊎-elim}
 use Prim.Native.Nat.{ℕ, zero, suc, _+_, _-_, _/_, _≤_, _<_, zero-le}
 use native.Mathlib.Omega.{arith}
 use native.Mathlib.Nat.{le-refl}
@@ -12,18 +12,19 @@ use Rattle.definition.specs.Utf8.{encode, encodeAll}
 use Rattle.basics.specs.Lists.{drop-at as word}
 use Rattle.regex_chars.specs.Chars.{Stands}
 use Rattle.regex_chars.specs.Classes.{Hits}
-use Rattle.regex_chars.specs.Laws.{encodeAll-none, encodeAll-cons, encodeAll-nil, nil-slice, slice-nil}
+use Rattle.regex_chars.specs.Laws.{encodeAll-none, encodeAll-cons, encodeAll-nil, nil-slice, slice-nil, Spells}
 use lib.Dec.{eqb}
 use borrow.Author.Tests.{eqb-true, eqb-false}
-use Rattle.regex_definition.specs.Words.{Join, Row, Times, upto, any, Told, holds, fails}
-use Rattle.regex_definition.specs.Regexp.{Regexp, empty, class, then, or, times, Describes, One, Range, hits}
+use Rattle.regex_definition.specs.Words.{Join, Row, Times, upto, Told, holds, fails}
+use Rattle.regex_definition.specs.Regexp.{Regexp, Describes, One, Range, hits}
 use Rattle.regex_definition.specs.Laws.{join-map, join-nil}
 use Rattle.regex_definition.specs.Agree.{told, told-true, bool-told}
-use Rattle.regex_code.specs.Flat.{flat, head, of-empty, of-class, of-then, of-or, of-upto, of-any, of-other, of-nothing, word-of}
+use Rattle.regex_code.specs.Flat.{flat, of-empty, of-class, of-then, of-or, of-upto, of-any, of-short, of-other, of-nothing, word-of}
 use Rattle.regex_code.specs.Skips.{Skips}
-use Rattle.regex_total.specs.Answers.{Inside, Spells, Matched, Repeated, Paired, Joined, Enough}
+use Rattle.regex_total.specs.Answers.{Inside, Matched, Repeated, Paired, Joined, Enough}
 use Rattle.regex_total.proofs.Count.{halves-join, halves-split, of-once, to-once, of-most-once, any-upto, upto-any, upto-more, row-nil}
 use Rattle.regex_total.proofs.Parts.{append-same, front-spells, spells-nil, nil-spells, spells-chars}
+use Rattle.regex_code.specs.Tests.{eqb-told}
 
 pub told-false : {P : Type 0} {b : Bool} → Told P b → b ≡ false → P → ⊥
 told-false (holds p) e q = let z : _≡_ {A = ℕ} 1 0 = ap number e in omega arith
@@ -32,21 +33,6 @@ told-false (holds p) e q = let z : _≡_ {A = ℕ} 1 0 = ap number e in omega ar
     number true = 1
     number false = 0
 told-false (fails n) e q = n q
-
-eqb-told : (a b : ℕ) → Told (a ≡ b) (eqb a b)
-eqb-told a b = go (eqb a b) refl
-  where
-    go : (t : Bool) → eqb a b ≡ t → Told (a ≡ b) t
-    go true e = holds (eqb-true a b e)
-    go false e = fails (eqb-false a b e)
-
-pub some-code : (x : Regexp) (r : List ℕ) → 1 ≤ length (flat x r)
-some-code empty r = omega arith
-some-code (class comp gs) r = omega arith
-some-code (then x y) r = omega arith
-some-code (or x y) r = omega arith
-some-code (times lo (upto n) x) r = omega arith
-some-code (times lo any x) r = omega arith
 
 module _ (s t : List ℕ) (from to : ℕ) (i : Inside t from to) where
   -- the empty word
@@ -152,20 +138,15 @@ module _ (s t : List ℕ) (from to : ℕ) (i : Inside t from to) where
               x r (sym (word s at p) ∙ e);
         }
 
-    module _ (n0 : getD s at 0 ≡ 0 → ⊥) (n1 : getD s at 0 ≡ 1 → ⊥) (n2 : getD s at 0 ≡ 2 → ⊥) (n3 : getD s at 0 ≡ 3 → ⊥) where
-      pub match-short : length s - at < 3 → Matched s at t from to false
-      match-short h = record { of = λ x r w e k. go w x r (sym (word s at p) ∙ e) (sym (length-drop at s) ∙ ap length e) }
-        where
-          go :
-              (w : List ℕ) (x : Regexp) (r : List ℕ) → getD s at 0 ∷ drop (at + 1) s ≡ flat x r → length s - at ≡ length (flat x r)
-              → Told (Describes x w) false
-          go w empty r e l = absurd (n0 (head e))
-          go w (class comp gs) r e l = absurd (n1 (head e))
-          go w (then x y) r e l = absurd (n2 (head e))
-          go w (or x y) r e l = absurd (n3 (head e))
-          go w (times lo (upto n) x) r e l = absurd (omega arith)
-          go w (times lo any x) r e l = absurd (omega (arith, some-code x r))
+    pub match-short : 3 < getD s at 0 → length s - at < 3 → Matched s at t from to false
+    match-short g h =
+        record {
+          of =
+              λ x r w e k. of-short (λ x r. Told (Describes x w) false) _ _ g (omega (arith, length-drop (at + 1) s)) x r
+              (sym (word s at p) ∙ e);
+        }
 
+    module _ (n0 : getD s at 0 ≡ 0 → ⊥) (n1 : getD s at 0 ≡ 1 → ⊥) (n2 : getD s at 0 ≡ 2 → ⊥) (n3 : getD s at 0 ≡ 3 → ⊥) where
       pub match-other : (getD s at 0 ≡ 4 → ⊥) → (getD s at 0 ≡ 5 → ⊥) → Matched s at t from to false
       match-other n4 n5 =
           record {

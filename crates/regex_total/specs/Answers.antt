@@ -6,20 +6,16 @@ use mathlib.Core.List.{List, _∷_}
 use Prim.Native.Nat.{ℕ, _+_, _*_, _^_, _≤_, _<_}
 use mathlib.Core.Logic.{_⊎_}
 use lib.ListN.{length, drop}
-use lib.Seq.{slice}
 use Rattle.definition.specs.Utf8.{encode, encodeAll}
 use Rattle.regex_definition.specs.Words.{Join, Times, upto, Told}
 use Rattle.regex_definition.specs.Regexp.{Regexp, Range, hits, Describes}
 use Rattle.regex_code.specs.Flat.{flat, flag, flatRanges}
 use Rattle.regex_total.specs.declared.Width.{Width}
+use Rattle.regex_chars.specs.Laws.{Spells}
 
 pub record Inside (t : List ℕ) (from to : ℕ) : Type 0 where
   pub order : from ≤ to
   pub end : to ≤ length t
-
--- the bytes from..to of t are those of the text w
-abbrev pub Spells : List ℕ → ℕ → ℕ → List ℕ → Type 0
-Spells t from to w = slice from to t ≡ encodeAll w
 
 -- the text of from..to is described by what stands at `at`
 pub record Matched (s : List ℕ) (at : ℕ) (t : List ℕ) (from to : ℕ) (b : Bool) : Type 0 where

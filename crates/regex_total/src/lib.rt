@@ -8,7 +8,7 @@ use regex_code::skip_class;
 use regex_code::small;
 use regex_code::wide;
 ghost use mathlib.Core.Path.{_≡_};
-ghost use Prim.Native.Nat.{_+_, _≤_, _<_, _^_, min, max};
+ghost use Prim.Native.Nat.{_+_, _≤_, _<_, min, max};
 ghost use mathlib.Core.Bool.{true};
 ghost use lib.ListN.{length, getD};
 ghost use Rattle.regex_total.specs.Answers.{noWidth, Inside, Matched, Repeated, Paired, Joined, Some, Enough, Widths, Capped, Apart, Reaches};

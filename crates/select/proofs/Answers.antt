@@ -9,11 +9,12 @@ use Rattle.definition.specs.Grammar.{spell}
 use Rattle.definition.specs.Plans.{planOf, poolOf}
 use Rattle.definition.specs.Walk.{walk}
 use Rattle.definition.specs.Outcomes.{Translates, early, judge, runBy, refuseRun}
-use Rattle.definition.specs.Outcomes.Reading.{refused, form}
+use Rattle.definition.specs.Outcomes.Reading.{refused}
 use Rattle.compile_forms.specs.Keeps.{compiled-keeps}
 use Rattle.compile_unique.specs.Readings.{OneReading, OneSelect, none-only, early-only, selects-only}
-use Rattle.parser_items.specs.declared.State.{State}
-use Rattle.compile.specs.Steps.{Parsed, verdictOf, numberOf}
+use Rattle.parser_items.specs.declared.Cursor.{Cursor}
+use Rattle.compile.specs.Outcomes.{numberOf}
+use Rattle.compile.specs.Steps.{Parsed, verdictOf}
 use Rattle.compile.specs.declared.Refusal.{Refusal}
 use Rattle.compile.specs.declared.Refusal.the-variants.{Malformed}
 use Rattle.compile.proofs.Answers.{reading, judged, formed}
@@ -22,7 +23,7 @@ use Rattle.run.specs.declared.Ran.{Ran}
 use Rattle.select.specs.Selections.{selected}
 use Rattle.select.specs.declared.Selection.the-variants as selection
 
-module _ {s P' L' : List ℕ} {b : State} (p : Parsed s P' L' b) where
+module _ {s P' L' : List ℕ} {b : Cursor} (p : Parsed s P' L' b) where
   -- a refusal of the walk
   pub select-refused : {T X L : List ℕ} {at n : ℕ} (w : Refusal) → early s ≡ 0 → n ≡ verdictOf b → (n ≡ 0 → ⊥) → numberOf w ≡ n → OneSelect s T X L at (selected (selection.Refused w) L)
   unfolding runBy selected
@@ -52,10 +53,10 @@ module _ {s P' L' : List ℕ} {b : State} (p : Parsed s P' L' b) where
         selects-only (subst (OneReading s) (f .is) (reading p h)) (g (f .query) translation)
 
 -- the parts of the rooms that hold them have their lengths
-pub plan-part : {s P' L' : List ℕ} {b : State} → Parsed s P' L' b → b .len ≡ length (take (b .len) P')
+pub plan-part : {s P' L' : List ℕ} {b : Cursor} → Parsed s P' L' b → b .len ≡ length (take (b .len) P')
 plan-part {P' = P'} {b = b} p = omega (arith, length-take (b .len) P', p .len)
 
-pub pool-part : {s P' L' : List ℕ} {b : State} → Parsed s P' L' b → b .pool ≡ length (take (b .pool) L')
+pub pool-part : {s P' L' : List ℕ} {b : Cursor} → Parsed s P' L' b → b .pool ≡ length (take (b .pool) L')
 pool-part {L' = L'} {b = b} p = omega (arith, length-take (b .pool) L', p .poolLen)
 
 -- no tree

@@ -2,7 +2,7 @@
 use mathlib.Core.List.{List}
 use Prim.Native.Nat.{ℕ}
 use Rattle.definition.specs.Outcomes.{RunOutcome, refuseRun}
-use Rattle.compile.specs.Steps.{numberOf}
+use Rattle.compile.specs.Outcomes.{numberOf}
 use Rattle.run.specs.Outcomes.{ran}
 use Rattle.select.specs.declared.Selection.{Selection}
 use Rattle.select.specs.declared.Selection.the-variants as selection

@@ -15,5 +15,5 @@ pub mod Pair
 pub mod Starts
 pub mod Accepted
 pub mod Outcomes
-pub mod Rows
+pub mod Nodes
 pub mod Places

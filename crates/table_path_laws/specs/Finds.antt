@@ -20,8 +20,7 @@ use Rattle.table_laws.specs.Counts.{counts-next}
 use Rattle.table_laws.specs.Parents.{InRange, parent-is, parent-some}
 use Rattle.table_laws.specs.Rights.{count-other}
 use Rattle.table_laws.specs.Accepted.{Accepted}
-use Rattle.table_laws.specs.Rows.{tree-root, node-number}
-use Rattle.eval_laws.specs.Nodes.{kids, nodes-one, length-nodes, elements-list, members-map, lookup-first, lookup-next}
+use Rattle.table_laws.specs.Nodes.{kids, nodes-one, length-nodes, elements-list, members-map, id-node, lookup-first, lookup-next}
 use Rattle.definition.specs.Paths.{Step, stepAt, stepsUp, stepsTo, stepForm, stepsForm, formOf}
 use Rattle.definition.specs.Paths.Step.{named, placed}
 use Rattle.definition_bytes.specs.Same.{same-self}
@@ -115,8 +114,8 @@ module _ (T X : List ℕ) (a : Accepted T X) where
 
   -- the steps to a node find that node alone
   pub steps-find : (i : ℕ) → i < nodeCount T → selected (formOf T X i) (tree T X) ≡ i ∷ []
-  unfolding selected formOf stepsTo evalQuery evalSegments stepsForm
-  steps-find i l = rw (tree-root T X, steps-up i i (omega arith) l [] (nodeAt T X 0), node-number T X i)
+  unfolding selected formOf stepsTo evalQuery evalSegments stepsForm tree
+  steps-find i l = rw (steps-up i i (omega arith) l [] (nodeAt T X 0), id-node T X a i l)
 
 -- nodes of one table to which the same steps lead are one node
 pub steps-differ : (T X : List ℕ) → Accepted T X → (i j : ℕ) → i < nodeCount T → j < nodeCount T → stepsTo T X i ≡ stepsTo T X j → i ≡ j

@@ -1,17 +1,16 @@
 -- The laws of counting: the length of a body, an item more, and sums place by place. Assumes nothing.
-use Prim.Native.Nat.{ℕ, zero, suc, _+_, _-_, _≤_, _<_}
-use mathlib.Core.Path.{_≡_, refl, sym, ap, _∙_, subst}
+use Prim.Native.Nat.{ℕ, zero, suc, _+_, _≤_, _<_}
+use mathlib.Core.Path.{_≡_, refl, sym, ap, _∙_}
 use mathlib.Core.Logic.{_≢_}
 use mathlib.Core.Bool.{Bool, true, false, cond, true≢false, _&&_}
 use mathlib.Core.List.{List, [], _∷_}
 use native.Mathlib.Numerals.{add-one}
 use native.Mathlib.Omega.{arith}
-use lib.Dec.{eqb, leb, ltb}
+use lib.Dec.{eqb}
 use lib.ListN.{length, drop, getD, set, replicate, length-set, length-replicate, getD-replicate}
-use lib.Seq.{drop-cons, drop-drop, getD-set-same, getD-set-other, ext-getD}
-use borrow.Author.Tests.{ne-eqb, eqb-true, eqb-false, ltb-true, ltb-false, le-leb, lt-leb}
+use lib.Seq.{drop-cons, drop-drop, getD-set-same, getD-set-other}
+use borrow.Author.Tests.{ne-eqb, eqb-true, eqb-false}
 use Rattle.utf8_laws.specs.Bytes.{by-test}
-use Rattle.definition.specs.Limits.{maxInt}
 use Rattle.tally_laws.specs.Items.{hasTwo, hasFour, hasEight, hasOne, bodyLength, kindsWithin, kindsOf, occurrences}
 use Rattle.tally_laws.specs.Tallies.{everyBelow}
 use Rattle.tally.specs.Counts.{CountsOf, Sums}

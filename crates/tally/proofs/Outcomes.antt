@@ -1,7 +1,7 @@
 -- The laws of taking a plan: each way through the code is the definition's one outcome. Assumes nothing.
 use Prim.Native.Nat.{ℕ, zero, suc, _+_, _≤_, _<_}
 use mathlib.Core.Path.{_≡_, refl, sym, ap, _∙_, subst}
-use mathlib.Core.Bool.{Bool, true, false, cond, _&&_}
+use mathlib.Core.Bool.{Bool, true, false}
 use mathlib.Core.List.{List}
 use native.Mathlib.Nat.{zero-add}
 use native.Mathlib.Omega.{arith}
@@ -12,8 +12,8 @@ use borrow.Author.Tests.{le-leb, lt-leb}
 use Rattle.definition.specs.Limits.{maxInt}
 use Rattle.definition.specs.Outcomes.{ChecksPlan}
 use Rattle.plan_laws.specs.One.{checks-one}
-use Rattle.plan_check.specs.Checks.{Accepts, accepted, refused, refusal}
-use Rattle.tally_laws.specs.Items.{kindsOf, occurrences}
+use Rattle.plan_check.specs.Checks.{Accepts, accepted, refusal}
+use Rattle.tally_laws.specs.Items.{kindsOf}
 use Rattle.tally_laws.specs.Tallies.{TallyOutcome, Tallies, tallyBy, fits, everyBelow, sumAt, withPlan}
 use Rattle.tally_laws.specs.Series.{length-tabulate, getD-tabulate}
 use Rattle.tally.specs.Counts.{CountsOf, Fits, Sums}

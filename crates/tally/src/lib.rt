@@ -2,20 +2,18 @@
 // A plan is counted by itself first, in an array of counters of its own, so that a refusal leaves what was counted before as it is.
 ghost use mathlib.Core.Path.{_≡_};
 ghost use mathlib.Core.Bool.{true};
-ghost use Prim.Native.Nat.{ℕ, _≤_};
+ghost use Prim.Native.Nat.{_≤_};
 ghost use lib.ListN.{length};
 ghost use Rattle.tally_laws.specs.Items.{hasTwo, hasFour, hasEight, hasOne, bodyLength, kindsOf};
 ghost use Rattle.tally_laws.specs.Tallies.{TallyOutcome, Tallies};
 ghost use Rattle.tally.specs.Counts.{CountsOf, Fits, Sums, tallied};
+use limits::MAX_INT;
 use plan_check::check_plan;
 use plan_format::kinds;
 use plan_format::lengths;
 
 // As many counts as a byte has values.
 pub const KINDS: usize = 256;
-
-// 2^53-1
-const MAX_COUNT: u64 = 9007199254740991;
 
 fn has_two(kind: u8) -> bool
     ensures { λ r. ⌜ r ≡ hasTwo kind ⌝ }
@@ -111,10 +109,10 @@ fn fits(more: [u64; KINDS], counts: &[u64; KINDS]) -> bool
     let mut i = 0;
     while i < KINDS {
         let old = counts[i];
-        if MAX_COUNT < old {
+        if MAX_INT < old {
             return false;
         }
-        if MAX_COUNT - old < more[i] {
+        if MAX_INT - old < more[i] {
             return false;
         }
         i += 1;
@@ -145,7 +143,7 @@ pub fn tally(plan: &[u8], pool: &[u8], counts: &mut [u64; KINDS], plans: &mut u6
         return 11;
     }
     let taken = *plans;
-    if MAX_COUNT <= taken {
+    if MAX_INT <= taken {
         return 21;
     }
     let more = count_items(plan);

@@ -1,5 +1,5 @@
 -- Plans that query forms translate to: their kinds are the forms' items, and these are bytes. Document 02's example. Assumes nothing.
-use Prim.Native.Nat.{ℕ, suc, _+_, _<_}
+use Prim.Native.Nat.{ℕ, suc, _<_}
 use native.Mathlib.Omega.{arith}
 use mathlib.Core.Path.{_≡_, refl, ap₂}
 use mathlib.Core.Bool.{cond}

@@ -205,6 +205,10 @@ placed-utf8 s h e p = along-utf8 (length s) s (omega arith) 0 0 0 (omega arith) 
 pub placed-join : (s : List ℕ) (a b c : ℕ) → PlacedIn s a b → PlacedIn s b c → PlacedIn s a c
 placed-join s a b c p q j l h = by-test (ltb j b) (λ t. p j l (ltb-true j b t)) (λ f. q j (ltb-false j b f) h)
 
+-- some of the places
+pub placed-part : (s : List ℕ) {a b : ℕ} (i j : ℕ) → PlacedIn s a b → a ≤ i → j ≤ b → PlacedIn s i j
+placed-part s i j p l h k x y = p k (omega arith) (omega arith)
+
 -- the places behind some others
 pub placed-behind : (s : List ℕ) (at n m : ℕ) → PlacedIn s (at + n) (at + n + m) → PlacedIn s (at + n) (at + (n + m))
 placed-behind s at n m p j l h = p j l (omega arith)

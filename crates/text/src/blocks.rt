@@ -1,7 +1,7 @@
-// Whether each of 512 bytes may stand where it does, by the kind of a text: all its characters beyond ASCII have two bytes, three or four (kinds 2, 3 and 4), they
+// Whether each of some bytes may stand where it does, by the kind of a text: all its characters beyond ASCII have two bytes, three or four (kinds 2, 3 and 4), they
 // have at most three (kind 5), or any length (kind 6).
-// A processor makes many of these tests at once, in few steps: a byte is turned so that those which must not occur are the least numbers, and only the least of
-// all is kept.
+// A processor makes many of these tests at once, in few steps: a byte is turned, with the next one, so that those which must not occur are the least numbers or the
+// greatest, and only the least and the greatest of all are kept.
 use crate::placed;
 ghost use mathlib.Core.Path.{_≡_};
 ghost use mathlib.Core.Bool.{true, _||_};
@@ -9,13 +9,7 @@ ghost use Prim.Native.Nat.{ℕ, _+_, _≤_};
 ghost use lib.Dec.{leb};
 ghost use lib.ListN.{length};
 ghost use Rattle.text.specs.Placed.{isTail, PlacedIn};
-ghost use Rattle.text.specs.Lengths.{Fits, leastOf, topOf, Agrees, Start4, Bounds3, Bounds4, Starts};
-
-// So many bytes are tested at once.
-pub const MOST: usize = 512;
-
-// So many are looked at for the kind of a text.
-const LOOK: usize = 256;
+ghost use Rattle.text.specs.Lengths.{lowMark, Fits, leastOf, Under, topOf, Agrees, Starts};
 
 // The lesser of two bytes.
 fn lesser(p: u8, q: u8) -> u8
@@ -65,7 +59,7 @@ fn agrees_as(kind: u8, a: u8, b: u8, c: u8, x: u8) -> u8
         return agreed(x, above(c, 0x40));
     }
     if kind == 3 {
-        return agreed(x, above(greater(c, b), 0x61));
+        return agreed(x, above(greater(c, b), 0x60));
     }
     if kind == 4 {
         return agreed(x, above(greater(greater(c, b), a), 0x70));
@@ -77,18 +71,29 @@ fn agrees_as(kind: u8, a: u8, b: u8, c: u8, x: u8) -> u8
     agreed(x, above(greater(two, above(a, 0x30)), 0x40))
 }
 
-// A byte, turned: less than `least_of` where it does not occur in a text of the kind. Kind 3 is without E0 and ED, whose next bytes have bounds of their own.
-fn apart_as(kind: u8, c: u8) -> u8
-    ensures { λ r. ⌜ (leastOf kind ≤ r → Fits kind c) ⌝ }
+// A mark where x is in 80..top, and else 0.
+fn low_mark(x: u8, top: u8, mark: u8) -> u8
+    ensures { λ r. ⌜ r ≡ lowMark x top mark ⌝ }
+{
+    if (0x80 <= x) & (x <= top) {
+        return mark;
+    }
+    0
+}
+
+// A byte and the next one, turned: less than `least_of` where they do not occur so in a text of the kind. E0 and F0 before a byte that is too low for them, and ED
+// before one that is too high, are turned into the same number.
+fn apart_as(kind: u8, c: u8, x: u8) -> u8
+    ensures { λ r. ⌜ (leastOf kind ≤ r → Fits kind c x) ⌝ }
 {
     if kind == 2 {
         return c ^ 0xE0;
     }
     if kind == 3 {
-        return lesser(c ^ 0xD0, c ^ 0xDD);
+        return c ^ 0xDD ^ low_mark(x, 0x9F, 0x0D);
     }
     if kind == 4 {
-        return c ^ 0xCF;
+        return above(c ^ 0xCC, low_mark(x, 0x8F, 1));
     }
     c ^ 0xC0
 }
@@ -109,90 +114,75 @@ fn least_of(kind: u8) -> u8
     2
 }
 
-// The greatest byte in a text of the kind, where `apart_as` does not see to it.
-fn most_byte(kind: u8) -> u8
+// The same the other way round: greater than `most_of` where they do not occur so, in a text of kind 5 or 6.
+fn under_as(kind: u8, c: u8, x: u8) -> u8
+    ensures { λ r. ⌜ (r ≤ topOf kind → Under kind c x) ⌝ }
+{
+    if kind == 5 {
+        return c ^ 2 ^ low_mark(x, 0x9F, 0x0D);
+    }
+    above(c, low_mark(x, 0x8F, 1))
+}
+
+// The greatest number that a byte which occurs is turned into.
+fn most_of(kind: u8) -> u8
     ensures { λ r. ⌜ r ≡ topOf kind ⌝ }
 {
     if kind == 5 {
-        return 0xEF;
+        return 0xEE;
     }
     if kind == 6 {
-        return 0xF4;
+        return 0xF3;
     }
     0xFF
 }
 
-// Whether x keeps the bound that F0 has for the next byte.
-fn starts4(c: u8, x: u8) -> bool
-    ensures { λ r. ⌜ (r ≡ true → Start4 c x) ⌝ }
-{
-    (c != 0xF0) | (x < 0x80) | (0x8F < x)
-}
-
-// Whether x keeps the bounds that E0 and ED have.
-fn bounds3(c: u8, x: u8) -> bool
-    ensures { λ r. ⌜ (r ≡ true → Bounds3 c x) ⌝ }
-{
-    let low = (0x80 <= x) & (x <= 0x9F);
-    ((c != 0xE0) | !low) & ((c != 0xED) | low)
-}
-
-// Whether x keeps the bounds that F0 and F4 have.
-fn bounds4(c: u8, x: u8) -> bool
-    ensures { λ r. ⌜ (r ≡ true → Bounds4 c x) ⌝ }
-{
-    let low = (0x80 <= x) & (x <= 0x8F);
-    ((c != 0xF0) | !low) & ((c != 0xF4) | low)
-}
-
-// Whether x keeps the bounds that c has for the next byte, in a text of the kind.
+// Whether x is not too low behind E0 and F0, and not too high behind ED, in a text of kind 6: all three are turned into ED.
 fn starts_as(kind: u8, c: u8, x: u8) -> bool
     ensures { λ r. ⌜ (r ≡ true → Starts kind c x) ⌝ }
 {
-    if kind < 4 {
+    if kind < 6 {
         return true;
     }
-    if kind == 4 {
-        return starts4(c, x);
-    }
-    if kind == 5 {
-        return bounds3(c, x);
-    }
-    bounds3(c, x) & bounds4(c, x)
+    let four = 0xFF - low_mark(x, 0x8F, 0x10);
+    (c & four) ^ low_mark(x, 0x9F, 0x0D) != 0xED
 }
 
-// Whether each of the 512 bytes behind the three at `at` may stand where it does, in a text of the kind.
-pub fn most_of(s: &[u8], at: usize, kind: u8) -> bool
-    requires { ⌜ at + 515 ≤ length (now s) ⌝ }
+// Whether each of the n bytes behind the three at `at` may stand where it does, in a text of the kind.
+pub fn block_as(s: &[u8], at: usize, n: usize, kind: u8) -> bool
+    requires { ⌜ at + n + 3 ≤ length (now s) ⌝ }
     requires { ⌜ (2 ≤ kind) × (kind ≤ 6) ⌝ }
-    ensures { λ r. ⌜ (r ≡ true → PlacedIn (now (s .entry)) at (at + 512)) ⌝ }
+    ensures { λ r. ⌜ (r ≡ true → PlacedIn (now (s .entry)) at (at + n)) ⌝ }
 {
+    let p = s[at];
+    let q = s[at + 1];
+    let r = s[at + 2];
     let mut even = 0xFF;
-    let mut low = lesser(apart_as(kind, s[at]), apart_as(kind, s[at + 1]));
-    let mut top = greater(s[at], s[at + 1]);
+    let mut low = lesser(apart_as(kind, p, q), apart_as(kind, q, r));
+    let mut top = greater(under_as(kind, p, q), under_as(kind, q, r));
     let mut right = true;
     let mut i = 0;
-    while i < MOST {
+    while i < n {
         let j = at + i;
         let c = s[j + 2];
         let x = s[j + 3];
         even = lesser(even, agrees_as(kind, s[j], s[j + 1], c, x));
-        low = lesser(low, apart_as(kind, c));
-        top = greater(top, c);
+        low = lesser(low, apart_as(kind, c, x));
+        top = greater(top, under_as(kind, c, x));
         right = right & starts_as(kind, c, x);
         i += 1;
     }
-    right & (0x80 <= even) & (least_of(kind) <= low) & (top <= most_byte(kind))
+    right & (0x80 <= even) & (least_of(kind) <= low) & (top <= most_of(kind))
 }
 
-// The kind that 256 bytes from `at` on look like, by the least and the greatest of the bytes that begin a character of more than one byte.
-pub fn kind_of(s: &[u8], at: usize) -> u8
-    requires { ⌜ at + 256 ≤ length (now s) ⌝ }
+// The kind that n bytes from `at` on look like, by the least and the greatest of the bytes that begin a character of more than one byte.
+pub fn kind_of(s: &[u8], at: usize, n: usize) -> u8
+    requires { ⌜ at + n ≤ length (now s) ⌝ }
 {
     let mut low = 0xFF;
     let mut top = 0;
     let mut i = 0;
-    while i < LOOK {
+    while i < n {
         low = lesser(low, s[at + i] ^ 0xC0);
         top = greater(top, s[at + i]);
         i += 1;
@@ -211,7 +201,7 @@ fn kind_by(low: u8, top: u8) -> u8 {
     if 0xF0 <= top {
         return 6;
     }
-    if low < 0x21 {
+    if low < 0x20 {
         return 5;
     }
     3

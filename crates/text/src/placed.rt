@@ -1,7 +1,6 @@
 // Whether a text of some length is UTF-8, by tests of four bytes that follow each other: which may stand behind which three. No test needs another's answer,
 // so many are made at once, and bytes may be looked at twice. What is not found to be UTF-8 here is tested character by character.
 use crate::blocks;
-use crate::blocks::MOST;
 use crate::encoding;
 ghost use mathlib.Core.Path.{_≡_};
 ghost use mathlib.Core.Bool.{true};
@@ -15,7 +14,15 @@ const FEW: usize = 16;
 
 const MANY: usize = 64;
 
-// The kinds of blocks of 512 bytes are those of `blocks`, but 5 and 6 are kept for so many blocks, and say how many are left of them: from WIDE on 5, and behind it 6.
+// A long text is tested in blocks of so many bytes where they are ASCII, and else of up to so many.
+const MOST: usize = 512;
+
+const LARGE: usize = 4096;
+
+// So many bytes are looked at for the kind of a text.
+const LOOK: usize = 256;
+
+// The kinds of blocks are those of `blocks`, but 5 and 6 are kept for so many blocks, and say how many are left of them: from WIDE on 5, and behind it 6.
 const WIDE: u8 = 16;
 
 const ROUNDS: u8 = 16;
@@ -164,50 +171,56 @@ fn ascii_256(s: &[u8], at: usize) -> bool
     ascii_many(s, at + 64) & ascii_many(s, at + 128) & ascii_many(s, at + 192)
 }
 
-// Whether each of 512 bytes may stand where it does, found where they are of the kind.
-fn passes_as(s: &[u8], at: usize, kind: u8) -> bool
-    requires { ⌜ at + 515 ≤ length (now s) ⌝ }
-    ensures { λ r. ⌜ (r ≡ true → PlacedIn (now (s .entry)) at (at + 512)) ⌝ }
+// Whether each of n bytes may stand where it does, found where they are of the kind.
+fn passes_as(s: &[u8], at: usize, n: usize, kind: u8) -> bool
+    requires { ⌜ at + n + 3 ≤ length (now s) ⌝ }
+    ensures { λ r. ⌜ (r ≡ true → PlacedIn (now (s .entry)) at (at + n)) ⌝ }
 {
     if kind == 2 {
-        return blocks::most_of(s, at, 2);
+        return blocks::block_as(s, at, n, 2);
     }
     if kind == 3 {
-        return blocks::most_of(s, at, 3);
+        return blocks::block_as(s, at, n, 3);
     }
     if kind == 4 {
-        return blocks::most_of(s, at, 4);
+        return blocks::block_as(s, at, n, 4);
     }
     if kind == 5 {
-        return blocks::most_of(s, at, 5);
+        return blocks::block_as(s, at, n, 5);
     }
-    blocks::most_of(s, at, 6)
+    blocks::block_as(s, at, n, 6)
 }
 
-// The kind that the next block is tested as, behind one that passes as its kind: the same, and from time to time the kind that it looks like.
-fn kept_kind(s: &[u8], at: usize, kind: u8) -> u8
-    requires { ⌜ at + 256 ≤ length (now s) ⌝ }
+// The kind that n bytes look like.
+fn looks_like(s: &[u8], at: usize, n: usize) -> u8
+    requires { ⌜ at + n ≤ length (now s) ⌝ }
+{
+    if LOOK < n {
+        return wide_kind(blocks::kind_of(s, at, LOOK));
+    }
+    wide_kind(blocks::kind_of(s, at, n))
+}
+
+// The kind that the next block is tested as, behind one of n bytes that passes as its kind: the same, and from time to time the kind that it looks like.
+fn kept_kind(s: &[u8], at: usize, n: usize, kind: u8) -> u8
+    requires { ⌜ at + n ≤ length (now s) ⌝ }
 {
     if kind < WIDE {
         return kind;
     }
     if kind % ROUNDS == 0 {
-        return wide_kind(blocks::kind_of(s, at));
+        return looks_like(s, at, n);
     }
     kind - 1
 }
 
-// The kind that the next block is tested as, behind one that does not pass as its kind: what it looks like, and where that is the same kind, a wider one.
-fn next_kind(s: &[u8], at: usize, kind: u8) -> u8
-    requires { ⌜ at + 256 ≤ length (now s) ⌝ }
+// The kind that the next block is tested as, behind one that does not pass as its kind: what it looks like, and where that is the same kind, any.
+fn next_kind(s: &[u8], at: usize, n: usize, kind: u8) -> u8
+    requires { ⌜ at + n ≤ length (now s) ⌝ }
 {
-    let found = blocks::kind_of(s, at);
-    let was = kind_alone(kind);
-    if found != was {
-        return wide_kind(found);
-    }
-    if was == 3 {
-        return wide_kind(5);
+    let found = looks_like(s, at, n);
+    if kind_alone(found) != kind_alone(kind) {
+        return found;
     }
     wide_kind(6)
 }
@@ -234,21 +247,78 @@ fn kind_alone(kind: u8) -> u8 {
     6
 }
 
-// 0, unless each of 512 bytes may stand where it does: then the kind that the next block is tested as.
-fn passes_most(s: &[u8], at: usize, kind: u8) -> u8
-    requires { ⌜ at + 515 ≤ length (now s) ⌝ }
-    ensures { λ r. ⌜ (0 < r → PlacedIn (now (s .entry)) at (at + 512)) ⌝ }
+// 0, unless each of n bytes may stand where it does: then the kind that the next block is tested as.
+fn passes_block(s: &[u8], at: usize, n: usize, kind: u8) -> u8
+    requires { ⌜ at + n + 3 ≤ length (now s) ⌝ }
+    ensures { λ r. ⌜ (0 < r → PlacedIn (now (s .entry)) at (at + n)) ⌝ }
 {
+    if passes_as(s, at, n, kind_alone(kind)) {
+        return kept_kind(s, at, n, kind);
+    }
+    if !blocks::block_as(s, at, n, 6) {
+        return 0;
+    }
+    next_kind(s, at, n, kind)
+}
+
+// How many of the bytes that are left are tested next: 512 where the first 32 are ASCII, and else as many as a block may have, by 64.
+fn step_at(s: &[u8], at: usize, left: usize) -> usize
+    requires { ⌜ (at + left + 3 ≤ length (now s)) × (512 ≤ left) ⌝ }
+    ensures { λ r. ⌜ (64 ≤ r) × (r ≤ left) ⌝ }
+{
+    if encoding::ascii32(s, at + BEFORE) {
+        return MOST;
+    }
+    if LARGE < left {
+        return LARGE;
+    }
+    left / MANY * MANY
+}
+
+// 0, unless each of n bytes may stand where it does: then the kind that the next block is tested as. 512 bytes are first asked whether they are ASCII.
+fn passes_step(s: &[u8], at: usize, n: usize, kind: u8) -> u8
+    requires { ⌜ at + n + 3 ≤ length (now s) ⌝ }
+    ensures { λ r. ⌜ (0 < r → PlacedIn (now (s .entry)) at (at + n)) ⌝ }
+{
+    if n != MOST {
+        return passes_block(s, at, n, kind);
+    }
     if ascii_most(s, at) {
         return kind;
     }
-    if passes_as(s, at, kind_alone(kind)) {
-        return kept_kind(s, at, kind);
+    passes_block(s, at, n, kind)
+}
+
+// Whether each of the last bytes behind i, less than 512, may stand where it does: by the last 512, if they are ASCII, and else by as few as are left, by 64.
+fn passes_last(s: &[u8], i: usize, kind: u8) -> bool
+    requires { ⌜ (515 ≤ length (now s)) × (i + 3 ≤ length (now s)) × (length (now s) < i + 515) ⌝ }
+    ensures { λ r. ⌜ (r ≡ true → PlacedIn (now (s .entry)) i (length (now (s .entry)) - 3)) ⌝ }
+{
+    let end = s.len() - BEFORE;
+    if ascii_most(s, end - MOST) {
+        return true;
     }
-    if !blocks::most_of(s, at, 6) {
-        return 0;
+    let n = (end - i + (MANY - 1)) / MANY * MANY;
+    passes_block(s, end - n, n, kind) != 0
+}
+
+// Whether each byte behind the first three of a long text may stand where it does.
+fn long(s: &[u8]) -> bool
+    requires { ⌜ 515 ≤ length (now s) ⌝ }
+    ensures { λ r. ⌜ (r ≡ true → PlacedIn (now (s .entry)) 0 (length (now (s .entry)) - 3)) ⌝ }
+{
+    let end = s.len() - BEFORE;
+    let mut kind = looks_like(s, 0, end);
+    let mut i = 0;
+    while MOST <= end - i {
+        let n = step_at(s, i, end - i);
+        kind = passes_step(s, i, n, kind);
+        if kind == 0 {
+            return false;
+        }
+        i += n;
     }
-    next_kind(s, at, kind)
+    passes_last(s, i, kind)
 }
 
 // Whether each of n bytes may stand where it does, where n is 16 or 64.
@@ -265,46 +335,20 @@ fn passes_short(s: &[u8], at: usize, n: usize) -> bool
     false
 }
 
-// 0, unless each of n bytes may stand where it does, where n is 16, 64 or 512: then the kind that the next block is tested as.
-fn passes(s: &[u8], at: usize, n: usize, kind: u8) -> u8
-    requires { ⌜ at + n + 3 ≤ length (now s) ⌝ }
-    ensures { λ r. ⌜ (0 < r → PlacedIn (now (s .entry)) at (at + n)) ⌝ }
-{
-    if n == MOST {
-        return passes_most(s, at, kind);
-    }
-    if passes_short(s, at, n) {
-        return kind;
-    }
-    0
-}
-
-// The kind that the first block of n bytes is tested as.
-fn first_kind(s: &[u8], n: usize) -> u8
-    requires { ⌜ n + 3 ≤ length (now s) ⌝ }
-{
-    if n == MOST {
-        return wide_kind(blocks::kind_of(s, 0));
-    }
-    WIDE
-}
-
 // Whether each byte behind the first three may stand where it does, n at a time. The last n may begin among bytes that were tested before.
 fn each(s: &[u8], n: usize) -> bool
     requires { ⌜ (1 ≤ n) × (n + 3 ≤ length (now s)) ⌝ }
     ensures { λ r. ⌜ (r ≡ true → PlacedIn (now (s .entry)) 0 (length (now (s .entry)) - 3)) ⌝ }
 {
     let last = s.len() - (n + BEFORE);
-    let mut kind = first_kind(s, n);
     let mut i = 0;
     while i < last {
-        kind = passes(s, i, n, kind);
-        if kind == 0 {
+        if !passes_short(s, i, n) {
             return false;
         }
         i += n;
     }
-    passes(s, last, n, kind) != 0
+    passes_short(s, last, n)
 }
 
 // Whether the first three bytes may stand where they do, and the text may end behind the last three.
@@ -335,5 +379,5 @@ pub fn all_utf8(s: &[u8]) -> bool
     if s.len() < MOST + BEFORE {
         return each(s, MANY);
     }
-    each(s, MOST)
+    long(s)
 }

@@ -1,10 +1,9 @@
 -- One character of a quoted text: how a text that begins with it can be read, and how one that does not. Assumes nothing.
-use Prim.Native.Nat.{ℕ, _<_}
+use Prim.Native.Nat.{ℕ}
 use mathlib.Core.Path.{_≡_, refl, sym, ap, _∙_}
 use mathlib.Core.List.{List, [], _∷_, _++_}
 use mathlib.Core.Bool.{true, false, true≢false}
 use native.Mathlib.Omega.{arith}
-use lib.Dec.{lit<}
 use Rattle.definition.specs.Lexical.{Char, Escape, Quote, ownByte, otherByte, isShort, isUnescaped, spellEscape, spellChar}
 use Rattle.definition.specs.Lexical.Quote.{double, single}
 use Rattle.definition.specs.Lexical.Char.{plain, otherQuote, ownQuote, escape}

@@ -45,7 +45,7 @@ use denote.Triple.Table.{entered, cited}
 use denote.Triple.Walked.{says, needs, Stays, stay-slice, stay-none, stay-dropped, gave-ref, walkOf, goes-slice, goes-none, goes-dropped, goes-gave-ref, Walks, ends-at, walked, walk-meets}
 use denote.Exit.{yes}
 use denote.Signature.{Slot, plain}
-use Rattle.eval.specs.Asks.{AskEnter, Entered}
+use Rattle.eval_asks.specs.Asks.{AskEnter, Entered}
 use Rattle.eval.proofs.first as first
 use Rattle.eval.proofs.first.Symbol as first-def
 use Rattle.eval.proofs.first.Symbol.{name as #eval·first}

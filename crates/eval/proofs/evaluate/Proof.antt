@@ -1,18 +1,16 @@
--- `eval::evaluate` meets its contract: nothing is found, or a node is pushed, or the places of a slice, or evaluation goes on behind its entrance. Assumes nothing.
+-- `eval::evaluate` meets its contract: nothing is found, or a node is pushed, or evaluation goes on behind its entrance. Assumes nothing.
 use borrow.Author.Needs.{needs}
 use Rattle.eval.proofs.evaluate.Statement.{statement}
 use Rattle.eval.proofs.evaluate.Tie as tie
 use Rattle.eval.proofs.evaluate.Reads as reads
 use Rattle.eval.proofs.evaluate.Lts as lts
 use Rattle.eval.proofs.enter.Reads as enter-reads
-use Rattle.eval_shortcuts.proofs.straight.is_last_slice.Reads as is-last-slice-reads
-use Rattle.eval_shortcuts.proofs.straight.push_slice.Reads as push-slice-reads
 use Rattle.eval_front.proofs.front.Reads as front-reads
 use Rattle.eval_front.proofs.push.Reads as push-reads
 use mathlib.Core.Path.{refl}
 use native.Mathlib.Omega.{arith}
 use borrow.Author.Tests.{not-true, not-false}
-use Rattle.eval.specs.Fronts.{front-asked, front-lost, front-on, front-end, front-in, front-push, front-last, front-slice}
+use Rattle.eval.specs.Fronts.{front-asked, front-lost, front-on, front-end, front-in, front-push}
 
 front-requires : tie.Need-front-requires
 front-requires c κs = let p = c .before .before .before .before .before .pre in front-asked (p .0) (p .1)
@@ -32,33 +30,21 @@ same-length c = search needs
 returns-2 : tie.Need-returns-2
 returns-2 c = let p = c .before .before .before .before .before .before .before .before .before .before .before .before .before .before .pre in front-end (p .0) (p .1) (c .before .before .before .before .before .before .before .before .front .ensures) (not-false _ (c .before .before .before .before .before .before .if1 .left)) (c .before .before .before .before .if2 .taken) _ _ _ (c .before .before .push .ensures)
 
-is-last-slice-requires : tie.Need-is-last-slice-requires
-is-last-slice-requires c κs = let p = c .before .before .before .before .before .before .before .before .before .before .pre in front-last (p .0) (p .1) (c .before .before .before .before .front .ensures) (c .if2 .left)
-
-push-slice-requires : tie.Need-push-slice-requires
-push-slice-requires c κs = let p = c .before .before .before .before .before .before .before .before .before .before .before .before .before .pre in (front-slice (p .0) (p .1) (c .before .before .before .before .before .before .before .front .ensures) (c .before .before .before .if2 .left), c .before .before .is-last-slice .ensures (c .before .if3 .taken))
-
-same-length-2 : tie.Need-same-length-2
-same-length-2 c = search needs
-
-returns-3 : tie.Need-returns-3
-returns-3 c = let p = c .before .before .before .before .before .before .before .before .before .before .before .before .before .before .before .before .pre in front-on (p .0) (p .1) (c .before .before .before .before .before .before .before .before .before .before .front .ensures) (not-false _ (c .before .before .before .before .before .before .before .before .if1 .left)) _ _ _ (λ f k a. c .before .before .push-slice .ensures f k a _)
-
 enter-requires : tie.Need-enter-requires
 enter-requires c κs =
-    let p = c .before .before .before .before .before .before .before .before .before .before .before .before .before .before .before .pre in
+    let p = c .before .before .before .before .before .before .before .before .before .before .before .before .before .pre in
     let a = p .0 in
-    let w = c .before .before .before .before .before .before .before .before .before .front .ensures .front (p .1 .f) (p .1 .k) (p .1 .at) in
-    record { asked = record { given = record { fewP = a .fewP; fewL = a .fewL; tab = a .tab }; root-in = a .root-in; room = a .room; wide = a .wide; small = a .small; three = refl }; segment = record { node-in = c .before .before .before .before .before .before .before .before .before .front .ensures .node-in; query = record { f = w .g; k = w .j; at = w .at } }; going = c .before .before .before .before .before .if2 .left }
+    let w = c .before .before .before .before .before .before .before .front .ensures .front (p .1 .f) (p .1 .k) (p .1 .at) in
+    record { asked = record { given = record { fewP = a .fewP; fewL = a .fewL; tab = a .tab }; root-in = a .root-in; room = a .room; wide = a .wide; small = a .small; three = refl }; segment = record { node-in = c .before .before .before .before .before .before .before .front .ensures .node-in; query = record { f = w .g; k = w .j; at = w .at } }; going = c .before .before .before .if2 .left }
 
 array-read-result : tie.Need-array-read-result
 array-read-result c = omega (arith, c .before .before .enter .ensures .kept .three)
 
-same-length-3 : tie.Need-same-length-3
-same-length-3 c = c .before .before .enter .ensures .kept .long
+same-length-2 : tie.Need-same-length-2
+same-length-2 c = c .before .before .enter .ensures .kept .long
 
-returns-4 : tie.Need-returns-4
-returns-4 c = let p = c .before .before .before .before .before .before .before .before .before .before .before .before .before .before .before .before .before .before .pre in front-on (p .0) (p .1) (c .before .before .before .before .before .before .before .before .before .before .before .before .front .ensures) (not-false _ (c .before .before .before .before .before .before .before .before .before .before .if1 .left)) _ _ _ (λ f k a. c .before .before .enter .ensures .gives .emits (record { f = f; k = k; at = a }) _ _ refl refl)
+returns-3 : tie.Need-returns-3
+returns-3 c = let p = c .before .before .before .before .before .before .before .before .before .before .before .before .before .before .before .before .pre in front-on (p .0) (p .1) (c .before .before .before .before .before .before .before .before .before .before .front .ensures) (not-false _ (c .before .before .before .before .before .before .before .before .if1 .left)) _ _ _ (λ f k a. c .before .before .enter .ensures .gives .emits (record { f = f; k = k; at = a }) _ _ refl refl)
 
 pub evaluate-spec : {M : Type 1} → statement M
 evaluate-spec =
@@ -70,11 +56,7 @@ evaluate-spec =
     push-requires
     same-length
     returns-2
-    is-last-slice-requires
-    push-slice-requires
-    same-length-2
-    returns-3
     enter-requires
     array-read-result
-    same-length-3
-    returns-4)
+    same-length-2
+    returns-3)

@@ -4,12 +4,12 @@ use Rattle.eval.proofs.first.Statement.{statement}
 use Rattle.eval.proofs.first.Tie as tie
 use Rattle.eval.proofs.first.Reads as reads
 use Rattle.eval.proofs.first.Lts as lts
-use Rattle.eval.proofs.ahead.Reads as ahead-reads
+use Rattle.eval_shortcuts.proofs.ahead.Reads as ahead-reads
 use Rattle.eval.proofs.each_child.Reads as each-child-reads
 use Rattle.eval.proofs.each_place.Reads as each-place-reads
 use Rattle.eval.proofs.eval_filter.Reads as eval-filter-reads
 use Rattle.eval.proofs.evaluate_segment.Reads as evaluate-segment-reads
-use Rattle.eval.proofs.keep_children.Reads as keep-children-reads
+use Rattle.eval_shortcuts.proofs.keep_children.Reads as keep-children-reads
 use Rattle.table.proofs.records.child_count.Reads as child-count-reads
 use Rattle.table.proofs.records.first_child.Reads as first-child-reads
 use Rattle.text.proofs.bytes.word16.Reads as word16-reads
@@ -17,11 +17,11 @@ use Rattle.text.proofs.bytes.word32.Reads as word32-reads
 use Prim.Native.Nat.{ℕ, _<_}
 use lib.ListN.{getD}
 use native.Mathlib.Omega.{arith}
-use Rattle.eval.specs.Lent.{planOf}
+use Rattle.eval_asks.specs.Lent.{planOf}
 use borrow.Author.Tests.{not-true, not-false}
 use Rattle.eval_laws.specs.Ranges.{range-of}
-use Rattle.eval.specs.Steady.{steady-then, asked-later}
-use Rattle.eval.specs.Kinds.{rest-in, each-asked, wildcard-done, kept-after, kept-room}
+use Rattle.eval_asks.specs.Steady.{steady-then, asked-later}
+use Rattle.eval_asks.specs.Kinds.{rest-in, each-asked, wildcard-done, kept-after, kept-room}
 use Rattle.eval.specs.Aheads.{ahead-each, ahead-then}
 use Rattle.eval.specs.Alone.{enter-bound, enter-head, enter-selector, enter-done, slice-ends, wildcard-ends, filter-fits, filter-ends}
 

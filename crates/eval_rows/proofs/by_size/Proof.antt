@@ -1,7 +1,6 @@
 -- `by_size` meets its contract. Assumes nothing.
 use Rattle.regex_rooms.specs.Rooms.{scopeFor}
-use Rattle.eval_rows.specs.Calls.{call-spelled}
-use Rattle.eval_rows.specs.Rows.{kept-within, cut-long}
+use Rattle.eval_rows.specs.Known.{cut-long}
 use borrow.Author.Needs.{needs}
 use Rattle.eval_rows.proofs.by_size.Statement.{statement}
 use Rattle.eval_rows.proofs.by_size.Tie as tie
@@ -12,7 +11,7 @@ use Rattle.eval_rows.proofs.coded.outside.Reads as outside-reads
 use Rattle.eval_rows.proofs.short.Reads as short-reads
 
 short-requires : tie.Need-short-requires
-short-requires c κs = let s = c .before .before .before .before .before .before .before .before .pre in (s .0, (s .1 .0, (s .1 .1, c .before .if1 .taken)))
+short-requires c κs = let s = c .before .before .before .before .before .before .before .before .pre in (s .0, (s .1, c .before .if1 .taken))
 
 same-length : tie.Need-same-length
 same-length c = search needs
@@ -21,7 +20,7 @@ returns : tie.Need-returns
 returns c = search needs
 
 long-requires : tie.Need-long-requires
-long-requires c κs = let s = c .before .before .before .before .before .before .before .before .before .pre in (s .0, (s .1 .0, (s .1 .1, c .before .if2 .taken)))
+long-requires c κs = let s = c .before .before .before .before .before .before .before .before .before .pre in (s .0, (s .1, c .before .if2 .taken))
 
 same-length-2 : tie.Need-same-length-2
 same-length-2 c = search needs
@@ -30,7 +29,7 @@ returns-2 : tie.Need-returns-2
 returns-2 c = search needs
 
 outside-requires : tie.Need-outside-requires
-outside-requires c κs = let q = c .before .before .before .before .before .before .before .before .before in let s = q .pre in let g = q .args .g in (s .0, (s .1 .0, (s .1 .1, cut-long (scopeFor (g .kind)) (q .args .pool .now) (g .start) (g .size) ((call-spelled (kept-within (s .0)) (s .1 .0 .1) (s .1 .0 .0)) .0) (c .before .if2 .left))))
+outside-requires c κs = let s = c .before .before .before .before .before .before .before .before .before .pre in let g = c .before .before .before .before .before .before .before .before .before .args .g in (s .0, (s .1, cut-long (scopeFor (g .kind)) (c .before .before .before .before .before .before .before .before .before .args .pool .now) (g .start) (g .size) (s .1 .1 .0) (c .before .if2 .left)))
 
 same-length-3 : tie.Need-same-length-3
 same-length-3 c = search needs

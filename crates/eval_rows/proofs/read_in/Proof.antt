@@ -4,8 +4,7 @@ use lib.Seq.{length-take-le}
 use native.Mathlib.Omega.{arith}
 use Rattle.regex_rooms.specs.Rooms.{scopeFor}
 use Rattle.regex_rooms.proofs.Laws.{code-is}
-use Rattle.eval_rows.specs.Calls.{call-spelled}
-use Rattle.eval_rows.specs.Rows.{kept-within, cut-asked, cut-outside, cut-code}
+use Rattle.eval_rows.specs.Known.{cut-asked, cut-outside, cut-code}
 use borrow.Author.Needs.{needs}
 use Rattle.eval_rows.proofs.read_in.Statement.{statement}
 use Rattle.eval_rows.proofs.read_in.Tie as tie
@@ -16,7 +15,7 @@ use Rattle.eval_rows.proofs.coded.outside.Reads as outside-reads
 use Rattle.regex_rooms.proofs.reads.read_widened.Reads as read-widened-reads
 
 add-read-widened : tie.Need-add-read-widened
-add-read-widened c = let s = c .before .before .before .before .before .before .before .pre in omega (arith, (call-spelled (kept-within (s .0)) (s .1 .0 .1) (s .1 .0 .0)) .0, s .0 .given .fewL)
+add-read-widened c = let s = c .before .before .before .before .before .before .before .pre in omega (arith, s .1 .0 .1 .0, s .0 .kept .given .fewL)
 
 sub-read-widened : tie.Need-sub-read-widened
 sub-read-widened c = search needs
@@ -25,16 +24,16 @@ part-read-widened-start : tie.Need-part-read-widened-start
 part-read-widened-start c = search needs
 
 part-read-widened-end : tie.Need-part-read-widened-end
-part-read-widened-end c = let s = c .before .before .before .before .before .before .before .pre in omega (arith, (call-spelled (kept-within (s .0)) (s .1 .0 .1) (s .1 .0 .0)) .0)
+part-read-widened-end c = let s = c .before .before .before .before .before .before .before .pre in omega (arith, s .1 .0 .1 .0)
 
 read-widened-requires : tie.Need-read-widened-requires
-read-widened-requires c κs = let q = c .before .before .before .before .before .before .before .before .before .before in let s = q .pre in let g = q .args .g in cut-asked (scopeFor (g .kind)) (q .args .pool .now) (g .start) (g .size) (call-spelled (kept-within (s .0)) (s .1 .0 .1) (s .1 .0 .0)) (s .1 .1 .1)
+read-widened-requires c κs = let s = c .before .before .before .before .before .before .before .before .before .before .pre in let g = c .before .before .before .before .before .before .before .before .before .before .args .g in cut-asked (scopeFor (g .kind)) (c .before .before .before .before .before .before .before .before .before .before .args .pool .now) (g .start) (g .size) (s .1 .0 .1) (s .1 .1)
 
 enum-told : tie.Need-enum-told
 enum-told c = search needs
 
 outside-requires : tie.Need-outside-requires
-outside-requires c κs = let q = c .before .before .before .before .before .before .before .before .before .before .before .before .before .before .before .before .before .before in let s = q .pre in let g = q .args .g in (s .0, (s .1 .0, (s .1 .1 .0, cut-outside (scopeFor (g .kind)) (q .args .pool .now) (g .start) (g .size) (rw (c .before .enum-told .given .1) at (c .before .before .before .before .before .before .before .read-widened .ensures)))))
+outside-requires c κs = let s = c .before .before .before .before .before .before .before .before .before .before .before .before .before .before .before .before .before .before .pre in let g = c .before .before .before .before .before .before .before .before .before .before .before .before .before .before .before .before .before .before .args .g in (s .0, (s .1 .0, cut-outside (scopeFor (g .kind)) (c .before .before .before .before .before .before .before .before .before .before .before .before .before .before .before .before .before .before .args .pool .now) (g .start) (g .size) (rw (c .before .enum-told .given .1) at (c .before .before .before .before .before .before .before .read-widened .ensures))))
 
 enum-known-k : tie.Need-enum-known-k
 enum-known-k c = search needs
@@ -46,7 +45,7 @@ slice-aggregate-by-code : tie.Need-slice-aggregate-by-code
 slice-aggregate-by-code c = sym (length-take-le _ _ ((code-is (rw (c .before .before .k .given .1) at (c .before .before .before .before .before .before .before .before .read-widened .ensures))) .inside))
 
 by-code-requires : tie.Need-by-code-requires
-by-code-requires c κs = let q = c .before .before .before .before .before .before .before .before .before .before .before .before .before .before .before .before .before .before .before .before in let s = q .pre in let g = q .args .g in (s .0, (s .1 .0, (s .1 .1 .0, cut-code (scopeFor (g .kind)) (q .args .pool .now) (g .start) (g .size) _ (code-is (rw (c .before .before .before .k .given .1) at (c .before .before .before .before .before .before .before .before .before .read-widened .ensures))))))
+by-code-requires c κs = let s = c .before .before .before .before .before .before .before .before .before .before .before .before .before .before .before .before .before .before .before .before .pre in let g = c .before .before .before .before .before .before .before .before .before .before .before .before .before .before .before .before .before .before .before .before .args .g in (s .0, (s .1 .0, cut-code (scopeFor (g .kind)) (c .before .before .before .before .before .before .before .before .before .before .before .before .before .before .before .before .before .before .before .before .args .pool .now) (g .start) (g .size) _ (code-is (rw (c .before .before .before .k .given .1) at (c .before .before .before .before .before .before .before .before .before .read-widened .ensures)))))
 
 same-length : tie.Need-same-length
 same-length c = search needs

@@ -1,7 +1,6 @@
 -- `number_exact::decide` meets its contract: the order of twice the fraction and the middle says which number of steps is nearest. Assumes nothing.
-use Prim.Native.Nat.{ℕ, _+_, _-_, _*_, _^_, _<_}
+use Prim.Native.Nat.{_+_, _*_}
 use native.Mathlib.Omega.{arith}
-use lib.ListN.{length}
 use borrow.Author.Needs.{needs}
 use Rattle.number_limbs.specs.Limbs.{value, zeros, zeros-limbs}
 use Rattle.number_exact.proofs.Middle.{compared, if-less, if-equal, if-greater, Compared}

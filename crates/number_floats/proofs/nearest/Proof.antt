@@ -1,5 +1,5 @@
 -- `number_floats::nearest` meets its contract: one operation where that serves, and the bits that are found everywhere else. Assumes nothing.
-use mathlib.Core.Path.{ap, _∙_}
+use mathlib.Core.Path.{_∙_}
 use mathlib.Core.Bool.{true, false}
 use Prim.Native.Nat.{_≤_}
 use native.Mathlib.Omega.{arith}

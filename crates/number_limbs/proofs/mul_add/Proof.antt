@@ -2,7 +2,7 @@
 use native.Mathlib.Omega.{arith}
 use Prim.Native.Nat.{_-_}
 use lib.ListN.{length}
-use borrow.Author.Needs.{needs, scaled-fits}
+use borrow.Author.Needs.{needs}
 use Rattle.number_limbs.proofs.Steps.{Inv, begin, product, bound, more, finish}
 use Rattle.number_limbs.proofs.mul_add.Statement.{statement}
 use Rattle.number_limbs.proofs.mul_add.Tie as tie

@@ -1,7 +1,7 @@
 -- `number_limbs::mul_times` meets its contract: each turn is one product, and nothing runs over the end. Assumes nothing.
 use native.Mathlib.Nat.{pow-zero}
 use mathlib.Core.Path.{_≡_, refl, sym, _∙_, ap, subst}
-use Prim.Native.Nat.{ℕ, _+_, _-_, _*_, _^_, _≤_, _<_}
+use Prim.Native.Nat.{ℕ, _-_, _*_, _^_, _≤_, _<_}
 use native.Mathlib.Nat.{mul-one}
 use native.Mathlib.Omega.{arith}
 use lib.ListN.{length}

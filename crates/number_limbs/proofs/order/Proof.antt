@@ -2,11 +2,11 @@
 use native.Mathlib.Nat.{le-refl, le-of-eq}
 use borrow.Author.Needs.{scaled-fits}
 use mathlib.Core.Path.{_≡_, sym, _∙_, ap, subst}
-use Prim.Native.Nat.{ℕ, _+_, _-_, _*_, _^_, _≤_, _<_}
+use Prim.Native.Nat.{ℕ, _-_, _≤_}
 use native.Mathlib.Omega.{arith}
 use lib.ListN.{length, drop, drop-of-length-le}
 use borrow.Author.Needs.{needs}
-use Rattle.number_limbs.specs.Limbs.{value, Limbs}
+use Rattle.number_limbs.specs.Limbs.{value}
 use Rattle.number_limbs.proofs.Whole.{same-more, decides-down}
 use Rattle.number_limbs.proofs.order.Statement.{statement}
 use Rattle.number_limbs.proofs.order.Tie as tie

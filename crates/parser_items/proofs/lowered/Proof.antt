@@ -1,7 +1,5 @@
 -- `parser_items::lowered` meets its contract: both answers are taken apart.
 -- Assumes nothing.
-use mathlib.Core.Path.{refl}
-use Rattle.parser_items.specs.Reads.{low}
 use borrow.Author.Needs.{needs}
 use Rattle.parser_items.proofs.lowered.Statement.{statement}
 use Rattle.parser_items.proofs.lowered.Tie as tie

@@ -3,7 +3,7 @@
 use mathlib.Core.Path.{refl}
 use mathlib.Core.List.{[], _∷_}
 use Rattle.parser_items.specs.Laws.{marked-of, put-put}
-use Rattle.parser_items.proofs.Verdicts.{sort-by, judged-put}
+use Rattle.parser_items.proofs.Typing.{sort-by, judged-put}
 use Rattle.compile_writes.specs.Writes.{notTail}
 use borrow.Author.Needs.{needs}
 use Rattle.parser_items.proofs.not_tail.Statement.{statement}

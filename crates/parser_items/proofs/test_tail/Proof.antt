@@ -1,9 +1,9 @@
 -- `parser_items::test_tail` meets its contract: the sorts fall into three groups.
 -- Assumes nothing.
-use mathlib.Core.Path.{refl, sym}
+use mathlib.Core.Path.{refl}
 use mathlib.Core.List.{[], _∷_}
 use Rattle.parser_items.specs.Laws.{put-none, put-put}
-use Rattle.parser_items.proofs.Verdicts.{sort-by}
+use Rattle.parser_items.proofs.Typing.{sort-by}
 use Rattle.compile_writes.specs.Writes.{testTail}
 use borrow.Author.Needs.{needs}
 use Rattle.parser_items.proofs.test_tail.Statement.{statement}

@@ -1,7 +1,7 @@
 -- `parser_items::write_call` meets its contract: the verdict is set, and then the byte of the call is put.
 -- Assumes nothing.
 use Rattle.parser_items.specs.Laws.{marked-of}
-use Rattle.parser_items.proofs.Verdicts.{call-unknown, call-known}
+use Rattle.parser_items.proofs.Typing.{call-unknown, call-known}
 use borrow.Author.Needs.{needs}
 use Rattle.parser_items.proofs.write_call.Statement.{statement}
 use Rattle.parser_items.proofs.write_call.Tie as tie

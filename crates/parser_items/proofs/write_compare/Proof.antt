@@ -1,7 +1,7 @@
 -- `parser_items::write_compare` meets its contract: both verdicts are set, and then the comparison is put.
 -- Assumes nothing.
 use Rattle.parser_items.specs.Laws.{marked-of, put-put}
-use Rattle.parser_items.proofs.Verdicts.{compare-done}
+use Rattle.parser_items.proofs.Typing.{compare-done}
 use borrow.Author.Needs.{needs}
 use Rattle.parser_items.proofs.write_compare.Statement.{statement}
 use Rattle.parser_items.proofs.write_compare.Tie as tie

@@ -1,10 +1,8 @@
 -- `parser_items::write_dotted` meets its contract: a `*` or a name is read and written.
 -- Assumes nothing.
-use mathlib.Core.Path.{_∙_}
-use Prim.Native.Nat.{_<_}
 use native.Mathlib.Omega.{arith}
 use Rattle.parser_items.proofs.Dotted.{dotted-wild, dotted-name, dotted-none, name-long}
-use Rattle.parser_items.specs.Laws.{name-of, no-name-of, start-room, put-room}
+use Rattle.parser_items.specs.Laws.{name-of, no-name-of, asks-room, put-room}
 use borrow.Author.Needs.{needs}
 use Rattle.parser_items.proofs.write_dotted.Statement.{statement}
 use Rattle.parser_items.proofs.write_dotted.Tie as tie
@@ -13,10 +11,10 @@ is-requires : tie.Need-is-requires
 is-requires c κs = search needs
 
 single-requires : tie.Need-single-requires
-single-requires c κs = start-room 3 1 (c .before .before .before .before .before .before .pre) ((rw (c .before .if1 .taken) at (c .before .before .is .ensures)) .0) (omega arith)
+single-requires c κs = asks-room 3 1 (c .before .before .before .before .before .before .pre) ((rw (c .before .if1 .taken) at (c .before .before .is .ensures)) .0) (omega arith)
 
 item-requires : tie.Need-item-requires
-item-requires c κs = put-room 1 (c .before .before .before .single .ensures) (start-room 4 1 (c .before .before .before .before .before .before .before .before .before .before .pre) ((rw (c .before .before .before .before .before .if1 .taken) at (c .before .before .before .before .before .before .is .ensures)) .0) (omega arith))
+item-requires c κs = put-room 1 (c .before .before .before .single .ensures) (asks-room 4 1 (c .before .before .before .before .before .before .before .before .before .before .pre) ((rw (c .before .before .before .before .before .if1 .taken) at (c .before .before .before .before .before .before .is .ensures)) .0) (omega arith))
 
 add-moved : tie.Need-add-moved
 add-moved c = search needs
@@ -46,13 +44,13 @@ copy-part-requires : tie.Need-copy-part-requires
 copy-part-requires c κs = let n = name-of (c .before .before .before .before .read-name .ensures) (c .before .before .e .given .1) in (omega (arith, n .from, n .to), omega (arith, n .from, n .to, c .before .before .before .before .before .before .before .before .before .before .pre .pool))
 
 single-requires-2 : tie.Need-single-requires-2
-single-requires-2 c κs = let n = name-of (c .before .before .before .before .before .before .before .before .read-name .ensures) (c .before .before .before .before .before .before .e .given .1) in start-room 3 1 (c .before .before .before .before .before .before .before .before .before .before .before .before .before .before .pre) (omega (arith, name-long n, n .to)) (omega arith)
+single-requires-2 c κs = let n = name-of (c .before .before .before .before .before .before .before .before .read-name .ensures) (c .before .before .before .before .before .before .e .given .1) in asks-room 3 1 (c .before .before .before .before .before .before .before .before .before .before .before .before .before .before .pre) (omega (arith, name-long n, n .to)) (omega arith)
 
 sub-pooled : tie.Need-sub-pooled
 sub-pooled c = name-of (c .before .before .before .before .before .before .before .before .before .before .before .before .read-name .ensures) (c .before .before .before .before .before .before .before .before .before .before .e .given .1) .from
 
 pooled-requires : tie.Need-pooled-requires
-pooled-requires c κs = let n = name-of (c .before .before .before .before .before .before .before .before .before .before .before .before .read-name .ensures) (c .before .before .before .before .before .before .before .before .before .before .e .given .1) in (put-room 5 (c .before .before .before .single2 .ensures) (start-room 8 1 (c .before .before .before .before .before .before .before .before .before .before .before .before .before .before .before .before .before .before .pre) (omega (arith, name-long n, n .to)) (omega arith)), omega (arith, n .from, n .to, c .before .before .before .before .before .before .before .before .before .before .before .before .before .before .before .before .before .before .pre .pool, c .before .before .before .before .before .before .before .before .before .before .before .before .before .before .before .before .before .before .pre .smallPool, c .before .before .before .single2 .ensures .pool))
+pooled-requires c κs = let n = name-of (c .before .before .before .before .before .before .before .before .before .before .before .before .read-name .ensures) (c .before .before .before .before .before .before .before .before .before .before .e .given .1) in (put-room 5 (c .before .before .before .single2 .ensures) (asks-room 8 1 (c .before .before .before .before .before .before .before .before .before .before .before .before .before .before .before .before .before .before .pre) (omega (arith, name-long n, n .to)) (omega arith)), omega (arith, n .from, n .to, c .before .before .before .before .before .before .before .before .before .before .before .before .before .before .before .before .before .before .pre .pool, c .before .before .before .before .before .before .before .before .before .before .before .before .before .before .before .before .before .before .pre .smallPool, c .before .before .before .single2 .ensures .pool))
 
 moved-requires-2 : tie.Need-moved-requires-2
 moved-requires-2 c κs = search needs

@@ -4,7 +4,7 @@ use mathlib.Core.Path.{refl}
 use native.Mathlib.Omega.{arith}
 use Rattle.text_quoted.specs.Laws.{own-of-quote}
 use mathlib.Core.Logic.{inl, inr}
-use Rattle.parser_items.specs.Laws.{start-room}
+use Rattle.parser_items.specs.Laws.{asks-room}
 use Rattle.parser_items.proofs.Numerals.{number-of, no-number-of, constant-none, constant-number, constant-text}
 use borrow.Author.Needs.{needs}
 use Rattle.parser_items.proofs.write_literal.Statement.{statement}
@@ -50,7 +50,7 @@ enum-known-e : tie.Need-enum-known-e
 enum-known-e c = search needs
 
 put-numeral-requires : tie.Need-put-numeral-requires
-put-numeral-requires c κs = let n = number-of (c .before .before .before .before .parse-number .ensures) (c .before .before .e .given .1) in start-room 9 1 (c .before .before .before .before .before .before .before .before .before .before .before .before .pre) (omega (arith, n .from, n .to)) (omega arith)
+put-numeral-requires c κs = let n = number-of (c .before .before .before .before .parse-number .ensures) (c .before .before .e .given .1) in asks-room 9 1 (c .before .before .before .before .before .before .before .before .before .before .before .before .pre) (omega (arith, n .from, n .to)) (omega arith)
 
 moved-requires : tie.Need-moved-requires
 moved-requires c κs = search needs

@@ -4,7 +4,7 @@ use mathlib.Core.Path.{refl}
 use native.Mathlib.Omega.{arith}
 use Rattle.text_quoted.specs.Laws.{own-of-quote}
 use mathlib.Core.Logic.{inl, inr}
-use Rattle.parser_items.specs.Laws.{start-less, start-room}
+use Rattle.parser_items.specs.Laws.{asks-less, asks-room}
 use Rattle.parser_items.proofs.Selecting.{selector-text, selector-wild}
 use borrow.Author.Needs.{needs}
 use Rattle.parser_items.proofs.write_selector.Statement.{statement}
@@ -14,7 +14,7 @@ is-requires : tie.Need-is-requires
 is-requires c κs = search needs
 
 write-text-requires : tie.Need-write-text-requires
-write-text-requires c κs = (start-less (omega arith) (c .before .before .before .before .before .before .before .pre), (own-of-quote 34 (inl refl), rw (c .before .before .if1 .taken) at (c .before .before .before .is .ensures)))
+write-text-requires c κs = (asks-less (omega arith) (c .before .before .before .before .before .before .before .pre), (own-of-quote 34 (inl refl), rw (c .before .before .if1 .taken) at (c .before .before .before .is .ensures)))
 
 same-length : tie.Need-same-length
 same-length c = search needs
@@ -29,7 +29,7 @@ is-requires-2 : tie.Need-is-requires-2
 is-requires-2 c κs = search needs
 
 write-text-requires-2 : tie.Need-write-text-requires-2
-write-text-requires-2 c κs = (start-less (omega arith) (c .before .before .before .before .before .before .before .before .before .pre), (own-of-quote 39 (inr refl), rw (c .before .before .if2 .taken) at (c .before .before .before .is2 .ensures)))
+write-text-requires-2 c κs = (asks-less (omega arith) (c .before .before .before .before .before .before .before .before .before .pre), (own-of-quote 39 (inr refl), rw (c .before .before .if2 .taken) at (c .before .before .before .is2 .ensures)))
 
 same-length-3 : tie.Need-same-length-3
 same-length-3 c = search needs
@@ -44,7 +44,7 @@ is-requires-3 : tie.Need-is-requires-3
 is-requires-3 c κs = search needs
 
 item-requires : tie.Need-item-requires
-item-requires c κs = start-room 1 1 (c .before .before .before .before .before .before .before .before .before .before .pre) ((rw (c .before .if3 .taken) at (c .before .before .is3 .ensures)) .0) (omega arith)
+item-requires c κs = asks-room 1 1 (c .before .before .before .before .before .before .before .before .before .before .pre) ((rw (c .before .if3 .taken) at (c .before .before .is3 .ensures)) .0) (omega arith)
 
 add-moved : tie.Need-add-moved
 add-moved c = search needs

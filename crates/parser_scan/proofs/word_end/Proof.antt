@@ -3,7 +3,6 @@
 use borrow.Author.Needs.{needs}
 use mathlib.Core.Path.{sym, _∙_}
 use Prim.Native.Nat.{_-_}
-use native.Mathlib.Omega.{arith}
 use lib.ListN.{length}
 use Rattle.definition.specs.Lexical.{isFunctionChar}
 use Rattle.parser_scan.proofs.Runs.{Passing, passing-start, passing-step, passing-stop, passing-end}

@@ -1,8 +1,7 @@
 -- The digits that are stored so far are those of the bytes so far. Assumes nothing.
 use native.Mathlib.Omega.{arith}
-use borrow.Author.Needs.{needs}
-use mathlib.Core.Path.{_≡_, refl, sym, _∙_}
-use Prim.Native.Nat.{ℕ, _*_, _-_, _≤_, _<_}
+use mathlib.Core.Path.{_≡_, refl}
+use Prim.Native.Nat.{ℕ, _-_, _≤_, _<_}
 use lib.ListN.{length, length-set}
 use Rattle.program_lines.proofs.Laws.{Digits, digits-next}
 use Rattle.program_lines.proofs.encode.Statement.{statement}

@@ -1,5 +1,5 @@
 -- Digits and letters. Assumes nothing.
-use borrow.Author.Tests.{lt-ltb, le-ltb, le-leb, lt-leb}
+use borrow.Author.Tests.{lt-ltb, le-ltb}
 use Rattle.program_lines.specs.Words.{glyph}
 use borrow.Author.Needs.{needs}
 use Rattle.program_lines.proofs.glyph.Statement.{statement}

@@ -1,10 +1,9 @@
 -- The bytes that are stored so far are those of the pairs so far. Assumes nothing.
 use native.Mathlib.Omega.{arith}
-use borrow.Author.Needs.{needs}
-use mathlib.Core.Path.{_≡_, refl, sym, ap, ap₂, subst, _∙_}
+use mathlib.Core.Path.{_≡_, refl}
 use Prim.Native.Nat.{ℕ, _+_, _*_, _-_, _≤_, _<_}
 use lib.ListN.{length, getD, length-set}
-use Rattle.program_lines.specs.Words.{digitValue, Pair}
+use Rattle.program_lines.specs.Words.{Pair}
 use Rattle.program_lines.proofs.Laws.{stored-next}
 use Rattle.program_lines.proofs.pairs.Statement.{statement}
 use Rattle.program_lines.proofs.pairs.Tie as tie

@@ -1,6 +1,5 @@
 -- The digits that are left, behind the number so far, give the number. Assumes nothing.
 use native.Mathlib.Omega.{arith}
-use borrow.Author.Needs.{needs}
 use mathlib.Core.Path.{_≡_, refl, sym, _∙_}
 use Prim.Native.Nat.{_-_, _≤_}
 use Rattle.definition.specs.Bytes.{part}

@@ -3,7 +3,6 @@ use native.Mathlib.Omega.{arith}
 use Prim.Native.Nat.{_≤_, _-_}
 use mathlib.Core.Path.{_≡_, refl, ap, sym, _∙_}
 use lib.ListN.{length}
-use Rattle.regex_marks.specs.Moves.{Fits}
 use Rattle.regex_marks.specs.Runs.{Read}
 use Rattle.regex_marks.proofs.Words.{shifted-by}
 use Rattle.regex_marks.proofs.Runs.{read-more, read-end, read-dead, read-same, read-open}

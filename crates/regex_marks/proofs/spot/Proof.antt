@@ -4,7 +4,6 @@ use Rattle.regex_marks.proofs.Words.{clip-class}
 use Rattle.regex_marks.proofs.Laws.{spot-room, spot-hit}
 use Rattle.regex_marks.proofs.spot.Statement.{statement}
 use Rattle.regex_marks.proofs.spot.Tie as tie
-use Rattle.regex_marks.proofs.spot.Reads as reads
 
 stop-requires : tie.Need-stop-requires
 stop-requires c κs = search needs

@@ -1,16 +1,15 @@
 -- `regex_needed::copy` meets its contract. Assumes nothing.
 use Rattle.regex_needed.proofs.copy.Statement.{statement}
-use mathlib.Core.Path.{refl}
 use Rattle.regex_needed.proofs.Writing.{written-none, copy-more}
-use Rattle.regex_needed.specs.Needed.{Written}
+use Rattle.regex_needed.specs.Needed.{WroteInRoom}
 use lib.Seq.{slice, slice-empty}
-use mathlib.Core.Path.{_≡_, refl}
+use mathlib.Core.Path.{_≡_}
 use Prim.Native.Nat.{_≤_, _-_}
 use native.Mathlib.Omega.{arith}
 use Rattle.regex_needed.proofs.copy.Tie as tie
 
 abbrev Inv-loop : tie.InvT-loop
-Inv-loop code from end out₀ to i₀ e₀ out i e = (from ≤ i) × (i ≤ end) × Written out₀ to (slice from i code) out e
+Inv-loop code from end out₀ to i₀ e₀ out i e = (from ≤ i) × (i ≤ end) × WroteInRoom out₀ to (slice from i code) out e
 
 abbrev μ-loop : tie.MeasureT-loop
 μ-loop code from end out₀ to i₀ e₀ out i e = end - i

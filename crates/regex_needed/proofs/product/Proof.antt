@@ -1,8 +1,7 @@
 -- `regex_needed::product` meets its contract. Assumes nothing.
 use borrow.Author.Needs.{needs}
 use Prim.Native.Nat.{min, _*_}
-use mathlib.Core.Path.{_≡_, ap, _∙_}
-use native.Mathlib.Omega.{arith}
+use mathlib.Core.Path.{ap, _∙_}
 use Rattle.regex_needed.proofs.Writing.{words-product}
 use Rattle.regex_needed.proofs.product.Statement.{statement}
 use Rattle.regex_needed.proofs.product.Tie as tie

@@ -1,6 +1,5 @@
 -- `regex_places::add` meets its contract. Assumes nothing.
 use borrow.Author.Needs.{needs}
-use native.Mathlib.Omega.{arith}
 use Rattle.regex_places.specs.Places.Adds.{was, new}
 use Rattle.regex_places.proofs.add.Statement.{statement}
 use Rattle.regex_places.proofs.add.Tie as tie

@@ -5,7 +5,6 @@ use borrow.Author.Tests.{eqb-true, not-false}
 use mathlib.Core.Bool.{false≢true}
 use Rattle.regex_plain.proofs.free.Statement.{statement}
 use Rattle.regex_plain.proofs.free.Tie as tie
-use Rattle.regex_plain.proofs.free.Reads as reads
 
 four-requires : tie.Need-four-requires
 four-requires c κs = omega (arith, c .before .pre)

@@ -5,7 +5,6 @@ use borrow.Author.Tests.{eqb-true, not-false}
 use mathlib.Core.Bool.{false≢true}
 use Rattle.regex_plain.proofs.letter.Statement.{statement}
 use Rattle.regex_plain.proofs.letter.Tie as tie
-use Rattle.regex_plain.proofs.letter.Reads as reads
 
 sub-if1 : tie.Need-sub-if1
 sub-if1 c = search needs

@@ -5,10 +5,6 @@ use mathlib.Core.Path.{sym}
 use borrow.Author.Needs.{needs}
 use Rattle.regex_rooms.proofs.asked.Statement.{statement}
 use Rattle.regex_rooms.proofs.asked.Tie as tie
-use Rattle.regex_rooms.proofs.asked.Reads as reads
-use Rattle.regex_rooms.proofs.asked.Lts as lts
-use Rattle.regex_rooms.proofs.marks.test_within.Reads as test-within-reads
-use Rattle.regex_rooms.proofs.reads.read_widened.Reads as read-widened-reads
 
 read-widened-requires : tie.Need-read-widened-requires
 read-widened-requires c κs = search needs

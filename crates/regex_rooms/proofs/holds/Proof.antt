@@ -3,11 +3,6 @@ use borrow.Author.Needs.{needs}
 use Rattle.regex_rooms.proofs.Laws.{holds-long}
 use Rattle.regex_rooms.proofs.holds.Statement.{statement}
 use Rattle.regex_rooms.proofs.holds.Tie as tie
-use Rattle.regex_rooms.proofs.holds.Reads as reads
-use Rattle.regex_rooms.proofs.holds.Lts as lts
-use Rattle.regex_rooms.proofs.long.Reads as long-reads
-use Rattle.regex_rooms.proofs.middle.Reads as middle-reads
-use Rattle.regex_rooms.proofs.short.Reads as short-reads
 
 short-requires : tie.Need-short-requires
 short-requires c κs = search needs

@@ -1,7 +1,7 @@
 -- `regex_states::add` meets its contract. Assumes nothing.
-use mathlib.Core.Path.{_≡_, refl, ap, sym, _∙_}
+use mathlib.Core.Path.{refl, _∙_}
 use native.Mathlib.Omega.{arith}
-use lib.ListN.{length, getD, set, length-set}
+use lib.ListN.{length-set}
 use Prim.Native.Nat.{_+_}
 use Rattle.regex_states.specs.Rooms.{full, fresh}
 use Rattle.regex_states.proofs.Writes.{added, not-false}

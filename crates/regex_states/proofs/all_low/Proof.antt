@@ -1,8 +1,7 @@
 -- `regex_states::all_low` meets its contract. Assumes nothing.
-use mathlib.Core.Path.{_≡_, refl, ap, sym, _∙_}
-use Prim.Native.Nat.{ℕ, _+_, _*_, _≤_, _<_, _-_}
+use Prim.Native.Nat.{ℕ, _≤_, _<_, _-_}
 use native.Mathlib.Omega.{arith}
-use lib.ListN.{length, getD, set, length-set}
+use lib.ListN.{length, getD}
 use mathlib.Core.Bool.{false≢true}
 use Rattle.regex_states.proofs.Loops.{one-more}
 use borrow.Author.Needs.{needs}

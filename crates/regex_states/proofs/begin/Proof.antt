@@ -1,5 +1,4 @@
 -- `regex_states::begin` meets its contract. Assumes nothing.
-use native.Mathlib.Omega.{arith}
 use Rattle.regex_states.proofs.Writes.{begun}
 use borrow.Author.Needs.{needs}
 use Rattle.regex_states.proofs.begin.Statement.{statement}

@@ -1,8 +1,8 @@
 -- `regex_states::dead` meets its contract. Assumes nothing.
-use mathlib.Core.Path.{_≡_, refl, ap, sym, _∙_}
-use Prim.Native.Nat.{ℕ, _+_, _*_, _≤_, _<_, _-_}
+use mathlib.Core.Path.{_≡_}
+use Prim.Native.Nat.{ℕ, _≤_, _<_, _-_}
 use native.Mathlib.Omega.{arith}
-use lib.ListN.{length, getD, set, length-set}
+use lib.ListN.{length, getD}
 use mathlib.Core.Bool.{false≢true}
 use Rattle.regex_marks.proofs.Runs.{clear-all, clear-next}
 use borrow.Author.Needs.{needs}

@@ -1,8 +1,6 @@
 -- `regex_states::follow` meets its contract. Assumes nothing.
-use mathlib.Core.Path.{_≡_, refl, ap, sym, _∙_}
-use Prim.Native.Nat.{ℕ, _+_, _*_, _≤_, _<_, _-_}
+use Prim.Native.Nat.{_≤_, _-_}
 use native.Mathlib.Omega.{arith}
-use lib.ListN.{length, getD, set, length-set}
 use Rattle.regex_states.specs.Texts.{Inside, Trail, start}
 use Rattle.regex_states.proofs.Loops.{follow-more, edge-fits}
 use borrow.Author.Needs.{needs}

@@ -1,7 +1,6 @@
 -- `regex_states::has_room` meets its contract. Assumes nothing.
 use mathlib.Core.Bool.{false≢true}
 use native.Mathlib.Omega.{arith}
-use borrow.Author.Needs.{needs}
 use Rattle.regex_states.proofs.has_room.Statement.{statement}
 use Rattle.regex_states.proofs.has_room.Tie as tie
 

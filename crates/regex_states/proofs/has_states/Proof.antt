@@ -1,6 +1,5 @@
 -- `regex_states::has_states` meets its contract. Assumes nothing.
 use mathlib.Core.Bool.{false≢true}
-use native.Mathlib.Omega.{arith}
 use borrow.Author.Needs.{needs}
 use Rattle.regex_states.proofs.has_states.Statement.{statement}
 use Rattle.regex_states.proofs.has_states.Tie as tie

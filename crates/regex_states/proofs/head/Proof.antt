@@ -1,6 +1,6 @@
 -- `regex_states::head` meets its contract. Assumes nothing.
 use native.Mathlib.Omega.{arith}
-use lib.ListN.{length, getD, set, length-set}
+use lib.ListN.{length-set}
 use Rattle.regex_states.proofs.Writes.{headed}
 use borrow.Author.Needs.{needs}
 use Rattle.regex_states.proofs.head.Statement.{statement}

@@ -1,5 +1,4 @@
 -- `regex_states::learn` meets its contract. Assumes nothing.
-use native.Mathlib.Omega.{arith}
 use Rattle.regex_states.proofs.Tables.{moved-on, moved-long, placed, note-fits, other-fits, noted, beyond, stepped}
 use borrow.Author.Needs.{needs}
 use Rattle.regex_states.proofs.learn.Statement.{statement}

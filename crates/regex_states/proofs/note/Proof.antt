@@ -1,6 +1,5 @@
 -- `regex_states::note` meets its contract. Assumes nothing.
-use mathlib.Core.Path.{_≡_, refl, ap, sym, _∙_}
-use native.Mathlib.Omega.{arith}
+use mathlib.Core.Path.{refl}
 use Rattle.regex_states.specs.Rooms.{unnoted, edge}
 use borrow.Author.Needs.{needs}
 use Rattle.regex_states.proofs.note.Statement.{statement}

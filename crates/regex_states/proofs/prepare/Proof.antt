@@ -1,6 +1,5 @@
 -- `regex_states::prepare` meets its contract. Assumes nothing.
 use native.Mathlib.Omega.{arith}
-use mathlib.Core.Path.{_∙_}
 use Rattle.regex_states.proofs.Writes.{weighed, ready-none}
 use borrow.Author.Needs.{needs}
 use Rattle.regex_states.proofs.prepare.Statement.{statement}

@@ -1,11 +1,11 @@
 -- `regex_states::same` meets its contract. Assumes nothing.
-use mathlib.Core.Path.{_≡_, refl, ap, sym, _∙_}
+use mathlib.Core.Path.{_≡_, sym}
 use Prim.Native.Nat.{ℕ, _+_, _*_, _≤_, _<_, _-_}
 use native.Mathlib.Omega.{arith}
-use lib.ListN.{length, getD, set, length-set}
+use lib.ListN.{length, getD}
 use mathlib.Core.Bool.{false≢true}
 use Rattle.regex_states.proofs.Loops.{one-more}
-use Rattle.regex_states.proofs.Parts.{part-is}
+use Rattle.regex_states.proofs.Cells.{cells-is}
 use borrow.Author.Needs.{needs}
 use Rattle.regex_states.proofs.same.Statement.{statement}
 use Rattle.regex_states.proofs.same.Tie as tie
@@ -44,7 +44,7 @@ loop-again : tie.Need-loop-again Inv-loop μ-loop
 loop-again c = let a = c .before .before .before .before .before .args in let l = c .before .before .before .before .loop in (omega (arith, c .before .before .before .loop-test .taken), one-more (λ j. getD (a .sets .now) (a .k * 128 + j) 0 ≡ getD (a .marks .now) j 0) _ (l .inv .1) (sym (c .if1 .left)))
 
 returns-2 : tie.Need-returns-2 Inv-loop μ-loop
-returns-2 c = λ e. part-is _ _ _ (λ j h. c .before .loop .inv .1 j (omega (arith, c .loop-test .left)))
+returns-2 c = λ e. cells-is _ _ _ (λ j h. c .before .loop .inv .1 j (omega (arith, c .loop-test .left)))
 
 pub same-spec : {M : Type 1} → statement M
 same-spec =

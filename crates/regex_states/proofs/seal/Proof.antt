@@ -1,7 +1,6 @@
 -- `regex_states::seal` meets its contract. Assumes nothing.
 use native.Mathlib.Omega.{arith}
-use Prim.Native.Nat.{ℕ, _+_, _*_, _≤_, _<_, _-_}
-use lib.ListN.{length, getD, set, length-set}
+use lib.ListN.{length-set}
 use Rattle.regex_states.proofs.Writes.{sealed}
 use borrow.Author.Needs.{needs}
 use Rattle.regex_states.proofs.seal.Statement.{statement}

@@ -1,5 +1,5 @@
 -- `regex_states::state_of` meets its contract. Assumes nothing.
-use mathlib.Core.Path.{_≡_, refl, ap, sym, _∙_}
+use mathlib.Core.Path.{refl}
 use native.Mathlib.Omega.{arith}
 use Rattle.regex_states.specs.Rooms.{known}
 use Rattle.regex_states.proofs.Tables.{found-of}

@@ -1,5 +1,5 @@
 -- `regex_states::test_with` meets its contract. Assumes nothing.
-use mathlib.Core.Path.{_≡_, refl, ap, sym, _∙_}
+use mathlib.Core.Path.{_∙_}
 use Rattle.regex_states.proofs.Answers.{tested, ready, lent}
 use borrow.Author.Needs.{needs}
 use Rattle.regex_states.proofs.test_with.Statement.{statement}

@@ -1,7 +1,6 @@
 -- `regex_total::apart` meets its contract. Assumes nothing.
 use borrow.Author.Needs.{needs}
 use Rattle.regex_total.proofs.Lengths.{apart-few, apart-none, apart-zero, apart-many}
-use Prim.Native.Nat.{_-_}
 use Rattle.regex_total.proofs.apart.Statement.{statement}
 use Rattle.regex_total.proofs.apart.Tie as tie
 

@@ -1,6 +1,6 @@
 -- `tally::sums` meets its contract: the sums stand below the present place. Assumes nothing.
 use native.Mathlib.Omega.{arith}
-use mathlib.Core.Path.{_≡_, sym}
+use mathlib.Core.Path.{sym}
 use Prim.Native.Nat.{_+_, _-_, _≤_}
 use lib.Dec.{leb}
 use lib.ListN.{getD}

@@ -1,6 +1,6 @@
 -- `compile::rooms::parse` meets its contract: a query is read from its first byte to its last.
 use borrow.Author.Tests.{not-true, not-false}
-use Rattle.parser_items.specs.Laws.{read-of, none-of, whole, start-whole, post-whole}
+use Rattle.parser_items.specs.Laws.{read-of, none-of, whole, asks-whole, post-whole}
 use Rattle.compile.proofs.Answers.{no-root, root-start, no-segments, some-left, all-read}
 use borrow.Author.Needs.{needs}
 use Rattle.compile.proofs.rooms.parse.Statement.{statement}
@@ -22,7 +22,7 @@ part-query-end : tie.Need-part-query-end
 part-query-end c = search needs
 
 query-requires : tie.Need-query-requires
-query-requires c κs = start-whole (whole _) (root-start (c .before .before .before .before .before .before .before .before .pre) (rw (not-false (c .before .before .before .before .is .result) (c .before .before .before .if1 .left)) at (c .before .before .before .before .is .ensures)))
+query-requires c κs = asks-whole (whole _) (root-start (c .before .before .before .before .before .before .before .before .pre) (rw (not-false (c .before .before .before .before .is .result) (c .before .before .before .if1 .left)) at (c .before .before .before .before .is .ensures)))
 
 enum-known-r : tie.Need-enum-known-r
 enum-known-r c = search needs

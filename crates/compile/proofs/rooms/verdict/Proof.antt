@@ -1,4 +1,4 @@
--- `compile::rooms::verdict` meets its contract: the first refusal that the marks of a state come to.
+-- `compile::rooms::verdict` meets its contract: the first refusal that the marks of a cursor come to.
 use mathlib.Core.Path.{refl}
 use borrow.Author.Tests.{le-leb, lt-leb}
 use Rattle.compile.proofs.Answers.{refused-first, refused-late}

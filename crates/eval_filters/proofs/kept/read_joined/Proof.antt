@@ -16,14 +16,14 @@ use Rattle.text.proofs.bytes.word16.Reads as word16-reads
 shared-slice-read-join : tie.Need-shared-slice-read-join
 shared-slice-read-join c = search needs
 
-is-join-requires : tie.Need-is-join-requires
-is-join-requires c κs = search needs
+add-t11 : tie.Need-add-t11
+add-t11 c = search needs
 
 returns : tie.Need-returns
-returns c = λ e. absurd (never e)
+returns c = λ e. record { same = refl; other = λ i. absurd (omega (arith, c .if1 .taken)); negated = λ i. (c .if1 .taken, eqb-true _ _ e); joined = λ i. absurd (i .1 (c .if1 .taken)) }
 
-add-if2 : tie.Need-add-if2
-add-if2 c = search needs
+is-join-requires : tie.Need-is-join-requires
+is-join-requires c κs = search needs
 
 returns-2 : tie.Need-returns-2
 returns-2 c = λ e. absurd (never e)
@@ -31,17 +31,23 @@ returns-2 c = λ e. absurd (never e)
 add-if3 : tie.Need-add-if3
 add-if3 c = search needs
 
+returns-3 : tie.Need-returns-3
+returns-3 c = λ e. absurd (never e)
+
+add-if4 : tie.Need-add-if4
+add-if4 c = search needs
+
 add-word16 : tie.Need-add-word16
 add-word16 c = search needs
 
 word16-requires : tie.Need-word16-requires
 word16-requires c κs = search needs
 
-add-if3-2 : tie.Need-add-if3-2
-add-if3-2 c = search needs
+add-if4-2 : tie.Need-add-if4-2
+add-if4-2 c = search needs
 
-returns-3 : tie.Need-returns-3
-returns-3 c = λ e. absurd (never e)
+returns-4 : tie.Need-returns-4
+returns-4 c = λ e. absurd (never e)
 
 add-read-atom : tie.Need-add-read-atom
 add-read-atom c = search needs
@@ -49,30 +55,33 @@ add-read-atom c = search needs
 read-atom-requires : tie.Need-read-atom-requires
 read-atom-requires c κs = search needs
 
-returns-4 : tie.Need-returns-4
-returns-4 c = λ e. absurd (never e)
-
 returns-5 : tie.Need-returns-5
-returns-5 c =
-    let k = join-kind _ (sym (c .before .before .before .before .before .before .before .is-join .ensures) ∙ not-false _ (c .before .before .before .before .before .before .if1 .left)) in
+returns-5 c = λ e. absurd (never e)
+
+returns-6 : tie.Need-returns-6
+returns-6 c =
+    let k = join-kind _ (sym (c .before .before .before .before .before .before .before .is-join .ensures) ∙ not-false _ (c .before .before .before .before .before .before .if2 .left)) in
     let k0 = k .0 in
-    λ e. record { same = refl; other = λ i. absurd (omega arith); joined = record { more = c .before .before .before .before .before .before .before .before .before .before .pre .1; low = k .0; high = k .1; byte = refl; ends = omega (arith, c .before .before .before .if3 .left, c .before .before .before .before .word16 .ensures .is); right = c .before .before .read-atom .ensures (c .if4 .left); next = eqb-true _ _ e } }
+    let n = c .before .before .before .before .before .before .before .before .if1 .left in
+    λ e. record { same = refl; other = λ i. absurd (omega arith); negated = λ i. absurd (n i); joined = λ o. record { more = c .before .before .before .before .before .before .before .before .before .before .before .pre .1; low = k .0; high = k .1; byte = refl; ends = omega (arith, c .before .before .before .if4 .left, c .before .before .before .before .word16 .ensures .is); right = c .before .before .read-atom .ensures (c .if5 .left); next = eqb-true _ _ e } }
 
 pub read-joined-spec : {M : Type 1} → statement M
 read-joined-spec =
     tie.close
     (tie.spec
     shared-slice-read-join
-    is-join-requires
+    add-t11
     returns
-    add-if2
+    is-join-requires
     returns-2
     add-if3
+    returns-3
+    add-if4
     add-word16
     word16-requires
-    add-if3-2
-    returns-3
+    add-if4-2
+    returns-4
     add-read-atom
     read-atom-requires
-    returns-4
-    returns-5)
+    returns-5
+    returns-6)

@@ -6,7 +6,7 @@ use Rattle.eval_rows.proofs.long.Reads as long
 use Rattle.eval_rows.proofs.long.Kinds as long-kinds
 
 abbrev pub μ-long : Measures 5 long-kinds.ps ℕ
-μ-long κs a = a .1 .1 .1 .1 .1 .1 .1 .1 .1 .1 .1 .1 .1 .1 .1 .0
+μ-long κs a = a .1 .1 .1 .1 .1 .1 .1 .1 .1 .0
 
 abbrev pub long-at : ℕ → In 5 long-kinds.ps
 long-at t = and 5 long-kinds.ps (is 5 long-kinds.ps μ-long t) long.Pre

@@ -6,7 +6,7 @@ use Rattle.eval_rows.proofs.short.Reads as short
 use Rattle.eval_rows.proofs.short.Kinds as short-kinds
 
 abbrev pub μ-short : Measures 5 short-kinds.ps ℕ
-μ-short κs a = a .1 .1 .1 .1 .1 .1 .1 .1 .1 .1 .1 .1 .1 .1 .1 .0
+μ-short κs a = a .1 .1 .1 .1 .1 .1 .1 .1 .1 .0
 
 abbrev pub short-at : ℕ → In 5 short-kinds.ps
 short-at t = and 5 short-kinds.ps (is 5 short-kinds.ps μ-short t) short.Pre

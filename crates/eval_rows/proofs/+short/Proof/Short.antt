@@ -31,7 +31,7 @@ module _ (t : ℕ) where
   slice-aggregate-read-in-2 c = search needs
 
   pub read-in-requires : lts.Need-read-in-requires (calls t) (short-at t) short.Post
-  read-in-requires c κs = let s = c .before .before .before .before .before .before .before .before .before .pre .1 in (s .0, (s .1 .0, (s .1 .1 .0, rooms 128 refl refl (s .1 .1 .1))))
+  read-in-requires c κs = let s = c .before .before .before .before .before .before .before .before .before .pre .1 in (s .0, (s .1 .0, rooms 128 refl refl (s .1 .1)))
 
   pub same-length-2 : lts.Need-same-length-2 (calls t) (short-at t) short.Post
   same-length-2 c = search needs

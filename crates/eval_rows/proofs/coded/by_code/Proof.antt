@@ -1,5 +1,5 @@
 -- `coded::by_code` meets its contract. Assumes nothing.
-use Rattle.eval_rows.specs.Rows.{ready-states}
+use Rattle.eval_rows.specs.Known.{ready-states}
 use borrow.Author.Needs.{needs}
 use Rattle.eval_rows.proofs.coded.by_code.Statement.{statement}
 use Rattle.eval_rows.proofs.coded.by_code.Tie as tie
@@ -18,7 +18,7 @@ has-states-requires : tie.Need-has-states-requires
 has-states-requires c κs = search needs
 
 with-states-requires : tie.Need-with-states-requires
-with-states-requires c κs = let s = c .before .before .before .before .before .before .before .before .before .before .before .pre in (s .0, (s .1 .0, (s .1 .1 .0, ready-states (s .1 .1 .1))))
+with-states-requires c κs = let s = c .before .before .before .before .before .before .before .before .before .before .before .pre in (s .0, (s .1 .0, ready-states (s .1 .1)))
 
 same-length : tie.Need-same-length
 same-length c = search needs

@@ -1,8 +1,6 @@
 -- `coded::outside` meets its contract. Assumes nothing.
 use native.Mathlib.Omega.{arith}
-use Rattle.definition.specs.Bytes.{part}
-use Rattle.regex_rooms.specs.Rooms.{scopeFor}
-use Rattle.eval_rows.specs.Rows.{ready-outside, held-none}
+use Rattle.eval_rows.specs.Known.{knows-outside, held-none}
 use borrow.Author.Needs.{needs}
 use Rattle.eval_rows.proofs.coded.outside.Statement.{statement}
 use Rattle.eval_rows.proofs.coded.outside.Tie as tie
@@ -23,13 +21,13 @@ slice-aggregate-keep-4 : tie.Need-slice-aggregate-keep-4
 slice-aggregate-keep-4 c = search needs
 
 keep-requires : tie.Need-keep-requires
-keep-requires c κs = let q = c .before .before .before .before .before .before .before .before .before .before in let s = q .pre in let g = q .args .g in (s .0, (s .1 .0, (s .1 .1 .0, (ready-outside (scopeFor (g .kind)) (part (q .args .pool .now) (g .start) (g .size)) _ (s .1 .1 .1), held-none 1 (omega arith)))))
+keep-requires c κs = let s = c .before .before .before .before .before .before .before .before .before .before .pre in (s .0, (knows-outside (s .1 .0 .0) (s .1 .1), held-none 1 (omega arith)))
 
 same-length : tie.Need-same-length
 same-length c = search needs
 
 returns : tie.Need-returns
-returns c = c .before .before .before .before .before .keep .ensures .whole (λ e. absurd (omega arith))
+returns c = search needs
 
 pub outside-spec : {M : Type 1} → statement M
 outside-spec =

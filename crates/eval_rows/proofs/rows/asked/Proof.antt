@@ -1,73 +1,93 @@
--- `rows::asked` meets its contract, by what is known of the expression. Assumes nothing.
+-- `rows::asked` meets its contract. The loop keeps that what is left of the filter's code gives the test's answer. Assumes nothing.
+use Prim.Native.Nat.{_-_}
+use mathlib.Core.Path.{_≡_, refl, sym, _∙_}
+use lib.ListN.{length}
 use native.Mathlib.Omega.{arith}
-use borrow.Author.Tests.{not-true, not-false}
-use Rattle.eval_rows.specs.Rows.{answer-none, answer-unread, answer-outside, answer-tested}
-use borrow.Author.Needs.{needs}
+use borrow.Author.Tests.{not-false}
+use Rattle.eval_rows.specs.Calls.{left-near}
+use Rattle.eval_rows.specs.Known.{Held}
+use Rattle.eval_rows.specs.Turns.{turn-left, turn-call, turn-at, turn-called}
+use Rattle.eval_rows.specs.Rows.{InAsked, asked-start, asked-turn, asked-further, answer-none, answer-told}
 use Rattle.eval_rows.proofs.rows.asked.Statement.{statement}
 use Rattle.eval_rows.proofs.rows.asked.Tie as tie
 use Rattle.eval_rows.proofs.rows.asked.Reads as reads
 use Rattle.eval_rows.proofs.rows.asked.Lts as lts
-use Rattle.eval_rows.proofs.rows.flipped.Reads as flipped-reads
-use Rattle.eval_rows.proofs.rows.tested.Reads as tested-reads
-use Rattle.eval_rows.proofs.rows.text_of.Reads as text-of-reads
+use Rattle.eval_rows.proofs.turns.called.Reads as called-reads
+use Rattle.eval_rows.proofs.turns.told.Reads as told-reads
 
-text-of-requires : tie.Need-text-of-requires
-text-of-requires c κs = search needs
+abbrev Inv-loop : tie.InvT-loop
+Inv-loop plan pool table text root node p z g known code edges₀ sets₀ marks₀ acc₀ q₀ edges sets marks acc q = InAsked plan pool table text root node p z acc q × ((length edges ≡ length edges₀) × ((length sets ≡ length sets₀) × ((length marks ≡ length marks₀) × Held code edges sets known)))
 
-returns : tie.Need-returns
-returns c = let s = c .before .before .before .before .before .before .before .before .before .before .before .pre in (answer-none (s .0) (s .1 .0 .1) (c .before .before .text-of .ensures) (not-true _ (c .if1 .taken)), s .1 .1 .1)
+abbrev μ-loop : tie.MeasureT-loop
+μ-loop plan pool table text root node p z g known code edges₀ sets₀ marks₀ acc₀ q₀ edges sets marks acc q = z - q
 
-returns-2 : tie.Need-returns-2
-returns-2 c = (answer-unread (c .if2 .taken), c .before .before .before .before .before .before .before .before .before .before .before .before .pre .1 .1 .1)
+loop-holds : tie.Need-loop-holds Inv-loop μ-loop
+loop-holds c = let s = c .before .before .before .before .before .before .before .before .pre in (asked-start (s .0 .0), (refl, (refl, (refl, s .1 .1))))
 
-returns-3 : tie.Need-returns-3
-returns-3 c = let s = c .before .before .before .before .before .before .before .before .before .before .before .before .before .pre in (answer-outside (s .0) (s .1 .0 .1) (c .before .before .before .before .text-of .ensures) (not-false _ (c .before .before .if1 .left)) (s .1 .1 .0) (c .if3 .taken), s .1 .1 .1)
+called-requires : tie.Need-called-requires Inv-loop μ-loop
+called-requires c κs = let s = c .before .before .before .before .before .before .before .before .before .before .before .before .before .before .before .pre in let i = c .before .before .before .before .before .before .loop .inv in let t = asked-turn (s .0 .0) (s .0 .1) (i .0) (c .before .before .before .before .before .loop-test .taken) in let h = turn-call t (s .1 .0) (c .before .before .before .if1 .taken) in ((turn-at t (h .0) (sym (c .before .before .before .if1 .taken)), h .0), (h .1, (s .1 .0 .ready, i .1 .1 .1 .1)))
 
-add-tested : tie.Need-add-tested
-add-tested c = omega (arith, c .before .before .before .before .text-of .ensures .inside (not-false _ (c .before .before .if1 .left)) .0, c .before .before .before .before .before .before .before .before .before .before .before .before .before .pre .0 .tab .size .short)
+add-q : tie.Need-add-q Inv-loop μ-loop
+add-q c = let s = c .before .before .before .before .before .before .before .before .before .before .before .before .before .before .before .before .before .before .before .before .before .before .before .pre in let t = asked-turn (s .0 .0) (s .0 .1) (c .before .before .before .before .before .before .before .before .before .before .before .before .before .before .loop .inv .0) (c .before .before .before .before .before .before .before .before .before .before .before .before .before .loop-test .taken) in let h = turn-call t (s .1 .0) (c .before .before .before .before .before .before .before .before .before .before .before .if1 .taken) in omega (arith, h .0 .ends, left-near (turn-left t))
 
-sub-tested : tie.Need-sub-tested
-sub-tested c = search needs
+loop-less : tie.Need-loop-less Inv-loop μ-loop
+loop-less c = let s = c .before .before .before .before .before .before .before .before .before .before .before .before .before .before .before .before .before .before .before .before .before .before .before .pre in let t = asked-turn (s .0 .0) (s .0 .1) (c .before .before .before .before .before .before .before .before .before .before .before .before .before .before .loop .inv .0) (c .before .before .before .before .before .before .before .before .before .before .before .before .before .loop-test .taken) in let h = turn-call t (s .1 .0) (c .before .before .before .before .before .before .before .before .before .before .before .if1 .taken) in omega (arith, turn-called t (h .0) (sym (c .before .before .before .before .before .before .before .before .before .before .before .if1 .taken)) (c .before .before .before .before .before .before .before .called .ensures .0) .further refl, c .before .before .before .before .before .before .before .before .before .before .before .before .before .loop-test .taken)
 
-part-tested-start : tie.Need-part-tested-start
-part-tested-start c = search needs
+loop-again : tie.Need-loop-again Inv-loop μ-loop
+loop-again c = let s = c .before .before .before .before .before .before .before .before .before .before .before .before .before .before .before .before .before .before .before .before .before .before .before .pre in let i = c .before .before .before .before .before .before .before .before .before .before .before .before .before .before .loop .inv in let k = c .before .before .before .before .before .before .before .called .kept .1 .1 .1 .1 .1 .1 .1 .1 .1 .1 in let t = asked-turn (s .0 .0) (s .0 .1) (i .0) (c .before .before .before .before .before .before .before .before .before .before .before .before .before .loop-test .taken) in let h = turn-call t (s .1 .0) (c .before .before .before .before .before .before .before .before .before .before .before .if1 .taken) in (asked-further (s .0 .0) (s .0 .1) (i .0) (turn-called t (h .0) (sym (c .before .before .before .before .before .before .before .before .before .before .before .if1 .taken)) (c .before .before .before .before .before .before .before .called .ensures .0)) refl, (k .0 ∙ i .1 .0, (k .1 .0 ∙ i .1 .1 .0, (k .1 .1 .0 ∙ i .1 .1 .1 .0, c .before .before .before .before .before .before .before .called .ensures .1))))
 
-part-tested-end : tie.Need-part-tested-end
-part-tested-end c = omega (arith, c .before .before .before .before .text-of .ensures .inside (not-false _ (c .before .before .if1 .left)) .0)
+told-requires : tie.Need-told-requires Inv-loop μ-loop
+told-requires c κs = let s = c .before .before .before .before .before .before .before .before .before .before .before .before .pre in asked-turn (s .0 .0) (s .0 .1) (c .before .before .before .loop .inv .0) (c .before .before .loop-test .taken)
 
-tested-requires : tie.Need-tested-requires
-tested-requires c κs = search needs
+same-length : tie.Need-same-length Inv-loop μ-loop
+same-length c = c .before .before .before .before .before .before .loop .inv .1 .0
 
-flipped-requires : tie.Need-flipped-requires
-flipped-requires c κs = search needs
+same-length-2 : tie.Need-same-length-2 Inv-loop μ-loop
+same-length-2 c = c .before .before .before .before .before .before .loop .inv .1 .1 .0
 
-same-length : tie.Need-same-length
-same-length c = search needs
+same-length-3 : tie.Need-same-length-3 Inv-loop μ-loop
+same-length-3 c = c .before .before .before .before .before .before .loop .inv .1 .1 .1 .0
 
-same-length-2 : tie.Need-same-length-2
-same-length-2 c = search needs
+returns : tie.Need-returns Inv-loop μ-loop
+returns c = let s = c .before .before .before .before .before .before .before .before .before .before .before .before .before .before .before .pre in (answer-none (s .0 .0) (s .0 .1) (c .before .before .before .before .before .before .loop .inv .0) (c .before .before .before .before .before .loop-test .taken), c .before .before .before .before .before .before .loop .inv .1 .1 .1 .1)
 
-same-length-3 : tie.Need-same-length-3
-same-length-3 c = search needs
+loop-less-2 : tie.Need-loop-less-2 Inv-loop μ-loop
+loop-less-2 c = omega (arith, c .before .before .told .ensures .further (not-false _ (c .if2 .left)), c .before .before .before .before .before .loop-test .taken)
 
-returns-4 : tie.Need-returns-4
-returns-4 c = let s = c .before .before .before .before .before .before .before .before .before .before .before .before .before .before .before .before .before .before .before .before .before .before .before .before .before .pre in (answer-tested (s .0) (s .1 .0 .1) (c .before .before .before .before .before .before .before .before .before .before .before .before .before .before .before .before .text-of .ensures) (not-false _ (c .before .before .before .before .before .before .before .before .before .before .before .before .before .before .if1 .left)) (s .1 .1 .0) (c .before .before .before .before .before .before .before .before .before .before .before .before .before .if2 .left) (c .before .before .before .before .before .before .before .before .before .before .before .before .if3 .left) _ (c .before .before .before .before .before .before .before .tested .ensures .0) _ (c .flipped .ensures), c .before .before .before .before .before .before .before .tested .ensures .1)
+loop-again-2 : tie.Need-loop-again-2 Inv-loop μ-loop
+loop-again-2 c = let s = c .before .before .before .before .before .before .before .before .before .before .before .before .before .before .before .pre in let i = c .before .before .before .before .before .before .loop .inv in (asked-further (s .0 .0) (s .0 .1) (i .0) (c .before .before .told .ensures) (not-false _ (c .if2 .left)), i .1)
+
+same-length-4 : tie.Need-same-length-4 Inv-loop μ-loop
+same-length-4 c = c .before .loop .inv .1 .0
+
+same-length-5 : tie.Need-same-length-5 Inv-loop μ-loop
+same-length-5 c = c .before .loop .inv .1 .1 .0
+
+same-length-6 : tie.Need-same-length-6 Inv-loop μ-loop
+same-length-6 c = c .before .loop .inv .1 .1 .1 .0
+
+returns-2 : tie.Need-returns-2 Inv-loop μ-loop
+returns-2 c = let s = c .before .before .before .before .before .before .before .before .before .before .pre in (answer-told (s .0 .0) (s .0 .1) (c .before .loop .inv .0) (c .loop-test .left), c .before .loop .inv .1 .1 .1 .1)
 
 pub asked-spec : {M : Type 1} → statement M
 asked-spec =
     tie.close
     (tie.spec
-    text-of-requires
-    returns
-    returns-2
-    returns-3
-    add-tested
-    sub-tested
-    part-tested-start
-    part-tested-end
-    tested-requires
-    flipped-requires
+    Inv-loop
+    μ-loop
+    loop-holds
+    called-requires
+    add-q
+    loop-less
+    loop-again
+    told-requires
     same-length
     same-length-2
     same-length-3
-    returns-4)
+    returns
+    loop-less-2
+    loop-again-2
+    same-length-4
+    same-length-5
+    same-length-6
+    returns-2)

@@ -2,7 +2,7 @@
 use Rattle.eval_values.specs.Same.{not-taken, not-left, with-nothing, with-null, with-bool, with-int, with-float, with-pool, with-text, with-node, node-node, node-else, node-height, child-height, of-nodes, at-nodes, found-node, found-nothing, found-in, members-of, kinds-differ, counts-differ, lists-same, maps-same, map-else, kids-start, elements-start, elements-step, elements-stop, elements-end, members-step, members-stop, members-end, elements-are, members-are, child-key, key-read}
 use Rattle.eval_values.specs.Same.{not-taken, not-left, with-nothing, with-null, with-bool, with-int, with-float, with-pool, with-text, with-node, node-node, node-else, node-height, child-height, of-nodes, at-nodes, found-node, found-nothing, found-in, members-of, kinds-differ, counts-differ, lists-same, maps-same, map-else, kids-start, elements-start, elements-step, elements-stop, elements-end, members-step, members-stop, members-end, elements-are, members-are, child-key, key-read}
 use Rattle.eval_laws.specs.Ranges.{range-of, child-at}
-use Rattle.eval_laws.specs.Nodes.{kids}
+use Rattle.table_laws.specs.Nodes.{kids}
 use Rattle.definition.specs.Compare.{sameElements}
 use mathlib.Core.Bool.{true}
 use Prim.Native.Nat.{_+_, _-_, _≤_}

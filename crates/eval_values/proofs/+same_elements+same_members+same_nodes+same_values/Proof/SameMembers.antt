@@ -5,7 +5,7 @@ use mathlib.Core.Path.{_≡_, refl, _∙_}
 use borrow.Author.Needs.{needs}
 use native.Mathlib.Omega.{arith}
 use Rattle.definition.specs.Compare.{sameMembers}
-use Rattle.eval_laws.specs.Nodes.{kids, kidsAt}
+use Rattle.table_laws.specs.Nodes.{kids, kidsAt}
 use Rattle.eval_values.specs.Same.{not-taken, not-left, child-height, of-nodes, at-nodes, members-start, members-step, members-stop, members-end, members-are}
 use Rattle.eval_values.proofs.Partners.{firsts, turn-in, turn-deeper, turn-asks, turn-missing, turn-between, turn-found}
 use Rattle.eval_values.proofs.same_members.Reads as same-members

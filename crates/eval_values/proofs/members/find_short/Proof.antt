@@ -1,7 +1,7 @@
 -- `eval_values::members::find_short` meets its contract, as get_by_key does: the ends of a name say whether it is the member's. Assumes nothing.
 use mathlib.Core.Path.{_≡_}
 use Rattle.eval_values.specs.Members.{key-same, lookup-start, lookup-step, lookup-found, lookup-end}
-use Rattle.eval_laws.specs.Nodes.{kids}
+use Rattle.table_laws.specs.Nodes.{kids}
 use Rattle.definition.specs.Values.{lookup}
 use Rattle.definition.specs.Bytes.{part}
 use Prim.Native.Nat.{_+_, _-_}

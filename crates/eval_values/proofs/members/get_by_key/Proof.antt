@@ -4,7 +4,7 @@ use mathlib.Core.Path.{_≡_}
 use native.Mathlib.Omega.{arith}
 use Rattle.definition.specs.Bytes.{part}
 use Rattle.definition.specs.Values.{lookup}
-use Rattle.eval_laws.specs.Nodes.{kids}
+use Rattle.table_laws.specs.Nodes.{kids}
 use Rattle.eval_values.specs.Members.{lookup-start, lookup-step, lookup-found, lookup-end}
 use Rattle.eval_values.proofs.members.get_by_key.Statement.{statement}
 use Rattle.eval_values.proofs.members.get_by_key.Tie as tie

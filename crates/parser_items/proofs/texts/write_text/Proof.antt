@@ -1,7 +1,7 @@
 -- `parser_items::texts::write_text` meets its contract: the characters are read into the pool, and the item is put.
 -- Assumes nothing.
 use native.Mathlib.Omega.{arith}
-use Rattle.parser_items.specs.Laws.{start-room}
+use Rattle.parser_items.specs.Laws.{asks-room}
 use Rattle.parser_items.proofs.Quotes.{text-opened, text-none, text-done, done-of, bad-of}
 use borrow.Author.Needs.{needs}
 use Rattle.parser_items.proofs.texts.write_text.Statement.{statement}
@@ -25,7 +25,7 @@ sub-pooled c = omega (arith, done-of (c .before .before .before .before .before 
 pooled-requires : tie.Need-pooled-requires
 pooled-requires c κs =
     let u = done-of (c .before .before .before .before .before .before .unescape-string .ensures) (c .before .before .e .given .1) in
-    (start-room 5 1 (c .before .before .before .before .before .before .before .before .before .before .before .pre .0) (c .before .before .before .before .before .before .before .before .before .before .before .pre .1 .1 .0) (omega arith), omega (arith, u .grown, u .short, u .to, u .from, c .before .before .before .before .before .before .before .before .before .before .before .pre .0 .pool, c .before .before .before .before .before .before .before .before .before .before .before .pre .0 .smallPool, c .before .before .before .before .before .before .before .before .before .before .before .pre .1 .1 .0))
+    (asks-room 5 1 (c .before .before .before .before .before .before .before .before .before .before .before .pre .0) (c .before .before .before .before .before .before .before .before .before .before .before .pre .1 .1 .0) (omega arith), omega (arith, u .grown, u .short, u .to, u .from, c .before .before .before .before .before .before .before .before .before .before .before .pre .0 .pool, c .before .before .before .before .before .before .before .before .before .before .before .pre .0 .smallPool, c .before .before .before .before .before .before .before .before .before .before .before .pre .1 .1 .0))
 
 moved-requires : tie.Need-moved-requires
 moved-requires c κs = search needs

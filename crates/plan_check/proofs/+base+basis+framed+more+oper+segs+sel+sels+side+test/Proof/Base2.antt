@@ -1,6 +1,6 @@
 -- The answers of `base` in the cycle of calls {base, basis, framed, more, oper, segs, sel, sels, side, test}.
 use Rattle.plan_check.proofs.LawsTest.{base-none, base-side, base-tested}
-use Rattle.plan_check.proofs.Steps.{read-of, none-of, low-of, short-of, start-on}
+use Rattle.plan_check.proofs.Steps.{read-of, none-of, low-of, short-of, asks-on}
 use Rattle.plan_items.proofs.Words.{kind-in-at}
 use borrow.Author.Needs.{needs}
 use native.Mathlib.Omega.{arith}
@@ -30,7 +30,7 @@ module _ (t : ℕ) where
   kind-requires c κs = search needs
 
   pub side-requires : lts.Need-side-requires (calls t) (base-at t) base.Post
-  side-requires c κs = (omega (arith, c .before .before .before .before .before .before .before .before .pre .0, read-of (c .before .before .before .before .before .oper .ensures) (c .before .before .before .a .given .1) .to), (start-on (c .before .before .before .before .before .before .before .before .pre .1) (read-of (c .before .before .before .before .before .oper .ensures) (c .before .before .before .a .given .1)), low-of (read-of (c .before .before .before .before .before .oper .ensures) (c .before .before .before .a .given .1))))
+  side-requires c κs = (omega (arith, c .before .before .before .before .before .before .before .before .pre .0, read-of (c .before .before .before .before .before .oper .ensures) (c .before .before .before .a .given .1) .to), (asks-on (c .before .before .before .before .before .before .before .before .pre .1) (read-of (c .before .before .before .before .before .oper .ensures) (c .before .before .before .a .given .1)), low-of (read-of (c .before .before .before .before .before .oper .ensures) (c .before .before .before .a .given .1))))
 
   pub returns : lts.Need-returns (calls t) (base-at t) base.Post
   returns c = base-side (short-of (c .before .before .before .before .before .before .before .before .before .pre .1)) (read-of (c .before .before .before .before .before .before .oper .ensures) (c .before .before .before .before .a .given .1)) (c .before .before .kind .ensures) (c .before .if1 .taken) (c .side .ensures)

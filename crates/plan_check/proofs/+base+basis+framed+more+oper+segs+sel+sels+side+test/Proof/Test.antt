@@ -1,6 +1,6 @@
 -- The answers of `test` in the cycle of calls {base, basis, framed, more, oper, segs, sel, sels, side, test}.
 use Rattle.plan_check.proofs.LawsTest.{test-none, test-more}
-use Rattle.plan_check.proofs.Steps.{read-of, none-of, low-of, short-of, start-on}
+use Rattle.plan_check.proofs.Steps.{read-of, none-of, low-of, short-of, asks-on}
 use borrow.Author.Needs.{needs}
 use native.Mathlib.Omega.{arith}
 use Rattle.plan_check.proofs.+base+basis+framed+more+oper+segs+sel+sels+side+test.Lts-test as lts
@@ -24,7 +24,7 @@ module _ (t : ℕ) where
   enum-known-g c = search needs
 
   pub more-requires : lts.Need-more-requires (calls t) (test-at t) test.Post
-  more-requires c κs = (omega (arith, c .before .before .before .before .before .before .pre .0, read-of (c .before .before .before .base .ensures) (c .before .g .given .1) .to), (start-on (c .before .before .before .before .before .before .pre .1) (read-of (c .before .before .before .base .ensures) (c .before .g .given .1)), low-of (read-of (c .before .before .before .base .ensures) (c .before .g .given .1))))
+  more-requires c κs = (omega (arith, c .before .before .before .before .before .before .pre .0, read-of (c .before .before .before .base .ensures) (c .before .g .given .1) .to), (asks-on (c .before .before .before .before .before .before .pre .1) (read-of (c .before .before .before .base .ensures) (c .before .g .given .1)), low-of (read-of (c .before .before .before .base .ensures) (c .before .g .given .1))))
 
   pub returns : lts.Need-returns (calls t) (test-at t) test.Post
   returns c = test-none (none-of (c .before .before .base .ensures) (c .enum-told .given .1))

@@ -1,20 +1,20 @@
 -- The answers of `copies` in the cycle of calls {copies, counted, endless, least, shift, two}.
 use Rattle.regex_marks.proofs.Words.{shifted-by, copied-by, again-fits}
 use Rattle.regex_marks.proofs.Laws.{copied-one, copied-more, copied-bare}
-use mathlib.Core.Path.{refl, _∙_}
+use mathlib.Core.Path.{_∙_}
 use native.Mathlib.Omega.{arith}
 use borrow.Author.Needs.{needs}
 use Rattle.regex_marks.proofs.+copies+counted+endless+least+shift+two.Lts-copies as lts
 use Prim.Native.Nat.{ℕ}
 use Rattle.regex_marks.proofs.copies.Reads as copies
 use Rattle.regex_marks.proofs.shift.Reads as shift
-use Rattle.regex_marks.proofs.bare.Reads as bare-reads
-use Rattle.regex_marks.proofs.enters.Reads as enters-reads
-use Rattle.regex_marks.proofs.last.Reads as last-reads
-use Rattle.regex_marks.proofs.less.Reads as less-reads
-use Rattle.regex_marks.proofs.link.Reads as link-reads
-use Rattle.regex_marks.proofs.unpack.Reads as unpack-reads
-use Rattle.regex_marks.proofs.pack.Reads as pack-reads
+use Rattle.regex_marks.proofs.passes.bare.Reads as bare-reads
+use Rattle.regex_marks.proofs.passes.enters.Reads as enters-reads
+use Rattle.regex_marks.proofs.passes.last.Reads as last-reads
+use Rattle.regex_marks.proofs.passes.less.Reads as less-reads
+use Rattle.regex_marks.proofs.passes.link.Reads as link-reads
+use Rattle.regex_marks.proofs.passes.unpack.Reads as unpack-reads
+use Rattle.regex_marks.proofs.passes.pack.Reads as pack-reads
 use Rattle.regex_marks.proofs.+copies+counted+endless+least+shift+two.Proof.Base.{copies-at, copies-below, shift-below}
 
 abbrev pub calls : ℕ → lts.Claims

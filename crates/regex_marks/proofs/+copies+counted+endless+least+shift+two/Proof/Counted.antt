@@ -1,7 +1,7 @@
 -- The answers of `counted` in the cycle of calls {copies, counted, endless, least, shift, two}.
 use Rattle.regex_marks.proofs.Words.{shifted-by, clip-skip}
 use Rattle.regex_marks.proofs.Laws.{stop-short, shift-none, shift-upto}
-use mathlib.Core.Path.{refl, _∙_}
+use mathlib.Core.Path.{_∙_}
 use native.Mathlib.Omega.{arith}
 use borrow.Author.Needs.{needs}
 use Rattle.regex_marks.proofs.+copies+counted+endless+least+shift+two.Lts-counted as lts
@@ -10,10 +10,10 @@ use Rattle.regex_marks.proofs.copies.Reads as copies
 use Rattle.regex_marks.proofs.counted.Reads as counted
 use Rattle.regex_code.proofs.skip.Reads as skip-reads
 use Rattle.regex_code.proofs.wide.Reads as wide-reads
-use Rattle.regex_marks.proofs.lesser.Reads as lesser-reads
-use Rattle.regex_marks.proofs.pack.Reads as pack-reads
-use Rattle.regex_marks.proofs.stop.Reads as stop-reads
-use Rattle.regex_marks.proofs.unmarked.Reads as unmarked-reads
+use Rattle.regex_marks.proofs.passes.lesser.Reads as lesser-reads
+use Rattle.regex_marks.proofs.passes.pack.Reads as pack-reads
+use Rattle.regex_marks.proofs.passes.stop.Reads as stop-reads
+use Rattle.regex_marks.proofs.passes.unmarked.Reads as unmarked-reads
 use Rattle.regex_marks.proofs.+copies+counted+endless+least+shift+two.Proof.Base.{copies-below, counted-at}
 
 abbrev pub calls : ℕ → lts.Claims
@@ -30,7 +30,7 @@ module _ (t : ℕ) where
   pack-requires c κs = rw (c .stop .ensures) (omega (arith, c .before .before .before .before .pre .1 .0 .place, c .before .before .before .before .pre .1 .0 .words), omega arith)
 
   pub returns : lts.Need-returns (calls t) (counted-at t) counted.Post
-  returns c = shifted-by (c .pack .ensures ∙ c .before .stop .ensures) (stop-short _ _ _ _ _ (c .before .before .before .before .before .pre .1 .0 .room) _ (c .before .before .before .before .before .pre .1 .1 .here) (λ e. omega (arith, e, c .before .before .before .before .before .pre .1 .1 .is)) (λ e. omega (arith, e, c .before .before .before .before .before .pre .1 .1 .is)) (λ e. omega (arith, e, c .before .before .before .before .before .pre .1 .1 .is)) (λ e. omega (arith, e, c .before .before .before .before .before .pre .1 .1 .is)) (c .before .before .if1 .taken))
+  returns c = let a = c .before .before .before .before .before .pre .1 in shifted-by (c .pack .ensures ∙ c .before .stop .ensures) (stop-short _ _ _ _ _ (a .0 .room) _ (a .1 .here) (omega (arith, a .1 .is)) (c .before .before .if1 .taken))
 
   pub add-wide : lts.Need-add-wide (calls t) (counted-at t) counted.Post
   add-wide c = omega (arith, c .before .before .before .pre .1 .0 .place, c .before .before .before .pre .1 .0 .words)

@@ -8,15 +8,15 @@ use Rattle.regex_marks.proofs.+copies+counted+endless+least+shift+two.L
 use Prim.Native.Nat.{ℕ}
 use Rattle.regex_marks.proofs.endless.Reads as endless
 use Rattle.regex_marks.proofs.shift.Reads as shift
-use Rattle.regex_marks.proofs.bare_loop.Reads as bare-loop-reads
-use Rattle.regex_marks.proofs.bit.Reads as bit-reads
-use Rattle.regex_marks.proofs.chain.Reads as chain-reads
-use Rattle.regex_marks.proofs.either.Reads as either-reads
-use Rattle.regex_marks.proofs.enters.Reads as enters-reads
-use Rattle.regex_marks.proofs.looped.Reads as looped-reads
-use Rattle.regex_marks.proofs.unpack.Reads as unpack-reads
-use Rattle.regex_marks.proofs.pack.Reads as pack-reads
-use Rattle.regex_marks.proofs.stop.Reads as stop-reads
+use Rattle.regex_marks.proofs.passes.bare_loop.Reads as bare-loop-reads
+use Rattle.regex_marks.proofs.passes.bit.Reads as bit-reads
+use Rattle.regex_marks.proofs.passes.chain.Reads as chain-reads
+use Rattle.regex_marks.proofs.passes.either.Reads as either-reads
+use Rattle.regex_marks.proofs.passes.enters.Reads as enters-reads
+use Rattle.regex_marks.proofs.passes.looped.Reads as looped-reads
+use Rattle.regex_marks.proofs.passes.unpack.Reads as unpack-reads
+use Rattle.regex_marks.proofs.passes.pack.Reads as pack-reads
+use Rattle.regex_marks.proofs.passes.stop.Reads as stop-reads
 use Rattle.regex_marks.proofs.+copies+counted+endless+least+shift+two.Proof.Base.{endless-at, endless-below, shift-below}
 
 abbrev pub calls : ℕ → lts.Claims

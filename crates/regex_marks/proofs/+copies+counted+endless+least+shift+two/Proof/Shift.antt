@@ -10,10 +10,10 @@ use Rattle.regex_marks.proofs.counted.Reads as counted
 use Rattle.regex_marks.proofs.least.Reads as least
 use Rattle.regex_marks.proofs.shift.Reads as shift
 use Rattle.regex_marks.proofs.two.Reads as two
-use Rattle.regex_marks.proofs.pack.Reads as pack-reads
+use Rattle.regex_marks.proofs.passes.pack.Reads as pack-reads
 use Rattle.regex_marks.proofs.spot.Reads as spot-reads
-use Rattle.regex_marks.proofs.stop.Reads as stop-reads
-use Rattle.regex_marks.proofs.unmarked.Reads as unmarked-reads
+use Rattle.regex_marks.proofs.passes.stop.Reads as stop-reads
+use Rattle.regex_marks.proofs.passes.unmarked.Reads as unmarked-reads
 use Rattle.regex_marks.proofs.+copies+counted+endless+least+shift+two.Proof.Base.{counted-below, least-below, shift-at, two-below}
 
 abbrev pub calls : ℕ → lts.Claims

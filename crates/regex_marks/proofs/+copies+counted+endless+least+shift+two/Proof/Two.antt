@@ -1,16 +1,16 @@
 -- The answers of `two` in the cycle of calls {copies, counted, endless, least, shift, two}.
 use Rattle.regex_marks.proofs.Words.{shifted-by, shifted-fits, next-fits, shift-two}
-use mathlib.Core.Path.{refl, _∙_}
+use mathlib.Core.Path.{_∙_}
 use native.Mathlib.Omega.{arith}
 use borrow.Author.Needs.{needs}
 use Rattle.regex_marks.proofs.+copies+counted+endless+least+shift+two.Lts-two as lts
 use Prim.Native.Nat.{ℕ}
 use Rattle.regex_marks.proofs.shift.Reads as shift
 use Rattle.regex_marks.proofs.two.Reads as two
-use Rattle.regex_marks.proofs.joined.Reads as joined-reads
-use Rattle.regex_marks.proofs.unpack.Reads as unpack-reads
-use Rattle.regex_marks.proofs.pack.Reads as pack-reads
-use Rattle.regex_marks.proofs.second.Reads as second-reads
+use Rattle.regex_marks.proofs.passes.joined.Reads as joined-reads
+use Rattle.regex_marks.proofs.passes.unpack.Reads as unpack-reads
+use Rattle.regex_marks.proofs.passes.pack.Reads as pack-reads
+use Rattle.regex_marks.proofs.passes.second.Reads as second-reads
 use Rattle.regex_marks.proofs.+copies+counted+endless+least+shift+two.Proof.Base.{shift-below, two-at}
 
 abbrev pub calls : ℕ → lts.Claims

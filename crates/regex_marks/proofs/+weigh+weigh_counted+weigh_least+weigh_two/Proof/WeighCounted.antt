@@ -18,7 +18,7 @@ module _ (t : ℕ) where
   sub-if1 c = omega (arith, c .before .pre .1 .1 .here)
 
   pub returns : lts.Need-returns (calls t) (weigh-counted-at t) weigh-counted.Post
-  returns c = weigh-short _ _ _ (c .before .before .pre .1 .1 .here) (λ e. omega (arith, e, c .before .before .pre .1 .1 .is)) (λ e. omega (arith, e, c .before .before .pre .1 .1 .is)) (λ e. omega (arith, e, c .before .before .pre .1 .1 .is)) (λ e. omega (arith, e, c .before .before .pre .1 .1 .is)) (c .if1 .taken)
+  returns c = let a = c .before .before .pre .1 .1 in weigh-short _ _ _ (a .here) (omega (arith, a .is)) (c .if1 .taken)
 
   pub add-small : lts.Need-add-small (calls t) (weigh-counted-at t) weigh-counted.Post
   add-small c = omega (arith, c .before .before .pre .1 .1 .here, c .if1 .left, c .before .before .good .0)

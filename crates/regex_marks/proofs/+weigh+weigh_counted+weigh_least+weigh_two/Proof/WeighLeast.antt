@@ -8,7 +8,7 @@ use Rattle.regex_marks.proofs.weigh.Reads as weigh
 use Rattle.regex_marks.proofs.weigh_least.Reads as weigh-least
 use Rattle.regex_code.proofs.small.Reads as small-reads
 use Rattle.regex_marks.proofs.capped.Reads as capped-reads
-use Rattle.regex_marks.proofs.less.Reads as less-reads
+use Rattle.regex_marks.proofs.passes.less.Reads as less-reads
 use Rattle.regex_marks.proofs.+weigh+weigh_counted+weigh_least+weigh_two.Proof.Base.{weigh-below, weigh-least-at}
 
 abbrev pub calls : ℕ → lts.Claims
@@ -19,7 +19,7 @@ module _ (t : ℕ) where
   sub-if1 c = omega (arith, c .before .pre .1 .1 .here)
 
   pub returns : lts.Need-returns (calls t) (weigh-least-at t) weigh-least.Post
-  returns c = weigh-short _ _ _ (c .before .before .pre .1 .1 .here) (λ e. omega (arith, e, c .before .before .pre .1 .1 .is)) (λ e. omega (arith, e, c .before .before .pre .1 .1 .is)) (λ e. omega (arith, e, c .before .before .pre .1 .1 .is)) (λ e. omega (arith, e, c .before .before .pre .1 .1 .is)) (c .if1 .taken)
+  returns c = let a = c .before .before .pre .1 .1 in weigh-short _ _ _ (a .here) (omega (arith, a .is)) (c .if1 .taken)
 
   pub add-small : lts.Need-add-small (calls t) (weigh-least-at t) weigh-least.Post
   add-small c = omega (arith, c .before .before .pre .1 .1 .here, c .if1 .left, c .before .before .good .0)

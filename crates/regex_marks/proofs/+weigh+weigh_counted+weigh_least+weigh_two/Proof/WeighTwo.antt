@@ -1,7 +1,6 @@
 -- The answers of `weigh_two` in the cycle of calls {weigh, weigh_counted, weigh_least, weigh_two}.
 use Rattle.regex_marks.proofs.Words.{weigh-two}
 use native.Mathlib.Omega.{arith}
-use borrow.Author.Needs.{needs}
 use Rattle.regex_marks.proofs.+weigh+weigh_counted+weigh_least+weigh_two.Lts-weigh_two as lts
 use Prim.Native.Nat.{ℕ}
 use Rattle.regex_marks.proofs.weigh.Reads as weigh

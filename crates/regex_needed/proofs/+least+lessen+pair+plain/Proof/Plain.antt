@@ -1,5 +1,5 @@
 -- The answers of `plain` in the cycle of calls {least, lessen, pair, plain}.
-use Rattle.regex_needed.proofs.Writing.{plain-counted, asks-on}
+use Rattle.regex_needed.proofs.Writing.{plain-counted}
 use mathlib.Core.Path.{refl, _∙_}
 use borrow.Author.Needs.{needs}
 use native.Mathlib.Omega.{arith}

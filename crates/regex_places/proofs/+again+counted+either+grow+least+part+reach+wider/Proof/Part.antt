@@ -49,7 +49,7 @@ module _ (t : ℕ) where
   sub-if5 c = omega (arith, c .before .before .before .before .if1 .left)
 
   pub returns-5 : lts.Need-returns-5 (calls t) (part-at t) part.Post
-  returns-5 c = too-short (c .before .before .before .before .before .if1 .left) (c .before .before .before .if2 .left) (c .before .before .if3 .left) (c .before .before .before .before .before .before .before .before .before .pre .1 .0 .no' refl (c .before .before .before .before .before .if1 .left)) (c .before .if4 .left) (c .if5 .taken)
+  returns-5 c = too-short (c .before .before .before .before .before .if1 .left) (omega (arith, c .before .before .before .if2 .left, c .before .before .if3 .left, c .before .before .before .before .before .before .before .before .before .pre .1 .0 .no' refl (c .before .before .before .before .before .if1 .left), c .before .if4 .left)) (c .if5 .taken)
 
   pub counted-requires : lts.Need-counted-requires (calls t) (part-at t) part.Post
   counted-requires c κs = (omega (arith, c .before .before .before .before .before .before .before .before .before .before .before .pre .0), (record { here = c .before .before .before .before .before .before .before .if1 .left; is = c .before .if6 .taken }, (omega (arith, c .before .before .before .before .before .before .before .if1 .left, c .before .before .if5 .left), c .before .before .before .before .before .before .before .before .before .before .before .pre .1 .1)))

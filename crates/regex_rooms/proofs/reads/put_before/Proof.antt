@@ -7,9 +7,6 @@ use native.Mathlib.Omega.{arith}
 use borrow.Author.Needs.{needs}
 use Rattle.regex_rooms.proofs.reads.put_before.Statement.{statement}
 use Rattle.regex_rooms.proofs.reads.put_before.Tie as tie
-use Rattle.regex_rooms.proofs.reads.put_before.Reads as reads
-use Rattle.regex_rooms.proofs.reads.put_before.Lts as lts
-use Rattle.regex_rooms.proofs.reads.put_anything.Reads as put-anything-reads
 
 slice-write-code : tie.Need-slice-write-code
 slice-write-code c = search needs

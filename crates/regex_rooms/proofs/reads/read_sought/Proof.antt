@@ -3,11 +3,6 @@ use Rattle.regex_rooms.proofs.Laws.{sought-room, sought-fits, sought-re
 use borrow.Author.Needs.{needs}
 use Rattle.regex_rooms.proofs.reads.read_sought.Statement.{statement}
 use Rattle.regex_rooms.proofs.reads.read_sought.Tie as tie
-use Rattle.regex_rooms.proofs.reads.read_sought.Reads as reads
-use Rattle.regex_rooms.proofs.reads.read_sought.Lts as lts
-use Rattle.regex_bytes.proofs.read_bytes.Reads as read-bytes-reads
-use Rattle.regex_rooms.proofs.reads.put_anything.Reads as put-anything-reads
-use Rattle.regex_rooms.proofs.reads.put_before.Reads as put-before-reads
 
 put-before-requires : tie.Need-put-before-requires
 put-before-requires c κs = search needs

@@ -3,10 +3,6 @@ use Rattle.regex_rooms.proofs.Laws.{for-search, for-match, whole-read}
 use borrow.Author.Needs.{needs}
 use Rattle.regex_rooms.proofs.reads.read_widened.Statement.{statement}
 use Rattle.regex_rooms.proofs.reads.read_widened.Tie as tie
-use Rattle.regex_rooms.proofs.reads.read_widened.Reads as reads
-use Rattle.regex_rooms.proofs.reads.read_widened.Lts as lts
-use Rattle.regex_bytes.proofs.read_bytes.Reads as read-bytes-reads
-use Rattle.regex_rooms.proofs.reads.read_sought.Reads as read-sought-reads
 
 read-sought-requires : tie.Need-read-sought-requires
 read-sought-requires c κs = search needs

@@ -4,7 +4,7 @@ use mathlib.Core.Path.{refl}
 use native.Mathlib.Omega.{arith}
 use borrow.Author.Needs.{needs}
 use Rattle.regex_total.proofs.+both+cuts+matches+pair+row+times.Lts-matches as lts
-use Prim.Native.Nat.{ℕ, _+_, _-_}
+use Prim.Native.Nat.{ℕ, _+_}
 use Rattle.regex_total.proofs.row.Reads as row
 use Rattle.regex_total.proofs.matches.Reads as matches
 use Rattle.regex_total.proofs.times.Reads as times
@@ -75,7 +75,7 @@ module _ (t : ℕ) where
   sub-if7 c = search needs
 
   pub returns-7 : lts.Need-returns-7 (calls t) (matches-at t) matches.Post
-  returns-7 c = match-short _ _ _ _ (c .before .before .before .before .before .before .before .before .before .pre .1) _ (c .before .before .before .before .before .before .if1 .left) (c .before .before .before .before .if2 .left) (c .before .before .before .if3 .left) (c .before .before .if4 .left) (c .before .if5 .left) (c .if7 .taken)
+  returns-7 c = match-short _ _ _ _ (c .before .before .before .before .before .before .before .before .before .pre .1) _ (c .before .before .before .before .before .before .if1 .left) (omega (arith, c .before .before .before .before .if2 .left, c .before .before .before .if3 .left, c .before .before .if4 .left, c .before .if5 .left)) (c .if7 .taken)
 
   pub add-wide : lts.Need-add-wide (calls t) (matches-at t) matches.Post
   add-wide c = search needs

@@ -22,7 +22,7 @@ module _ (t : ℕ) where
   no-width-requires c κs = search needs
 
   pub returns : lts.Need-returns (calls t) (copied-at t) copied.Post
-  returns c = rw (c .no-width .ensures) (span-short _ _ (c .before .before .before .pre .1 .0) (λ e. omega (arith, e, c .before .before .before .pre .1 .1)) (λ e. omega (arith, e, c .before .before .before .pre .1 .1)) (λ e. omega (arith, e, c .before .before .before .pre .1 .1)) (λ e. omega (arith, e, c .before .before .before .pre .1 .1)) (c .before .if1 .taken))
+  returns c = rw (c .no-width .ensures) (span-short _ _ (c .before .before .before .pre .1 .0) (omega (arith, c .before .before .before .pre .1 .1)) (c .before .if1 .taken))
 
   pub add-small : lts.Need-add-small (calls t) (copied-at t) copied.Post
   add-small c = search needs

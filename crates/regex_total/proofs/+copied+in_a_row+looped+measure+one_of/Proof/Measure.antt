@@ -2,7 +2,6 @@
 use Rattle.regex_total.proofs.Lengths.{span-nothing, span-empty, span-class, span-other}
 use native.Mathlib.Omega.{arith}
 use borrow.Author.Needs.{needs}
-use mathlib.Core.Path.{refl}
 use Rattle.regex_total.proofs.+copied+in_a_row+looped+measure+one_of.Lts-measure as lts
 use Prim.Native.Nat.{ℕ}
 use Rattle.regex_total.proofs.copied.Reads as copied

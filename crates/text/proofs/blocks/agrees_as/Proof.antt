@@ -28,7 +28,7 @@ agreed-requires-2 : tie.Need-agreed-requires-2
 agreed-requires-2 c κs = search needs
 
 returns-2 : tie.Need-returns-2
-returns-2 c = λ z. agrees-three (c .before .before .before .if2 .taken) (c .agreed2 .ensures z ∙ c .before .above2 .ensures 0x80 (omega arith) ∙ c .before .before .greater .ensures 0xE1)
+returns-2 c = λ z. agrees-three (c .before .before .before .if2 .taken) (c .agreed2 .ensures z ∙ c .before .above2 .ensures 0x80 (omega arith) ∙ c .before .before .greater .ensures 0xE0)
 
 greater-requires-2 : tie.Need-greater-requires-2
 greater-requires-2 c κs = search needs

@@ -6,10 +6,10 @@ use Rattle.text.proofs.blocks.kind_of.Statement.{statement}
 use Rattle.text.proofs.blocks.kind_of.Tie as tie
 
 abbrev Inv-loop : tie.InvT-loop
-Inv-loop s at low₀ top₀ i₀ low top i = i ≤ 256
+Inv-loop s at n low₀ top₀ i₀ low top i = i ≤ n
 
 abbrev μ-loop : tie.MeasureT-loop
-μ-loop s at low₀ top₀ i₀ low top i = 256 - i
+μ-loop s at n low₀ top₀ i₀ low top i = n - i
 
 loop-holds : tie.Need-loop-holds Inv-loop μ-loop
 loop-holds c = omega arith

@@ -41,13 +41,13 @@ returns-4 c =
     let l = c .before .before .before .before .before .if1 .left in
     λ z. placed-utf8 (c .before .before .before .before .before .before .before .args .s .now) (omega arith) (c .before .before .before .before .ends-right .ensures (not-false _ (c .before .before .before .if2 .left))) (c .each2 .ensures z)
 
-each-requires-3 : tie.Need-each-requires-3
-each-requires-3 c κs = search needs
+long-requires : tie.Need-long-requires
+long-requires c κs = search needs
 
 returns-5 : tie.Need-returns-5
 returns-5 c =
     let l = c .before .before .before .before .before .if1 .left in
-    λ z. placed-utf8 (c .before .before .before .before .before .before .before .args .s .now) (omega arith) (c .before .before .before .before .ends-right .ensures (not-false _ (c .before .before .before .if2 .left))) (c .each3 .ensures z)
+    λ z. placed-utf8 (c .before .before .before .before .before .before .before .args .s .now) (omega arith) (c .before .before .before .before .ends-right .ensures (not-false _ (c .before .before .before .if2 .left))) (c .long .ensures z)
 
 pub all-utf8-spec : {M : Type 1} → statement M
 all-utf8-spec =
@@ -63,5 +63,5 @@ all-utf8-spec =
     add-if4
     each-requires-2
     returns-4
-    each-requires-3
+    long-requires
     returns-5)

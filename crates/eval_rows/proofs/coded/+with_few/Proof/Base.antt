@@ -6,7 +6,7 @@ use Rattle.eval_rows.proofs.coded.with_few.Reads as with-few
 use Rattle.eval_rows.proofs.coded.with_few.Kinds as with-few-kinds
 
 abbrev pub μ-with-few : Measures 6 with-few-kinds.ps ℕ
-μ-with-few κs a = a .1 .1 .1 .1 .1 .1 .1 .1 .1 .1 .1 .1 .1 .1 .1 .1 .0
+μ-with-few κs a = a .1 .1 .1 .1 .1 .1 .1 .1 .1 .1 .0
 
 abbrev pub with-few-at : ℕ → In 6 with-few-kinds.ps
 with-few-at t = and 6 with-few-kinds.ps (is 6 with-few-kinds.ps μ-with-few t) with-few.Pre

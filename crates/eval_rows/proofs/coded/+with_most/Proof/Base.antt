@@ -6,7 +6,7 @@ use Rattle.eval_rows.proofs.coded.with_most.Reads as with-most
 use Rattle.eval_rows.proofs.coded.with_most.Kinds as with-most-kinds
 
 abbrev pub μ-with-most : Measures 6 with-most-kinds.ps ℕ
-μ-with-most κs a = a .1 .1 .1 .1 .1 .1 .1 .1 .1 .1 .1 .1 .1 .1 .1 .1 .0
+μ-with-most κs a = a .1 .1 .1 .1 .1 .1 .1 .1 .1 .1 .0
 
 abbrev pub with-most-at : ℕ → In 6 with-most-kinds.ps
 with-most-at t = and 6 with-most-kinds.ps (is 6 with-most-kinds.ps μ-with-most t) with-most.Pre

@@ -6,7 +6,7 @@ use Rattle.eval_rows.proofs.coded.with_states.Reads as with-states
 use Rattle.eval_rows.proofs.coded.with_states.Kinds as with-states-kinds
 
 abbrev pub μ-with-states : Measures 6 with-states-kinds.ps ℕ
-μ-with-states κs a = a .1 .1 .1 .1 .1 .1 .1 .1 .1 .1 .1 .1 .1 .1 .1 .1 .0
+μ-with-states κs a = a .1 .1 .1 .1 .1 .1 .1 .1 .1 .1 .0
 
 abbrev pub with-states-at : ℕ → In 6 with-states-kinds.ps
 with-states-at t = and 6 with-states-kinds.ps (is 6 with-states-kinds.ps μ-with-states t) with-states.Pre

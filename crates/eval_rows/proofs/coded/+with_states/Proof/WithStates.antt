@@ -4,7 +4,7 @@ use Prim.Native.Nat.{ℕ}
 use mathlib.Core.Path.{refl}
 use native.Mathlib.Omega.{arith}
 use borrow.Author.Needs.{needs}
-use Rattle.eval_rows.specs.Rows.{rooms-enough}
+use Rattle.eval_rows.specs.Known.{rooms-enough, knows}
 use Rattle.eval_rows.proofs.coded.with_states.Reads as with-states
 use Rattle.eval_rows.proofs.rows.keep.Reads as keep-reads
 use Rattle.regex_states.proofs.prepare.Reads as prepare-reads
@@ -45,10 +45,10 @@ module _ (t : ℕ) where
   slice-aggregate-keep-3 c = search needs
 
   pub keep-requires : lts.Need-keep-requires (calls t) (with-states-at t) with-states.Post
-  keep-requires c κs = let s = c .before .before .before .before .before .before .before .before .before .before .before .before .before .before .before .before .pre .1 in (s .0, (s .1 .0, (s .1 .1 .0, (s .1 .1 .1, λ e. c .before .before .before .before .before .before .prepare .ensures))))
+  keep-requires c κs = let s = c .before .before .before .before .before .before .before .before .before .before .before .before .before .before .before .before .pre .1 in (s .0, (knows 3 (omega arith) (s .1 .0 .0) (s .1 .1), λ e. c .before .before .before .before .before .before .prepare .ensures))
 
   pub same-length-2 : lts.Need-same-length-2 (calls t) (with-states-at t) with-states.Post
   same-length-2 c = search needs
 
   pub returns-2 : lts.Need-returns-2 (calls t) (with-states-at t) with-states.Post
-  returns-2 c = c .before .before .before .before .before .keep .ensures .whole (λ e. absurd (omega arith))
+  returns-2 c = search needs

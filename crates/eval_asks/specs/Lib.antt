@@ -1,0 +1,5 @@
+pub mod Lent
+pub mod Asks
+pub mod Steady
+pub mod Kinds
+pub mod Rows
