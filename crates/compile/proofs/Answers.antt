@@ -323,6 +323,9 @@ module _ (n : ℕ) where
 pub rooms-long : {s P L : List ℕ} → early s ≡ 0 → length P ≡ 61440 → length L ≡ 4096 → Rooms s P L
 rooms-long {s} h p l = let n = passed-short s h in record { plan = omega arith; pool = omega arith; small = omega arith; smallPool = omega arith; utf8 = passed-utf8 s h }
 
+pub rooms-middle : {s P L : List ℕ} → early s ≡ 0 → length s ≤ 1024 → length P ≡ 15360 → length L ≡ 1024 → Rooms s P L
+rooms-middle {s} h n p l = record { plan = omega arith; pool = omega arith; small = omega arith; smallPool = omega arith; utf8 = passed-utf8 s h }
+
 pub rooms-short : {s P L : List ℕ} → early s ≡ 0 → length s ≤ 256 → length P ≡ 3840 → length L ≡ 256 → Rooms s P L
 rooms-short {s} h n p l = record { plan = omega arith; pool = omega arith; small = omega arith; smallPool = omega arith; utf8 = passed-utf8 s h }
 

@@ -8,12 +8,14 @@ ghost use Rattle.definition.specs.Outcomes.{CompileOutcome, Compiles};
 ghost use Rattle.compile.specs.Outcomes.{outcome};
 use numbers::refusal_of;
 use rooms::BRIEF;
+use rooms::MIDDLE;
 use rooms::NO_BYTE;
 use rooms::SHORT;
 use rooms::SMALL;
 use rooms::TINY;
 use rooms::compile_brief;
 use rooms::compile_long;
+use rooms::compile_middle;
 use rooms::compile_short;
 use rooms::compile_small;
 use rooms::compile_tiny;
@@ -70,5 +72,8 @@ pub fn compile(query: &[u8], plan: &mut [u8], pool: &mut [u8]) -> Compiled
     }
     // 0 for every query, since it is UTF-8; but LLVM cannot tell.
     let again = query[0] / NO_BYTE;
+    if query.len() <= MIDDLE {
+        return compile_middle(query, plan, pool, again);
+    }
     compile_long(query, plan, pool, again)
 }

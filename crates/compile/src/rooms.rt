@@ -31,6 +31,13 @@ pub const PLAN_ROOM: usize = 61440;
 
 pub const POOL_ROOM: usize = 4096;
 
+// These take a query of at most 1,024 bytes.
+pub const MIDDLE: usize = 1024;
+
+pub const MIDDLE_PLAN_ROOM: usize = 15360;
+
+pub const MIDDLE_POOL_ROOM: usize = 1024;
+
 // These take a query of at most 256 bytes.
 pub const SHORT: usize = 256;
 
@@ -195,9 +202,21 @@ pub fn compile_short(query: &[u8], plan: &mut [u8], pool: &mut [u8]) -> Compiled
     compile_in(query, &mut room, &mut texts, plan, pool)
 }
 
-// The rooms for every query fill 16 pages of the stack, and a frame that has them is touched page by page on entry. LLVM would join this function
-// into its caller, and every compile would pay for that; a function that calls itself it leaves alone. `again` says how often this one does, which
-// changes nothing of the answer.
+// The larger rooms fill 4 and 16 pages of the stack, and a frame that has them is touched page by page on entry. LLVM would join the function that has them
+// into its caller, and every compile would pay for that; a function that calls itself it leaves alone. `again` says how often one does, which changes nothing
+// of the answer.
+pub fn compile_middle(query: &[u8], plan: &mut [u8], pool: &mut [u8], again: u8) -> Compiled
+    requires { ⌜ (length (now query) ≤ 1024) × (early (now query) ≡ 0) ⌝ }
+    ensures { λ r. ⌜ OneCompile (now (query .entry)) (now (plan .entry)) (now (pool .entry)) (outcome r (now (plan .exit)) (now (pool .exit))) ⌝ }
+{
+    if 0 < again {
+        return compile_middle(query, plan, pool, again - 1);
+    }
+    let mut room = [0u8; MIDDLE_PLAN_ROOM];
+    let mut texts = [0u8; MIDDLE_POOL_ROOM];
+    compile_in(query, &mut room, &mut texts, plan, pool)
+}
+
 pub fn compile_long(query: &[u8], plan: &mut [u8], pool: &mut [u8], again: u8) -> Compiled
     requires { ⌜ early (now query) ≡ 0 ⌝ }
     ensures { λ r. ⌜ OneCompile (now (query .entry)) (now (plan .entry)) (now (pool .entry)) (outcome r (now (plan .exit)) (now (pool .exit))) ⌝ }

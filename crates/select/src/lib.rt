@@ -12,6 +12,9 @@ use compile::numbers::refusal_of;
 use compile::rooms::BRIEF;
 use compile::rooms::BRIEF_PLAN_ROOM;
 use compile::rooms::BRIEF_POOL_ROOM;
+use compile::rooms::MIDDLE;
+use compile::rooms::MIDDLE_PLAN_ROOM;
+use compile::rooms::MIDDLE_POOL_ROOM;
 use compile::rooms::NO_BYTE;
 use compile::rooms::PLAN_ROOM;
 use compile::rooms::POOL_ROOM;
@@ -128,7 +131,27 @@ fn select_short<'a>(
     select_in(query, &mut room, &mut texts, table, text, list, start)
 }
 
-// As compile::rooms::compile_long, it calls itself so that LLVM does not join it into its caller.
+// As compile::rooms::compile_middle, it calls itself so that LLVM does not join it into its caller.
+fn select_middle<'a>(
+    query: &[u8],
+    table: &'a [u8],
+    text: &'a [u8],
+    list: &mut [u32],
+    start: usize,
+    again: u8,
+) -> Selection
+    requires { ⌜ (length (now query) ≤ 1024) × (early (now query) ≡ 0) ⌝ }
+    ensures { λ r. ⌜ OneSelect (now (query .entry)) (now (table .entry)) (now (text .entry)) (now (list .entry)) start (selected r (now (list .exit))) ⌝ }
+{
+    if 0 < again {
+        return select_middle(query, table, text, list, start, again - 1);
+    }
+    let mut room = [0u8; MIDDLE_PLAN_ROOM];
+    let mut texts = [0u8; MIDDLE_POOL_ROOM];
+    select_in(query, &mut room, &mut texts, table, text, list, start)
+}
+
+// The same for every query.
 fn select_long<'a>(
     query: &[u8],
     table: &'a [u8],
@@ -177,5 +200,8 @@ pub fn select<'a>(
     }
     // 0 for every query, since it is UTF-8; but LLVM cannot tell.
     let again = query[0] / NO_BYTE;
+    if query.len() <= MIDDLE {
+        return select_middle(query, table, text, list, start, again);
+    }
     select_long(query, table, text, list, start, again)
 }

@@ -5,10 +5,13 @@ ghost use Prim.Native.Nat.{_≤_};
 ghost use lib.Dec.{eqb};
 ghost use Rattle.definition.specs.Brackets.{placeAfter, countAfter, tooDeep};
 ghost use Rattle.definition.specs.Limits.{maxBrackets};
-ghost use Rattle.text.specs.Places.{placeOf};
+ghost use Rattle.text.specs.Places.{placeOf, openingIn};
 
 // The count that a query may reach and not pass.
 const MAX_BRACKETS: usize = 32;
+
+// A query is long from so many bytes on.
+const LONG: usize = 96;
 
 // Where a byte stands: outside quoted text, inside text that the given quote opened, or there right behind a backslash.
 enum Place {
@@ -71,8 +74,25 @@ fn count_after(p: Place, n: usize, b: u8) -> usize
     }
 }
 
-// Whether the bracket count of s passes 32 at some moment.
-pub fn too_deep(s: &[u8]) -> bool
+// How many bytes of s add one outside quoted text.
+fn opening(s: &[u8]) -> usize
+    ensures { λ r. ⌜ r ≡ openingIn (now (s .entry)) ⌝ }
+{
+    let mut n = 0;
+    let mut i = 0;
+    while i < s.len() {
+        if either(s[i], b'[', b'(') {
+            n += 1;
+            i += 1;
+        } else {
+            i += 1;
+        }
+    }
+    n
+}
+
+// Whether the bracket count of s passes 32 at some moment, byte by byte.
+fn counted(s: &[u8]) -> bool
     ensures { λ r. ⌜ r ≡ tooDeep (now (s .entry)) ⌝ }
 {
     let mut p = Place::Outside;
@@ -89,4 +109,17 @@ pub fn too_deep(s: &[u8]) -> bool
         i += 1;
     }
     false
+}
+
+// The same. A long query in which few bytes open is told by their number, which is counted many bytes a step.
+pub fn too_deep(s: &[u8]) -> bool
+    ensures { λ r. ⌜ r ≡ tooDeep (now (s .entry)) ⌝ }
+{
+    if s.len() <= LONG {
+        return counted(s);
+    }
+    if opening(s) <= MAX_BRACKETS {
+        return false;
+    }
+    counted(s)
 }

@@ -86,6 +86,10 @@ plain-rest b l n22 n27 =
     (λ t. rw t (sym (plain-ascii b l (ltb-true b 0x80 t) n22 n27 (eqb-false b 0x5C f))))
     (λ t. rw t)))
 
+-- a byte behind the backslash's
+pub plain-high : (b : ℕ) → 0x5C < b → true ≡ unescapedByte b
+plain-high b h = rw (ne-eqb b 0x5C (λ e. omega arith)) at (plain-rest b (omega arith) (λ e. omega arith) (λ e. omega arith))
+
 -- a byte from the blank on that is not plain and no backslash is one quote or the other
 quote-left : (b : ℕ) → unescapedByte b ≡ false → 0x20 ≤ b → (b ≡ 0x5C → ⊥) → (b ≡ 0x22 → ⊥) → (b ≡ 0x27 → ⊥) → ⊥
 quote-left b f l n5C n22 n27 = true≢false (rw (ne-eqb b 0x5C n5C) at (plain-rest b l n22 n27 ∙ f))

@@ -11,6 +11,9 @@ ghost use Rattle.text_quoted.specs.Pieces.{Copied, Encoded};
 fn is_plain(b: u8) -> bool
     ensures { λ r. ⌜ r ≡ unescapedByte b ⌝ }
 {
+    if b'\\' < b {
+        return true;
+    }
     if b < 0x20 {
         return false;
     }

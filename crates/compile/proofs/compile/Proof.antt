@@ -65,8 +65,8 @@ returns-5 c = search needs
 shared-slice-read-again : tie.Need-shared-slice-read-again
 shared-slice-read-again c = search needs
 
-compile-long-requires : tie.Need-compile-long-requires
-compile-long-requires c κs = search needs
+compile-middle-requires : tie.Need-compile-middle-requires
+compile-middle-requires c κs = search needs
 
 same-length-9 : tie.Need-same-length-9
 same-length-9 c = search needs
@@ -76,6 +76,18 @@ same-length-10 c = search needs
 
 returns-6 : tie.Need-returns-6
 returns-6 c = search needs
+
+compile-long-requires : tie.Need-compile-long-requires
+compile-long-requires c κs = search needs
+
+same-length-11 : tie.Need-same-length-11
+same-length-11 c = search needs
+
+same-length-12 : tie.Need-same-length-12
+same-length-12 c = search needs
+
+returns-7 : tie.Need-returns-7
+returns-7 c = search needs
 
 pub compile-spec : {M : Type 1} → statement M
 compile-spec =
@@ -101,7 +113,11 @@ compile-spec =
     same-length-8
     returns-5
     shared-slice-read-again
-    compile-long-requires
+    compile-middle-requires
     same-length-9
     same-length-10
-    returns-6)
+    returns-6
+    compile-long-requires
+    same-length-11
+    same-length-12
+    returns-7)

@@ -54,14 +54,23 @@ returns-5 c = search needs
 shared-slice-read-again : tie.Need-shared-slice-read-again
 shared-slice-read-again c = search needs
 
-select-long-requires : tie.Need-select-long-requires
-select-long-requires c κs = search needs
+select-middle-requires : tie.Need-select-middle-requires
+select-middle-requires c κs = search needs
 
 same-length-5 : tie.Need-same-length-5
 same-length-5 c = search needs
 
 returns-6 : tie.Need-returns-6
 returns-6 c = search needs
+
+select-long-requires : tie.Need-select-long-requires
+select-long-requires c κs = search needs
+
+same-length-6 : tie.Need-same-length-6
+same-length-6 c = search needs
+
+returns-7 : tie.Need-returns-7
+returns-7 c = search needs
 
 pub select-spec : {M : Type 1} → statement M
 select-spec =
@@ -83,6 +92,9 @@ select-spec =
     same-length-4
     returns-5
     shared-slice-read-again
-    select-long-requires
+    select-middle-requires
     same-length-5
-    returns-6)
+    returns-6
+    select-long-requires
+    same-length-6
+    returns-7)
