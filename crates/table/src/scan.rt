@@ -271,7 +271,14 @@ fn rest(
 }
 
 // The same, with room for chains of which none is begun.
-fn with_chains(table: &[u8], text: &[u8], start: usize, root: Cursor, known: u8, from: usize) -> TableChecked
+fn with_chains(
+    table: &[u8],
+    text: &[u8],
+    start: usize,
+    root: Cursor,
+    known: u8,
+    from: usize,
+) -> TableChecked
     requires { ⌜ (start ≡ firstChild (now table) 1) × CursorAt (now table) 1 root × (root .sure ≡ 0) ⌝ }
     requires { ⌜ (0 < nodeCount (now table)) × (nodeCount (now table) ≤ maxNodes) × Front (now table) (now text) from ⌝ }
     requires { ⌜ Known known (now text) ⌝ }
@@ -279,11 +286,27 @@ fn with_chains(table: &[u8], text: &[u8], start: usize, root: Cursor, known: u8,
 {
     let mut heads = [0u16; buckets::BUCKETS];
     let mut links = [0u16; MAX_MEMBERS];
-    rest(table, text, start, root, &mut heads, &mut links, known, from)
+    rest(
+        table,
+        text,
+        start,
+        root,
+        &mut heads,
+        &mut links,
+        known,
+        from,
+    )
 }
 
 // The same for a table of few nodes, whose chains need less room: all of it is cleared first.
-fn with_few(table: &[u8], text: &[u8], start: usize, root: Cursor, known: u8, from: usize) -> TableChecked
+fn with_few(
+    table: &[u8],
+    text: &[u8],
+    start: usize,
+    root: Cursor,
+    known: u8,
+    from: usize,
+) -> TableChecked
     requires { ⌜ (start ≡ firstChild (now table) 1) × CursorAt (now table) 1 root × (root .sure ≡ 0) ⌝ }
     requires { ⌜ (0 < nodeCount (now table)) × (nodeCount (now table) ≤ maxNodes) × Front (now table) (now text) from ⌝ }
     requires { ⌜ nodeCount (now table) ≤ 128 ⌝ }
@@ -292,7 +315,16 @@ fn with_few(table: &[u8], text: &[u8], start: usize, root: Cursor, known: u8, fr
 {
     let mut heads = [0u16; buckets::FEW_BUCKETS];
     let mut links = [0u16; FEW_NODES];
-    rest(table, text, start, root, &mut heads, &mut links, known, from)
+    rest(
+        table,
+        text,
+        start,
+        root,
+        &mut heads,
+        &mut links,
+        known,
+        from,
+    )
 }
 
 // The whole pass.

@@ -1,6 +1,8 @@
 -- Every text before the one that is looked at is right. Assumes nothing.
 use native.Mathlib.Omega.{arith}
 use borrow.Author.Tests.{not-false}
+use mathlib.Core.Bool.{true}
+use mathlib.Core.Path.{_≡_}
 use Prim.Native.Nat.{_-_, _≤_}
 use Rattle.table.specs.Words.{Front}
 use Rattle.table.proofs.Front.{front-root, front-next}
@@ -42,7 +44,7 @@ loop-again c =
     let l = c .before .before .before .loop in
     let t = c .before .before .loop-test .taken in
     let r = c .before .root-text-right .ensures in
-    let y = not-false _ (c .if1 .left) in
+    let y : c .before .root-text-right .result ≡ true = not-false _ (c .if1 .left) in
     (omega arith, front-next (a .table .now) (a .text .now) (l .node) (s .pre .0 .0) (l .inv .1) (omega (arith, s .pre .0 .1)) (r .0 y) (r .1 y))
 
 returns-2 : tie.Need-returns-2 Inv-loop μ-loop
