@@ -4,7 +4,7 @@ use mathlib.Core.Path.{_≡_, refl, sym, ap, _∙_, subst}
 use mathlib.Core.List.{List}
 use mathlib.Core.Bool.{Bool, true, false}
 use lib.Dec.{ltb}
-use lib.ListN.{length, replicate, length-replicate, getD-replicate}
+use lib.ListN.{length, replicate, length-replicate}
 use native.Mathlib.Omega.{arith}
 use borrow.Author.Tests.{ltb-true, ltb-false}
 use Rattle.definition.specs.Limits.{maxMembers}
@@ -78,19 +78,6 @@ roomy-same e r = record { place = λ f i a b. let z = r .place f i a b in omega 
 -- behind a node, with the cursor at its parent
 pub before-next : (T X : List ℕ) (i : ℕ) (q : Cursor) (H L : List ℕ) → ParentAt T i q → Kept T X (i + 1) q H L → Before T X (i + 1) q H L
 before-next T X i q H L p k = record { cursor = after-node T i q p; reach = let e = p .end-past in omega arith; kept = k }
-
--- before node 1 no chain is begun, and every head is 0
-pub before-zeros : (n m : ℕ) → 0 < n → (T X : List ℕ) → Roomy T (replicate m 0) → (q : Cursor) → CursorAt T 1 q → q .sure ≡ 0 → Before T X 1 q (replicate n 0) (replicate m 0)
-before-zeros n m a T X l q h y =
-    let f = h .from-is in
-    let e = h .end-is in
-    let z = length-replicate {A = ℕ} n 0 in
-    let k : HeadsBelow 1 (replicate n 0) = record { some = omega arith; below = λ j d. let y = getD-replicate {A = ℕ} n j 0 0 (omega arith) in omega arith } in
-    record {
-      cursor = h;
-      reach = omega arith;
-      kept = record { heads = k; room = l; chained = λ _ _. chains-begin (bucketAt (length (replicate n 0)) T X) (q .from) 1 (replicate n 0) (replicate m 0) (omega arith) k; surely = λ z. absurd (z y) };
-    }
 
 -- as many links as a map can have members, and as many as a table has nodes
 pub roomy-members : (T : List ℕ) (m : ℕ) → m ≡ maxMembers → Roomy T (replicate m 0)

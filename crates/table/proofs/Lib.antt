@@ -4,6 +4,7 @@ pub mod Chains
 pub mod Checks
 pub mod Cursor
 pub mod Folds
+pub mod Front
 pub mod Inside
 pub mod Kept
 pub mod Sorts

@@ -131,3 +131,17 @@ pub record WrongAt (T X : List ℕ) (n : ℕ) : Type 0 where
 pub record PassedBy (T X : List ℕ) (i : ℕ) (q : Cursor) (p : Passed) : Type 0 where
   pub stops : p .found ≡ 0 → WrongAt T X (p .node)
   pub goes : (p .found ≡ 0 → ⊥) → Along T X i q (p .node) (p .first)
+
+-- the root is a list at depth 0, and the table has all its children
+pub record RootList (T : List ℕ) : Type 0 where
+  pub plain : kindAt T 0 ≡ kindMap → ⊥
+  pub depth : depthAt T 0 ≡ 0
+  pub inside : firstChild T 1 ≤ nodeCount T
+
+-- a node before which the root is right and, if the root is no map, some of its children that have none themselves
+pub record Front (T X : List ℕ) (n : ℕ) : Type 0 where
+  pub some : 1 ≤ n
+  pub reach : n ≤ firstChild T 1
+  pub right : RightBelow T X n
+  pub first-is : firstChild T n ≡ firstChild T 1
+  pub plain : kindAt T 0 ≡ kindMap → n ≡ 1

@@ -3,10 +3,10 @@ ghost use mathlib.Core.Path.{_≡_};
 ghost use mathlib.Core.Bool.{true};
 ghost use Prim.Native.Nat.{_<_, _+_};
 ghost use lib.Dec.{ltb};
-ghost use Rattle.definition.specs.Tables.{nodeCount, kindAt, kindMap, firstChild, goodPart, headRight, isFinite, rangeRight, noKey};
+ghost use Rattle.definition.specs.Tables.{nodeCount, kindAt, kindMap, childCount, firstChild, goodPart, headRight, isFinite, rangeRight, noKey};
 ghost use Rattle.table_laws.specs.Joined.{payloadRight, memberRight, nodeRight};
 ghost use Rattle.text.specs.Known.{Known};
-ghost use Rattle.table.specs.Words.{Under, Child, MembersBefore, Kept};
+ghost use Rattle.table.specs.Words.{Under, Child, MembersBefore, Kept, RootList};
 use crate::keys;
 use crate::records;
 use crate::records::KIND_FLOAT;
@@ -24,6 +24,9 @@ const MAX_DEPTH: u8 = 63;
 const KINDS: usize = 8;
 
 const DEPTH_UNIT: usize = 256;
+
+// Bytes 0-3 of a text under the root.
+const TEXT_UNDER_ROOT: usize = 261;
 
 const MAX_MEMBERS: u32 = 1024;
 
@@ -268,4 +271,28 @@ pub fn root_right(table: &[u8], text: &[u8]) -> bool
         return false;
     }
     no_key(table, 0)
+}
+
+// Whether a child of the root, a list, is found to be a right text, where the text is known to be UTF-8.
+pub fn root_text_right(table: &[u8], text: &[u8], node: usize) -> bool
+    requires { ⌜ RootList (now table) × (0 < node) × (node < firstChild (now table) 1) ⌝ }
+    requires { ⌜ Known 1 (now text) ⌝ }
+    ensures { λ r. ⌜ (r ≡ true → nodeRight (now (table .entry)) (now (text .entry)) node ≡ true) ⌝ }
+    ensures { λ r. ⌜ (r ≡ true → childCount (now (table .entry)) node ≡ 0) ⌝ }
+{
+    if records::head(table, node) != TEXT_UNDER_ROOT {
+        return false;
+    }
+    let start = records::key_start(table, node) as usize;
+    let size = records::key_length(table, node) as usize;
+    let parent = records::parent(table, node) as usize;
+    if start + size + parent != 0 {
+        return false;
+    }
+    good_part(
+        text,
+        records::low_word(table, node),
+        records::high_word(table, node),
+        encoding::KNOWN_UTF8,
+    )
 }

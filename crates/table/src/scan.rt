@@ -7,7 +7,7 @@ ghost use Rattle.definition.specs.TableOutcomes.{reportTable};
 ghost use Rattle.table_laws.specs.Joined.{leastWrong, byLeast};
 ghost use Rattle.table_laws.specs.Least.{RightBelow};
 ghost use Rattle.text.specs.Known.{Known};
-ghost use Rattle.table.specs.Words.{HasParent, CursorAt, ParentAt, Moved, Surely, Kept, Before, Begun, PassedBy};
+ghost use Rattle.table.specs.Words.{HasParent, CursorAt, ParentAt, Moved, Surely, Kept, Before, Begun, PassedBy, RootList, Front};
 ghost use Rattle.table.specs.Outcomes.{reported};
 use crate::TableChecked;
 use crate::buckets;
@@ -199,7 +199,39 @@ fn children(
     items(table, text, start, begin, above, known)
 }
 
-// The pass from node 1 on, whose children must begin at start.
+// The node behind the texts that are found to be right from node 1 on, among the children of the root, which is a list, up to their end.
+fn root_texts(table: &[u8], text: &[u8], end: usize) -> usize
+    requires { ⌜ RootList (now table) × (end ≡ firstChild (now table) 1) ⌝ }
+    requires { ⌜ Known 1 (now text) × RightBelow (now table) (now text) 1 ⌝ }
+    ensures { λ r. ⌜ Front (now (table .entry)) (now (text .entry)) r ⌝ }
+{
+    let mut node = 1;
+    while node < end {
+        if !rules::root_text_right(table, text, node) {
+            return node;
+        }
+        node += 1;
+    }
+    node
+}
+
+// The node that the pass begins with: 1, or where the root is a list and the text is UTF-8, the one behind the texts in front.
+fn front(table: &[u8], text: &[u8], end: usize, kind: u8, known: u8) -> usize
+    requires { ⌜ (end ≡ firstChild (now table) 1) × (kind ≡ kindAt (now table) 0) ⌝ }
+    requires { ⌜ (0 < nodeCount (now table)) × RightBelow (now table) (now text) 1 ⌝ }
+    requires { ⌜ Known known (now text) ⌝ }
+    ensures { λ r. ⌜ Front (now (table .entry)) (now (text .entry)) r ⌝ }
+{
+    if known != encoding::KNOWN_UTF8 {
+        return 1;
+    }
+    if kind == KIND_MAP {
+        return 1;
+    }
+    root_texts(table, text, end)
+}
+
+// The pass from a node on, whose children must begin at start.
 fn rest(
     table: &[u8],
     text: &[u8],
@@ -208,16 +240,17 @@ fn rest(
     heads: &mut [u16],
     links: &mut [u16],
     known: u8,
+    from: usize,
 ) -> TableChecked
-    requires { ⌜ (start ≡ firstChild (now table) 1) × Before (now table) (now text) 1 root (now heads) (now links) ⌝ }
-    requires { ⌜ (0 < nodeCount (now table)) × (nodeCount (now table) ≤ maxNodes) × RightBelow (now table) (now text) 1 ⌝ }
+    requires { ⌜ (start ≡ firstChild (now table) from) × Before (now table) (now text) from root (now heads) (now links) ⌝ }
+    requires { ⌜ (0 < nodeCount (now table)) × (nodeCount (now table) ≤ maxNodes) × RightBelow (now table) (now text) from ⌝ }
     requires { ⌜ Known known (now text) ⌝ }
     ensures { λ r. ⌜ reported r ≡ reportTable (byLeast (leastWrong (now (table .entry)) (now (text .entry)) 0 (nodeCount (now (table .entry))))) ⌝ }
 {
     let count = table.len() / RECORD;
     let mut cursor = root;
     let mut first = start;
-    let mut node = 1;
+    let mut node = from;
     while node < count {
         if first <= node {
             return TableChecked::WrongNode(node);
@@ -238,28 +271,60 @@ fn rest(
 }
 
 // The same, with room for chains of which none is begun.
-fn with_chains(table: &[u8], text: &[u8], start: usize, root: Cursor, known: u8) -> TableChecked
+fn with_chains(
+    table: &[u8],
+    text: &[u8],
+    start: usize,
+    root: Cursor,
+    known: u8,
+    from: usize,
+) -> TableChecked
     requires { ⌜ (start ≡ firstChild (now table) 1) × CursorAt (now table) 1 root × (root .sure ≡ 0) ⌝ }
-    requires { ⌜ (0 < nodeCount (now table)) × (nodeCount (now table) ≤ maxNodes) × RightBelow (now table) (now text) 1 ⌝ }
+    requires { ⌜ (0 < nodeCount (now table)) × (nodeCount (now table) ≤ maxNodes) × Front (now table) (now text) from ⌝ }
     requires { ⌜ Known known (now text) ⌝ }
     ensures { λ r. ⌜ reported r ≡ reportTable (byLeast (leastWrong (now (table .entry)) (now (text .entry)) 0 (nodeCount (now (table .entry))))) ⌝ }
 {
     let mut heads = [0u16; buckets::BUCKETS];
     let mut links = [0u16; MAX_MEMBERS];
-    rest(table, text, start, root, &mut heads, &mut links, known)
+    rest(
+        table,
+        text,
+        start,
+        root,
+        &mut heads,
+        &mut links,
+        known,
+        from,
+    )
 }
 
 // The same for a table of few nodes, whose chains need less room: all of it is cleared first.
-fn with_few(table: &[u8], text: &[u8], start: usize, root: Cursor, known: u8) -> TableChecked
+fn with_few(
+    table: &[u8],
+    text: &[u8],
+    start: usize,
+    root: Cursor,
+    known: u8,
+    from: usize,
+) -> TableChecked
     requires { ⌜ (start ≡ firstChild (now table) 1) × CursorAt (now table) 1 root × (root .sure ≡ 0) ⌝ }
-    requires { ⌜ (0 < nodeCount (now table)) × (nodeCount (now table) ≤ maxNodes) × RightBelow (now table) (now text) 1 ⌝ }
+    requires { ⌜ (0 < nodeCount (now table)) × (nodeCount (now table) ≤ maxNodes) × Front (now table) (now text) from ⌝ }
     requires { ⌜ nodeCount (now table) ≤ 128 ⌝ }
     requires { ⌜ Known known (now text) ⌝ }
     ensures { λ r. ⌜ reported r ≡ reportTable (byLeast (leastWrong (now (table .entry)) (now (text .entry)) 0 (nodeCount (now (table .entry))))) ⌝ }
 {
     let mut heads = [0u16; buckets::FEW_BUCKETS];
     let mut links = [0u16; FEW_NODES];
-    rest(table, text, start, root, &mut heads, &mut links, known)
+    rest(
+        table,
+        text,
+        start,
+        root,
+        &mut heads,
+        &mut links,
+        known,
+        from,
+    )
 }
 
 // The whole pass.
@@ -282,8 +347,9 @@ pub fn scan(table: &[u8], text: &[u8]) -> TableChecked
         sure: 0,
     };
     let known = encoding::short_known(text, table.len());
+    let from = front(table, text, end, kind, known);
     if table.len() / RECORD <= FEW_NODES {
-        return with_few(table, text, end, root, known);
+        return with_few(table, text, end, root, known, from);
     }
-    with_chains(table, text, end, root, known)
+    with_chains(table, text, end, root, known, from)
 }

@@ -18,11 +18,11 @@ use Rattle.table.proofs.scan.rest.Statement.{statement}
 use Rattle.table.proofs.scan.rest.Tie as tie
 
 abbrev Inv-loop : tie.InvT-loop
-Inv-loop table text start heads₀ links₀ known count cursor₀ first₀ node₀ heads links cursor first node =
+Inv-loop table text start heads₀ links₀ known from count cursor₀ first₀ node₀ heads links cursor first node =
     (first ≡ firstChild table node) × Before table text node cursor heads links × RightBelow table text node × (length heads ≡ length heads₀) × (length links ≡ length links₀)
 
 abbrev μ-loop : tie.MeasureT-loop
-μ-loop table text start heads₀ links₀ known count cursor₀ first₀ node₀ heads links cursor first node = count - node
+μ-loop table text start heads₀ links₀ known from count cursor₀ first₀ node₀ heads links cursor first node = count - node
 
 loop-holds : tie.Need-loop-holds Inv-loop μ-loop
 loop-holds c =

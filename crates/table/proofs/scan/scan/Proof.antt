@@ -43,28 +43,35 @@ depth-requires c κs = search needs
 short-known-requires : tie.Need-short-known-requires
 short-known-requires c κs = search needs
 
+front-requires : tie.Need-front-requires
+front-requires c κs =
+    let s = c .before .before .before .before .before .before .before .before in
+    let a = s .args in
+    let n = c .before .before .before .child-count in
+    let k = c .before .before .kind in
+    let r = sym (c .before .before .before .before .before .root-right .ensures) ∙ not-false _ (c .before .before .before .before .if1 .left) in
+    ((root-first (a .table .now) (n .result) (n .ensures), k .ensures), ((s .pre .0, root-below (a .table .now) (a .text .now) r), c .short-known .ensures))
+
 with-few-requires : tie.Need-with-few-requires
 with-few-requires c κs =
-    let s = c .before .before .before .before .before .before .before .before .before in
+    let s = c .before .before .before .before .before .before .before .before .before .before in
     let a = s .args in
-    let n = c .before .before .before .before .child-count in
-    let k = c .before .before .before .kind in
-    let d = c .before .before .depth in
-    let r = sym (c .before .before .before .before .before .before .root-right .ensures) ∙ not-false _ (c .before .before .before .before .before .if1 .left) in
-    ((root-first (a .table .now) (n .result) (n .ensures), root-cursor (a .table .now) (n .result) (k .result) (d .result) (n .ensures) (k .ensures) (d .ensures), refl), ((s .pre .0, s .pre .1, root-below (a .table .now) (a .text .now) r), (c .if2 .taken, c .before .short-known .ensures)))
+    let n = c .before .before .before .before .before .child-count in
+    let k = c .before .before .before .before .kind in
+    let d = c .before .before .before .depth in
+    ((root-first (a .table .now) (n .result) (n .ensures), root-cursor (a .table .now) (n .result) (k .result) (d .result) (n .ensures) (k .ensures) (d .ensures), refl), ((s .pre .0, s .pre .1, c .before .front .ensures), (c .if2 .taken, c .before .before .short-known .ensures)))
 
 returns-2 : tie.Need-returns-2
 returns-2 c = search needs
 
 with-chains-requires : tie.Need-with-chains-requires
 with-chains-requires c κs =
-    let s = c .before .before .before .before .before .before .before .before .before in
+    let s = c .before .before .before .before .before .before .before .before .before .before in
     let a = s .args in
-    let n = c .before .before .before .before .child-count in
-    let k = c .before .before .before .kind in
-    let d = c .before .before .depth in
-    let r = sym (c .before .before .before .before .before .before .root-right .ensures) ∙ not-false _ (c .before .before .before .before .before .if1 .left) in
-    ((root-first (a .table .now) (n .result) (n .ensures), root-cursor (a .table .now) (n .result) (k .result) (d .result) (n .ensures) (k .ensures) (d .ensures), refl), ((s .pre .0, s .pre .1, root-below (a .table .now) (a .text .now) r), c .before .short-known .ensures))
+    let n = c .before .before .before .before .before .child-count in
+    let k = c .before .before .before .before .kind in
+    let d = c .before .before .before .depth in
+    ((root-first (a .table .now) (n .result) (n .ensures), root-cursor (a .table .now) (n .result) (k .result) (d .result) (n .ensures) (k .ensures) (d .ensures), refl), ((s .pre .0, s .pre .1, c .before .front .ensures), c .before .before .short-known .ensures))
 
 returns-3 : tie.Need-returns-3
 returns-3 c = search needs
@@ -81,6 +88,7 @@ scan-spec =
     kind-requires
     depth-requires
     short-known-requires
+    front-requires
     with-few-requires
     returns-2
     with-chains-requires

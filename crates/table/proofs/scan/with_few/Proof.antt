@@ -1,6 +1,8 @@
--- Before node 1 every head is 0. Assumes nothing.
+-- Before the first node every head is 0. Assumes nothing.
+use mathlib.Core.Path.{sym, _∙_}
 use lib.Dec.{lit<}
-use Rattle.table.proofs.Kept.{before-zeros, roomy-nodes}
+use Rattle.table.proofs.Front.{front-zeros}
+use Rattle.table.proofs.Kept.{roomy-nodes}
 use borrow.Author.Needs.{needs}
 use Rattle.table.proofs.scan.with_few.Statement.{statement}
 use Rattle.table.proofs.scan.with_few.Tie as tie
@@ -15,7 +17,8 @@ rest-requires : tie.Need-rest-requires
 rest-requires c κs =
     let s = c .before .before .before .before in
     let a = s .args in
-    ((s .pre .0 .0, before-zeros 128 128 (lit< tt) (a .table .now) (a .text .now) (roomy-nodes (a .table .now) 128 (s .pre .1 .1 .0)) (a .root) (s .pre .0 .1) (s .pre .0 .2)), (s .pre .1 .0, s .pre .1 .1 .1))
+    let f = s .pre .1 .0 .2 in
+    ((s .pre .0 .0 ∙ sym (f .first-is), front-zeros 128 128 (lit< tt) (a .table .now) (a .text .now) (roomy-nodes (a .table .now) 128 (s .pre .1 .1 .0)) (a .root) (a .from) (s .pre .0 .1) (s .pre .0 .2) f), ((s .pre .1 .0 .0, s .pre .1 .0 .1, f .right), s .pre .1 .1 .1))
 
 returns : tie.Need-returns
 returns c = search needs
