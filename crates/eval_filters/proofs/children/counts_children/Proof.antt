@@ -1,14 +1,14 @@
 -- `counts_children` meets its contract. Assumes nothing.
-use Rattle.eval_filters.specs.Tests.{children-none, star-bound, star-next, star-long}
+use Rattle.eval_filters.specs.Children.{children-none, star-bound, star-next, star-long}
 use Rattle.eval_laws.specs.Items.{segments-in}
 use borrow.Author.Tests.{eqb-true}
 use native.Mathlib.Omega.{arith}
 use mathlib.Core.Path.{_≡_, sym, _∙_}
 use borrow.Author.Needs.{needs}
-use Rattle.eval_filters.proofs.counts_children.Statement.{statement}
-use Rattle.eval_filters.proofs.counts_children.Tie as tie
-use Rattle.eval_filters.proofs.counts_children.Reads as reads
-use Rattle.eval_filters.proofs.counts_children.Lts as lts
+use Rattle.eval_filters.proofs.children.counts_children.Statement.{statement}
+use Rattle.eval_filters.proofs.children.counts_children.Tie as tie
+use Rattle.eval_filters.proofs.children.counts_children.Reads as reads
+use Rattle.eval_filters.proofs.children.counts_children.Lts as lts
 use Rattle.text.proofs.bytes.word16.Reads as word16-reads
 
 shared-slice-read-if1 : tie.Need-shared-slice-read-if1

@@ -1,14 +1,15 @@
 -- `count_against` meets its contract. Assumes nothing.
-use Rattle.eval_filters.specs.Tests.{literal-kind, counted-none, counted-in, counted-value, counted-past, counted-behind, counted-operator, counted-done}
+use Rattle.eval_filters.specs.Tests.{literal-kind}
+use Rattle.eval_filters.specs.Children.{counted-none, counted-in, counted-value, counted-past, counted-behind, counted-operator, counted-done}
 use borrow.Author.Tests.{not-false}
 use native.Mathlib.Omega.{arith}
 use mathlib.Core.Path.{_≡_, sym, _∙_}
 use borrow.Author.Needs.{needs}
-use Rattle.eval_filters.proofs.count_against.Statement.{statement}
-use Rattle.eval_filters.proofs.count_against.Tie as tie
-use Rattle.eval_filters.proofs.count_against.Reads as reads
-use Rattle.eval_filters.proofs.count_against.Lts as lts
-use Rattle.eval_filters.proofs.compare_count.Reads as compare-count-reads
+use Rattle.eval_filters.proofs.children.count_against.Statement.{statement}
+use Rattle.eval_filters.proofs.children.count_against.Tie as tie
+use Rattle.eval_filters.proofs.children.count_against.Reads as reads
+use Rattle.eval_filters.proofs.children.count_against.Lts as lts
+use Rattle.eval_filters.proofs.children.compare_count.Reads as compare-count-reads
 use Rattle.eval_filters.proofs.is_literal.Reads as is-literal-reads
 use Rattle.eval_items.proofs.plans.past_literal.Reads as past-literal-reads
 

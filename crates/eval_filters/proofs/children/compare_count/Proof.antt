@@ -1,5 +1,5 @@
 -- `compare_count` meets its contract. Assumes nothing.
-use Rattle.eval_filters.specs.Tests.{count-done}
+use Rattle.eval_filters.specs.Children.{count-done}
 use Rattle.eval_items.specs.LeafLaws.{literal-room, done-integer}
 use Rattle.eval_values.specs.declared.Operand.the-variants.{Int}
 use mir.ValLaws.{toZ-pos}
@@ -7,10 +7,10 @@ use mir.Syntax.{w64}
 use native.Mathlib.Omega.{arith}
 use mathlib.Core.Path.{_∙_}
 use borrow.Author.Needs.{needs}
-use Rattle.eval_filters.proofs.compare_count.Statement.{statement}
-use Rattle.eval_filters.proofs.compare_count.Tie as tie
-use Rattle.eval_filters.proofs.compare_count.Reads as reads
-use Rattle.eval_filters.proofs.compare_count.Lts as lts
+use Rattle.eval_filters.proofs.children.compare_count.Statement.{statement}
+use Rattle.eval_filters.proofs.children.compare_count.Tie as tie
+use Rattle.eval_filters.proofs.children.compare_count.Reads as reads
+use Rattle.eval_filters.proofs.children.compare_count.Lts as lts
 use Rattle.eval_values.proofs.compare_values.Reads as compare-values-reads
 use Rattle.eval_filters.proofs.compare_ints.Reads as compare-ints-reads
 use Rattle.eval_items.proofs.leaves.literal.Reads as literal-reads

@@ -1,14 +1,15 @@
 -- `count_test` meets its contract. Assumes nothing.
-use Rattle.eval_filters.specs.Tests.{short-none, counting-asked, counting-counted, counting-done}
+use Rattle.eval_filters.specs.Tests.{short-none}
+use Rattle.eval_filters.specs.Children.{counting-asked, counting-counted, counting-done}
 use borrow.Author.Tests.{not-false}
 use native.Mathlib.Omega.{arith}
 use borrow.Author.Needs.{needs}
-use Rattle.eval_filters.proofs.count_test.Statement.{statement}
-use Rattle.eval_filters.proofs.count_test.Tie as tie
-use Rattle.eval_filters.proofs.count_test.Reads as reads
-use Rattle.eval_filters.proofs.count_test.Lts as lts
-use Rattle.eval_filters.proofs.count_against.Reads as count-against-reads
-use Rattle.eval_filters.proofs.counts_children.Reads as counts-children-reads
+use Rattle.eval_filters.proofs.children.count_test.Statement.{statement}
+use Rattle.eval_filters.proofs.children.count_test.Tie as tie
+use Rattle.eval_filters.proofs.children.count_test.Reads as reads
+use Rattle.eval_filters.proofs.children.count_test.Lts as lts
+use Rattle.eval_filters.proofs.children.count_against.Reads as count-against-reads
+use Rattle.eval_filters.proofs.children.counts_children.Reads as counts-children-reads
 use Rattle.table.proofs.records.child_count.Reads as child-count-reads
 
 counts-children-requires : tie.Need-counts-children-requires
