@@ -1,28 +1,28 @@
--- The measures of the cycle of calls {basic, behind, bracketed, calls::argument, calls::arguments, calls::chained, calls::function, calls::more_arguments, filter, more_and, more_or, negation, operand, paren, parse_and, parse_or, query, right, segment, segments, selector, selectors}, and what each member is given and asks.
+-- The measures of the cycle of calls {all, any, basic, behind, bracketed, call::argument, call::arguments, call::chained, call::function, call::more, filter, more_and, more_or, negation, operand, paren, query, right, segment, segments, selector, selectors}, and what each member is given and asks.
 use Prim.Native.Nat.{ℕ, _<_, _+_, _*_, _-_}
 use lib.ListN.{length}
 use borrow.Fn.Kinds.{In}
 use borrow.Fn.PlainCycle.{Measures, is, falls, and}
-use Rattle.parser.proofs.calls.argument.Reads as argument
-use Rattle.parser.proofs.calls.argument.Kinds as argument-kinds
-use Rattle.parser.proofs.calls.arguments.Reads as arguments
-use Rattle.parser.proofs.calls.arguments.Kinds as arguments-kinds
+use Rattle.parser.proofs.call.argument.Reads as argument
+use Rattle.parser.proofs.call.argument.Kinds as argument-kinds
+use Rattle.parser.proofs.call.arguments.Reads as arguments
+use Rattle.parser.proofs.call.arguments.Kinds as arguments-kinds
 use Rattle.parser.proofs.basic.Reads as basic
 use Rattle.parser.proofs.basic.Kinds as basic-kinds
 use Rattle.parser.proofs.behind.Reads as behind
 use Rattle.parser.proofs.behind.Kinds as behind-kinds
 use Rattle.parser.proofs.bracketed.Reads as bracketed
 use Rattle.parser.proofs.bracketed.Kinds as bracketed-kinds
-use Rattle.parser.proofs.calls.chained.Reads as chained
-use Rattle.parser.proofs.calls.chained.Kinds as chained-kinds
+use Rattle.parser.proofs.call.chained.Reads as chained
+use Rattle.parser.proofs.call.chained.Kinds as chained-kinds
 use Rattle.parser.proofs.filter.Reads as filter
 use Rattle.parser.proofs.filter.Kinds as filter-kinds
-use Rattle.parser.proofs.calls.function.Reads as function
-use Rattle.parser.proofs.calls.function.Kinds as function-kinds
+use Rattle.parser.proofs.call.function.Reads as function
+use Rattle.parser.proofs.call.function.Kinds as function-kinds
 use Rattle.parser.proofs.more_and.Reads as more-and
 use Rattle.parser.proofs.more_and.Kinds as more-and-kinds
-use Rattle.parser.proofs.calls.more_arguments.Reads as more-arguments
-use Rattle.parser.proofs.calls.more_arguments.Kinds as more-arguments-kinds
+use Rattle.parser.proofs.call.more.Reads as more
+use Rattle.parser.proofs.call.more.Kinds as more-kinds
 use Rattle.parser.proofs.more_or.Reads as more-or
 use Rattle.parser.proofs.more_or.Kinds as more-or-kinds
 use Rattle.parser.proofs.negation.Reads as negation
@@ -31,10 +31,10 @@ use Rattle.parser.proofs.operand.Reads as operand
 use Rattle.parser.proofs.operand.Kinds as operand-kinds
 use Rattle.parser.proofs.paren.Reads as paren
 use Rattle.parser.proofs.paren.Kinds as paren-kinds
-use Rattle.parser.proofs.parse_and.Reads as parse-and
-use Rattle.parser.proofs.parse_and.Kinds as parse-and-kinds
-use Rattle.parser.proofs.parse_or.Reads as parse-or
-use Rattle.parser.proofs.parse_or.Kinds as parse-or-kinds
+use Rattle.parser.proofs.all.Reads as all
+use Rattle.parser.proofs.all.Kinds as all-kinds
+use Rattle.parser.proofs.any.Reads as any
+use Rattle.parser.proofs.any.Kinds as any-kinds
 use Rattle.parser.proofs.query.Reads as query
 use Rattle.parser.proofs.query.Kinds as query-kinds
 use Rattle.parser.proofs.right.Reads as right
@@ -75,8 +75,8 @@ abbrev pub μ-function : Measures 3 function-kinds.ps ℕ
 abbrev pub μ-more-and : Measures 3 more-and-kinds.ps ℕ
 μ-more-and κs a = 16 * (length (a .0 .now) - a .1 .1 .1 .0 .at) + 0
 
-abbrev pub μ-more-arguments : Measures 3 more-arguments-kinds.ps ℕ
-μ-more-arguments κs a = 16 * (length (a .0 .now) - a .1 .1 .1 .0 .at) + 0
+abbrev pub μ-more : Measures 3 more-kinds.ps ℕ
+μ-more κs a = 16 * (length (a .0 .now) - a .1 .1 .1 .0 .at) + 0
 
 abbrev pub μ-more-or : Measures 3 more-or-kinds.ps ℕ
 μ-more-or κs a = 16 * (length (a .0 .now) - a .1 .1 .1 .0 .at) + 0
@@ -90,11 +90,11 @@ abbrev pub μ-operand : Measures 3 operand-kinds.ps ℕ
 abbrev pub μ-paren : Measures 3 paren-kinds.ps ℕ
 μ-paren κs a = 16 * (length (a .0 .now) - a .1 .1 .1 .0 .at) + 0
 
-abbrev pub μ-parse-and : Measures 3 parse-and-kinds.ps ℕ
-μ-parse-and κs a = 16 * (length (a .0 .now) - a .1 .1 .1 .0 .at) + 4
+abbrev pub μ-all : Measures 3 all-kinds.ps ℕ
+μ-all κs a = 16 * (length (a .0 .now) - a .1 .1 .1 .0 .at) + 4
 
-abbrev pub μ-parse-or : Measures 3 parse-or-kinds.ps ℕ
-μ-parse-or κs a = 16 * (length (a .0 .now) - a .1 .1 .1 .0 .at) + 5
+abbrev pub μ-any : Measures 3 any-kinds.ps ℕ
+μ-any κs a = 16 * (length (a .0 .now) - a .1 .1 .1 .0 .at) + 5
 
 abbrev pub μ-query : Measures 3 query-kinds.ps ℕ
 μ-query κs a = 16 * (length (a .0 .now) - a .1 .1 .1 .0 .at) + 3
@@ -168,11 +168,11 @@ more-and-at t = and 3 more-and-kinds.ps (is 3 more-and-kinds.ps μ-more-and t) m
 abbrev pub more-and-below : ℕ → In 3 more-and-kinds.ps
 more-and-below t = and 3 more-and-kinds.ps (falls 3 more-and-kinds.ps _<_ μ-more-and t) more-and.Pre
 
-abbrev pub more-arguments-at : ℕ → In 3 more-arguments-kinds.ps
-more-arguments-at t = and 3 more-arguments-kinds.ps (is 3 more-arguments-kinds.ps μ-more-arguments t) more-arguments.Pre
+abbrev pub more-at : ℕ → In 3 more-kinds.ps
+more-at t = and 3 more-kinds.ps (is 3 more-kinds.ps μ-more t) more.Pre
 
-abbrev pub more-arguments-below : ℕ → In 3 more-arguments-kinds.ps
-more-arguments-below t = and 3 more-arguments-kinds.ps (falls 3 more-arguments-kinds.ps _<_ μ-more-arguments t) more-arguments.Pre
+abbrev pub more-below : ℕ → In 3 more-kinds.ps
+more-below t = and 3 more-kinds.ps (falls 3 more-kinds.ps _<_ μ-more t) more.Pre
 
 abbrev pub more-or-at : ℕ → In 3 more-or-kinds.ps
 more-or-at t = and 3 more-or-kinds.ps (is 3 more-or-kinds.ps μ-more-or t) more-or.Pre
@@ -198,17 +198,17 @@ paren-at t = and 3 paren-kinds.ps (is 3 paren-kinds.ps μ-paren t) paren.Pre
 abbrev pub paren-below : ℕ → In 3 paren-kinds.ps
 paren-below t = and 3 paren-kinds.ps (falls 3 paren-kinds.ps _<_ μ-paren t) paren.Pre
 
-abbrev pub parse-and-at : ℕ → In 3 parse-and-kinds.ps
-parse-and-at t = and 3 parse-and-kinds.ps (is 3 parse-and-kinds.ps μ-parse-and t) parse-and.Pre
+abbrev pub all-at : ℕ → In 3 all-kinds.ps
+all-at t = and 3 all-kinds.ps (is 3 all-kinds.ps μ-all t) all.Pre
 
-abbrev pub parse-and-below : ℕ → In 3 parse-and-kinds.ps
-parse-and-below t = and 3 parse-and-kinds.ps (falls 3 parse-and-kinds.ps _<_ μ-parse-and t) parse-and.Pre
+abbrev pub all-below : ℕ → In 3 all-kinds.ps
+all-below t = and 3 all-kinds.ps (falls 3 all-kinds.ps _<_ μ-all t) all.Pre
 
-abbrev pub parse-or-at : ℕ → In 3 parse-or-kinds.ps
-parse-or-at t = and 3 parse-or-kinds.ps (is 3 parse-or-kinds.ps μ-parse-or t) parse-or.Pre
+abbrev pub any-at : ℕ → In 3 any-kinds.ps
+any-at t = and 3 any-kinds.ps (is 3 any-kinds.ps μ-any t) any.Pre
 
-abbrev pub parse-or-below : ℕ → In 3 parse-or-kinds.ps
-parse-or-below t = and 3 parse-or-kinds.ps (falls 3 parse-or-kinds.ps _<_ μ-parse-or t) parse-or.Pre
+abbrev pub any-below : ℕ → In 3 any-kinds.ps
+any-below t = and 3 any-kinds.ps (falls 3 any-kinds.ps _<_ μ-any t) any.Pre
 
 abbrev pub query-at : ℕ → In 3 query-kinds.ps
 query-at t = and 3 query-kinds.ps (is 3 query-kinds.ps μ-query t) query.Pre

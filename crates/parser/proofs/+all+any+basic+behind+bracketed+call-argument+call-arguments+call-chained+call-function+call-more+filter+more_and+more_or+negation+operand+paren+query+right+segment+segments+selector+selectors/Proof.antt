@@ -1,50 +1,50 @@
--- The proof of the cycle of calls {basic, behind, bracketed, calls::argument, calls::arguments, calls::chained, calls::function, calls::more_arguments, filter, more_and, more_or, negation, operand, paren, parse_and, parse_or, query, right, segment, segments, selector, selectors}: the members' answers, tied together.
-use Rattle.parser.proofs.calls.argument.Reads as argument
-use Rattle.parser.proofs.+basic+behind+bracketed+calls-argument+calls-arguments+calls-chained+calls-function+calls-more_arguments+filter+more_and+more_or+negation+operand+paren+parse_and+parse_or+query+right+segment+segments+selector+selectors.Lts-calls-argument as argument-lts
-use Rattle.parser.proofs.calls.arguments.Reads as arguments
-use Rattle.parser.proofs.+basic+behind+bracketed+calls-argument+calls-arguments+calls-chained+calls-function+calls-more_arguments+filter+more_and+more_or+negation+operand+paren+parse_and+parse_or+query+right+segment+segments+selector+selectors.Lts-calls-arguments as arguments-lts
+-- The proof of the cycle of calls {all, any, basic, behind, bracketed, call::argument, call::arguments, call::chained, call::function, call::more, filter, more_and, more_or, negation, operand, paren, query, right, segment, segments, selector, selectors}: the members' answers, tied together.
+use Rattle.parser.proofs.call.argument.Reads as argument
+use Rattle.parser.proofs.+all+any+basic+behind+bracketed+call-argument+call-arguments+call-chained+call-function+call-more+filter+more_and+more_or+negation+operand+paren+query+right+segment+segments+selector+selectors.Lts-call-argument as argument-lts
+use Rattle.parser.proofs.call.arguments.Reads as arguments
+use Rattle.parser.proofs.+all+any+basic+behind+bracketed+call-argument+call-arguments+call-chained+call-function+call-more+filter+more_and+more_or+negation+operand+paren+query+right+segment+segments+selector+selectors.Lts-call-arguments as arguments-lts
 use Rattle.parser.proofs.basic.Reads as basic
-use Rattle.parser.proofs.+basic+behind+bracketed+calls-argument+calls-arguments+calls-chained+calls-function+calls-more_arguments+filter+more_and+more_or+negation+operand+paren+parse_and+parse_or+query+right+segment+segments+selector+selectors.Lts-basic as basic-lts
+use Rattle.parser.proofs.+all+any+basic+behind+bracketed+call-argument+call-arguments+call-chained+call-function+call-more+filter+more_and+more_or+negation+operand+paren+query+right+segment+segments+selector+selectors.Lts-basic as basic-lts
 use Rattle.parser.proofs.behind.Reads as behind
-use Rattle.parser.proofs.+basic+behind+bracketed+calls-argument+calls-arguments+calls-chained+calls-function+calls-more_arguments+filter+more_and+more_or+negation+operand+paren+parse_and+parse_or+query+right+segment+segments+selector+selectors.Lts-behind as behind-lts
+use Rattle.parser.proofs.+all+any+basic+behind+bracketed+call-argument+call-arguments+call-chained+call-function+call-more+filter+more_and+more_or+negation+operand+paren+query+right+segment+segments+selector+selectors.Lts-behind as behind-lts
 use Rattle.parser.proofs.bracketed.Reads as bracketed
-use Rattle.parser.proofs.+basic+behind+bracketed+calls-argument+calls-arguments+calls-chained+calls-function+calls-more_arguments+filter+more_and+more_or+negation+operand+paren+parse_and+parse_or+query+right+segment+segments+selector+selectors.Lts-bracketed as bracketed-lts
-use Rattle.parser.proofs.calls.chained.Reads as chained
-use Rattle.parser.proofs.+basic+behind+bracketed+calls-argument+calls-arguments+calls-chained+calls-function+calls-more_arguments+filter+more_and+more_or+negation+operand+paren+parse_and+parse_or+query+right+segment+segments+selector+selectors.Lts-calls-chained as chained-lts
+use Rattle.parser.proofs.+all+any+basic+behind+bracketed+call-argument+call-arguments+call-chained+call-function+call-more+filter+more_and+more_or+negation+operand+paren+query+right+segment+segments+selector+selectors.Lts-bracketed as bracketed-lts
+use Rattle.parser.proofs.call.chained.Reads as chained
+use Rattle.parser.proofs.+all+any+basic+behind+bracketed+call-argument+call-arguments+call-chained+call-function+call-more+filter+more_and+more_or+negation+operand+paren+query+right+segment+segments+selector+selectors.Lts-call-chained as chained-lts
 use Rattle.parser.proofs.filter.Reads as filter
-use Rattle.parser.proofs.+basic+behind+bracketed+calls-argument+calls-arguments+calls-chained+calls-function+calls-more_arguments+filter+more_and+more_or+negation+operand+paren+parse_and+parse_or+query+right+segment+segments+selector+selectors.Lts-filter as filter-lts
-use Rattle.parser.proofs.calls.function.Reads as function
-use Rattle.parser.proofs.+basic+behind+bracketed+calls-argument+calls-arguments+calls-chained+calls-function+calls-more_arguments+filter+more_and+more_or+negation+operand+paren+parse_and+parse_or+query+right+segment+segments+selector+selectors.Lts-calls-function as function-lts
+use Rattle.parser.proofs.+all+any+basic+behind+bracketed+call-argument+call-arguments+call-chained+call-function+call-more+filter+more_and+more_or+negation+operand+paren+query+right+segment+segments+selector+selectors.Lts-filter as filter-lts
+use Rattle.parser.proofs.call.function.Reads as function
+use Rattle.parser.proofs.+all+any+basic+behind+bracketed+call-argument+call-arguments+call-chained+call-function+call-more+filter+more_and+more_or+negation+operand+paren+query+right+segment+segments+selector+selectors.Lts-call-function as function-lts
 use Rattle.parser.proofs.more_and.Reads as more-and
-use Rattle.parser.proofs.+basic+behind+bracketed+calls-argument+calls-arguments+calls-chained+calls-function+calls-more_arguments+filter+more_and+more_or+negation+operand+paren+parse_and+parse_or+query+right+segment+segments+selector+selectors.Lts-more_and as more-and-lts
-use Rattle.parser.proofs.calls.more_arguments.Reads as more-arguments
-use Rattle.parser.proofs.+basic+behind+bracketed+calls-argument+calls-arguments+calls-chained+calls-function+calls-more_arguments+filter+more_and+more_or+negation+operand+paren+parse_and+parse_or+query+right+segment+segments+selector+selectors.Lts-calls-more_arguments as more-arguments-lts
+use Rattle.parser.proofs.+all+any+basic+behind+bracketed+call-argument+call-arguments+call-chained+call-function+call-more+filter+more_and+more_or+negation+operand+paren+query+right+segment+segments+selector+selectors.Lts-more_and as more-and-lts
+use Rattle.parser.proofs.call.more.Reads as more
+use Rattle.parser.proofs.+all+any+basic+behind+bracketed+call-argument+call-arguments+call-chained+call-function+call-more+filter+more_and+more_or+negation+operand+paren+query+right+segment+segments+selector+selectors.Lts-call-more as more-lts
 use Rattle.parser.proofs.more_or.Reads as more-or
-use Rattle.parser.proofs.+basic+behind+bracketed+calls-argument+calls-arguments+calls-chained+calls-function+calls-more_arguments+filter+more_and+more_or+negation+operand+paren+parse_and+parse_or+query+right+segment+segments+selector+selectors.Lts-more_or as more-or-lts
+use Rattle.parser.proofs.+all+any+basic+behind+bracketed+call-argument+call-arguments+call-chained+call-function+call-more+filter+more_and+more_or+negation+operand+paren+query+right+segment+segments+selector+selectors.Lts-more_or as more-or-lts
 use Rattle.parser.proofs.negation.Reads as negation
-use Rattle.parser.proofs.+basic+behind+bracketed+calls-argument+calls-arguments+calls-chained+calls-function+calls-more_arguments+filter+more_and+more_or+negation+operand+paren+parse_and+parse_or+query+right+segment+segments+selector+selectors.Lts-negation as negation-lts
+use Rattle.parser.proofs.+all+any+basic+behind+bracketed+call-argument+call-arguments+call-chained+call-function+call-more+filter+more_and+more_or+negation+operand+paren+query+right+segment+segments+selector+selectors.Lts-negation as negation-lts
 use Rattle.parser.proofs.operand.Reads as operand
-use Rattle.parser.proofs.+basic+behind+bracketed+calls-argument+calls-arguments+calls-chained+calls-function+calls-more_arguments+filter+more_and+more_or+negation+operand+paren+parse_and+parse_or+query+right+segment+segments+selector+selectors.Lts-operand as operand-lts
+use Rattle.parser.proofs.+all+any+basic+behind+bracketed+call-argument+call-arguments+call-chained+call-function+call-more+filter+more_and+more_or+negation+operand+paren+query+right+segment+segments+selector+selectors.Lts-operand as operand-lts
 use Rattle.parser.proofs.paren.Reads as paren
-use Rattle.parser.proofs.+basic+behind+bracketed+calls-argument+calls-arguments+calls-chained+calls-function+calls-more_arguments+filter+more_and+more_or+negation+operand+paren+parse_and+parse_or+query+right+segment+segments+selector+selectors.Lts-paren as paren-lts
-use Rattle.parser.proofs.parse_and.Reads as parse-and
-use Rattle.parser.proofs.+basic+behind+bracketed+calls-argument+calls-arguments+calls-chained+calls-function+calls-more_arguments+filter+more_and+more_or+negation+operand+paren+parse_and+parse_or+query+right+segment+segments+selector+selectors.Lts-parse_and as parse-and-lts
-use Rattle.parser.proofs.parse_or.Reads as parse-or
-use Rattle.parser.proofs.+basic+behind+bracketed+calls-argument+calls-arguments+calls-chained+calls-function+calls-more_arguments+filter+more_and+more_or+negation+operand+paren+parse_and+parse_or+query+right+segment+segments+selector+selectors.Lts-parse_or as parse-or-lts
+use Rattle.parser.proofs.+all+any+basic+behind+bracketed+call-argument+call-arguments+call-chained+call-function+call-more+filter+more_and+more_or+negation+operand+paren+query+right+segment+segments+selector+selectors.Lts-paren as paren-lts
+use Rattle.parser.proofs.all.Reads as all
+use Rattle.parser.proofs.+all+any+basic+behind+bracketed+call-argument+call-arguments+call-chained+call-function+call-more+filter+more_and+more_or+negation+operand+paren+query+right+segment+segments+selector+selectors.Lts-all as all-lts
+use Rattle.parser.proofs.any.Reads as any
+use Rattle.parser.proofs.+all+any+basic+behind+bracketed+call-argument+call-arguments+call-chained+call-function+call-more+filter+more_and+more_or+negation+operand+paren+query+right+segment+segments+selector+selectors.Lts-any as any-lts
 use Rattle.parser.proofs.query.Reads as query
-use Rattle.parser.proofs.+basic+behind+bracketed+calls-argument+calls-arguments+calls-chained+calls-function+calls-more_arguments+filter+more_and+more_or+negation+operand+paren+parse_and+parse_or+query+right+segment+segments+selector+selectors.Lts-query as query-lts
+use Rattle.parser.proofs.+all+any+basic+behind+bracketed+call-argument+call-arguments+call-chained+call-function+call-more+filter+more_and+more_or+negation+operand+paren+query+right+segment+segments+selector+selectors.Lts-query as query-lts
 use Rattle.parser.proofs.right.Reads as right
-use Rattle.parser.proofs.+basic+behind+bracketed+calls-argument+calls-arguments+calls-chained+calls-function+calls-more_arguments+filter+more_and+more_or+negation+operand+paren+parse_and+parse_or+query+right+segment+segments+selector+selectors.Lts-right as right-lts
+use Rattle.parser.proofs.+all+any+basic+behind+bracketed+call-argument+call-arguments+call-chained+call-function+call-more+filter+more_and+more_or+negation+operand+paren+query+right+segment+segments+selector+selectors.Lts-right as right-lts
 use Rattle.parser.proofs.segment.Reads as segment
-use Rattle.parser.proofs.+basic+behind+bracketed+calls-argument+calls-arguments+calls-chained+calls-function+calls-more_arguments+filter+more_and+more_or+negation+operand+paren+parse_and+parse_or+query+right+segment+segments+selector+selectors.Lts-segment as segment-lts
+use Rattle.parser.proofs.+all+any+basic+behind+bracketed+call-argument+call-arguments+call-chained+call-function+call-more+filter+more_and+more_or+negation+operand+paren+query+right+segment+segments+selector+selectors.Lts-segment as segment-lts
 use Rattle.parser.proofs.segments.Reads as segments
-use Rattle.parser.proofs.+basic+behind+bracketed+calls-argument+calls-arguments+calls-chained+calls-function+calls-more_arguments+filter+more_and+more_or+negation+operand+paren+parse_and+parse_or+query+right+segment+segments+selector+selectors.Lts-segments as segments-lts
+use Rattle.parser.proofs.+all+any+basic+behind+bracketed+call-argument+call-arguments+call-chained+call-function+call-more+filter+more_and+more_or+negation+operand+paren+query+right+segment+segments+selector+selectors.Lts-segments as segments-lts
 use Rattle.parser.proofs.selector.Reads as selector
-use Rattle.parser.proofs.+basic+behind+bracketed+calls-argument+calls-arguments+calls-chained+calls-function+calls-more_arguments+filter+more_and+more_or+negation+operand+paren+parse_and+parse_or+query+right+segment+segments+selector+selectors.Lts-selector as selector-lts
+use Rattle.parser.proofs.+all+any+basic+behind+bracketed+call-argument+call-arguments+call-chained+call-function+call-more+filter+more_and+more_or+negation+operand+paren+query+right+segment+segments+selector+selectors.Lts-selector as selector-lts
 use Rattle.parser.proofs.selectors.Reads as selectors
-use Rattle.parser.proofs.+basic+behind+bracketed+calls-argument+calls-arguments+calls-chained+calls-function+calls-more_arguments+filter+more_and+more_or+negation+operand+paren+parse_and+parse_or+query+right+segment+segments+selector+selectors.Lts-selectors as selectors-lts
-use Rattle.parser.proofs.+basic+behind+bracketed+calls-argument+calls-arguments+calls-chained+calls-function+calls-more_arguments+filter+more_and+more_or+negation+operand+paren+parse_and+parse_or+query+right+segment+segments+selector+selectors.{statement}
-use Rattle.parser.proofs.+basic+behind+bracketed+calls-argument+calls-arguments+calls-chained+calls-function+calls-more_arguments+filter+more_and+more_or+negation+operand+paren+parse_and+parse_or+query+right+segment+segments+selector+selectors.Tie.{close}
+use Rattle.parser.proofs.+all+any+basic+behind+bracketed+call-argument+call-arguments+call-chained+call-function+call-more+filter+more_and+more_or+negation+operand+paren+query+right+segment+segments+selector+selectors.Lts-selectors as selectors-lts
+use Rattle.parser.proofs.+all+any+basic+behind+bracketed+call-argument+call-arguments+call-chained+call-function+call-more+filter+more_and+more_or+negation+operand+paren+query+right+segment+segments+selector+selectors.{statement}
+use Rattle.parser.proofs.+all+any+basic+behind+bracketed+call-argument+call-arguments+call-chained+call-function+call-more+filter+more_and+more_or+negation+operand+paren+query+right+segment+segments+selector+selectors.Tie.{close}
 mod Base
 mod Argument
 mod Arguments
@@ -55,24 +55,33 @@ mod Chained
 mod Filter
 mod Function
 mod MoreAnd
-mod MoreArguments
+mod More
 mod MoreOr
 mod Negation
 mod Operand
 mod Paren
-mod ParseAnd
-mod ParseOr
+mod All
+mod Any
 mod Query
 mod Right
 mod Segment
 mod Segments
 mod Selector
 mod Selectors
-use Rattle.parser.proofs.+basic+behind+bracketed+calls-argument+calls-arguments+calls-chained+calls-function+calls-more_arguments+filter+more_and+more_or+negation+operand+paren+parse_and+parse_or+query+right+segment+segments+selector+selectors.Proof.Base.{μ-argument, μ-arguments, μ-basic, μ-behind, μ-bracketed, μ-chained, μ-filter, μ-function, μ-more-and, μ-more-arguments, μ-more-or, μ-negation, μ-operand, μ-paren, μ-parse-and, μ-parse-or, μ-query, μ-right, μ-segment, μ-segments, μ-selector, μ-selectors, argument-at, arguments-at, basic-at, behind-at, bracketed-at, chained-at, filter-at, function-at, more-and-at, more-arguments-at, more-or-at, negation-at, operand-at, paren-at, parse-and-at, parse-or-at, query-at, right-at, segment-at, segments-at, selector-at, selectors-at}
+use Rattle.parser.proofs.+all+any+basic+behind+bracketed+call-argument+call-arguments+call-chained+call-function+call-more+filter+more_and+more_or+negation+operand+paren+query+right+segment+segments+selector+selectors.Proof.Base.{μ-argument, μ-arguments, μ-basic, μ-behind, μ-bracketed, μ-chained, μ-filter, μ-function, μ-more-and, μ-more, μ-more-or, μ-negation, μ-operand, μ-paren, μ-all, μ-any, μ-query, μ-right, μ-segment, μ-segments, μ-selector, μ-selectors, argument-at, arguments-at, basic-at, behind-at, bracketed-at, chained-at, filter-at, function-at, more-and-at, more-at, more-or-at, negation-at, operand-at, paren-at, all-at, any-at, query-at, right-at, segment-at, segments-at, selector-at, selectors-at}
 
-pub +basic+behind+bracketed+calls·argument+calls·arguments+calls·chained+calls·function+calls·more-arguments+filter+more-and+more-or+negation+operand+paren+parse-and+parse-or+query+right+segment+segments+selector+selectors-spec : {M : Type 1} → statement M
-+basic+behind+bracketed+calls·argument+calls·arguments+calls·chained+calls·function+calls·more-arguments+filter+more-and+more-or+negation+operand+paren+parse-and+parse-or+query+right+segment+segments+selector+selectors-spec =
-    close μ-basic μ-behind μ-bracketed μ-argument μ-arguments μ-chained μ-function μ-more-arguments μ-filter μ-more-and μ-more-or μ-negation μ-operand μ-paren μ-parse-and μ-parse-or μ-query μ-right μ-segment μ-segments μ-selector μ-selectors
+pub +all+any+basic+behind+bracketed+call·argument+call·arguments+call·chained+call·function+call·more+filter+more-and+more-or+negation+operand+paren+query+right+segment+segments+selector+selectors-spec : {M : Type 1} → statement M
++all+any+basic+behind+bracketed+call·argument+call·arguments+call·chained+call·function+call·more+filter+more-and+more-or+negation+operand+paren+query+right+segment+segments+selector+selectors-spec =
+    close μ-all μ-any μ-basic μ-behind μ-bracketed μ-argument μ-arguments μ-chained μ-function μ-more μ-filter μ-more-and μ-more-or μ-negation μ-operand μ-paren μ-query μ-right μ-segment μ-segments μ-selector μ-selectors
+    (λ t. all-lts.spec (All.calls t) (all-at t) all.Post (All.basic-requires t)
+    (All.enum-known-r t) (All.enum-told t) (All.same-length t) (All.same-length-2 t)
+    (All.returns t) (All.compared-requires t) (All.judged-requires t)
+    (All.more-and-requires t) (All.same-length-3 t) (All.same-length-4 t)
+    (All.returns-2 t))
+    (λ t. any-lts.spec (Any.calls t) (any-at t) any.Post (Any.all-requires t)
+    (Any.enum-known-r t) (Any.enum-told t) (Any.same-length t) (Any.same-length-2 t)
+    (Any.returns t) (Any.more-or-requires t) (Any.same-length-3 t) (Any.same-length-4 t)
+    (Any.returns-2 t))
     (λ t. basic-lts.spec (Basic.calls t) (basic-at t) basic.Post (Basic.is-requires t)
     (Basic.paren-requires t) (Basic.same-length t) (Basic.same-length-2 t) (Basic.returns t)
     (Basic.is-requires-2 t) (Basic.add-moved t) (Basic.moved-requires t) (Basic.negation-requires t)
@@ -97,10 +106,10 @@ pub +basic+behind+bracketed+calls·argument+calls·arguments+calls·chained+call
     (Bracketed.add-brackets-flag t) (Bracketed.brackets-flag-requires t) (Bracketed.same-length-7 t)
     (Bracketed.same-length-8 t) (Bracketed.returns-5 t))
     (λ t. argument-lts.spec (Argument.calls t) (argument-at t) argument.Post (Argument.is-requires t)
-    (Argument.sub-parse-or t) (Argument.part-parse-or-start t) (Argument.part-parse-or-end t)
-    (Argument.parse-or-requires t) (Argument.same-length t) (Argument.same-length-2 t) (Argument.returns t)
-    (Argument.is-requires-2 t) (Argument.sub-parse-or-2 t) (Argument.part-parse-or-start-2 t)
-    (Argument.part-parse-or-end-2 t) (Argument.parse-or-requires-2 t) (Argument.same-length-3 t)
+    (Argument.sub-any t) (Argument.part-any-start t) (Argument.part-any-end t)
+    (Argument.any-requires t) (Argument.same-length t) (Argument.same-length-2 t) (Argument.returns t)
+    (Argument.is-requires-2 t) (Argument.sub-any-2 t) (Argument.part-any-start-2 t)
+    (Argument.part-any-end-2 t) (Argument.any-requires-2 t) (Argument.same-length-3 t)
     (Argument.same-length-4 t) (Argument.returns-2 t) (Argument.sub-operand t) (Argument.part-operand-start t)
     (Argument.part-operand-end t) (Argument.operand-requires t) (Argument.enum-known-r t)
     (Argument.enum-told t) (Argument.same-length-5 t) (Argument.same-length-6 t) (Argument.returns-3 t)
@@ -111,7 +120,7 @@ pub +basic+behind+bracketed+calls·argument+calls·arguments+calls·chained+call
     (λ t. arguments-lts.spec (Arguments.calls t) (arguments-at t) arguments.Post (Arguments.is-requires t)
     (Arguments.returns t) (Arguments.argument-requires t) (Arguments.enum-known-r t) (Arguments.enum-told t)
     (Arguments.same-length t) (Arguments.same-length-2 t) (Arguments.returns-2 t)
-    (Arguments.one-more-requires t) (Arguments.more-arguments-requires t) (Arguments.same-length-3 t)
+    (Arguments.one-more-requires t) (Arguments.more-requires t) (Arguments.same-length-3 t)
     (Arguments.same-length-4 t) (Arguments.returns-3 t))
     (λ t. chained-lts.spec (Chained.calls t) (chained-at t) chained.Post (Chained.skip-blanks-requires t)
     (Chained.is-requires t) (Chained.plain-sort-requires t) (Chained.returns t) (Chained.behind-requires t)
@@ -126,16 +135,16 @@ pub +basic+behind+bracketed+calls·argument+calls·arguments+calls·chained+call
     (Function.same-length-4 t) (Function.returns-2 t) (Function.add-moved t) (Function.moved-requires-2 t)
     (Function.write-call-requires t) (Function.call-sort-requires t) (Function.same-length-5 t)
     (Function.same-length-6 t) (Function.returns-3 t))
-    (λ t. more-arguments-lts.spec (MoreArguments.calls t) (more-arguments-at t) more-arguments.Post
-    MoreArguments.Inv-loop MoreArguments.μ-loop (MoreArguments.loop-holds t)
-    (MoreArguments.skip-blanks-requires t) (MoreArguments.is-requires t) (MoreArguments.same-length t)
-    (MoreArguments.same-length-2 t) (MoreArguments.returns t) (MoreArguments.add-skip-blanks t)
-    (MoreArguments.skip-blanks-requires-2 t) (MoreArguments.moved-requires t)
-    (MoreArguments.argument-requires t) (MoreArguments.enum-known-i t) (MoreArguments.same-length-3 t)
-    (MoreArguments.same-length-4 t) (MoreArguments.returns-2 t) (MoreArguments.enum-known-n t)
-    (MoreArguments.one-more-requires t) (MoreArguments.loop-less t) (MoreArguments.loop-again t))
+    (λ t. more-lts.spec (More.calls t) (more-at t) more.Post
+    More.Inv-loop More.μ-loop (More.loop-holds t)
+    (More.skip-blanks-requires t) (More.is-requires t) (More.same-length t)
+    (More.same-length-2 t) (More.returns t) (More.add-skip-blanks t)
+    (More.skip-blanks-requires-2 t) (More.moved-requires t)
+    (More.argument-requires t) (More.enum-known-i t) (More.same-length-3 t)
+    (More.same-length-4 t) (More.returns-2 t) (More.enum-known-n t)
+    (More.one-more-requires t) (More.loop-less t) (More.loop-again t))
     (λ t. filter-lts.spec (Filter.calls t) (filter-at t) filter.Post (Filter.skip-blanks-requires t)
-    (Filter.moved-requires t) (Filter.opened-requires t) (Filter.parse-or-requires t) (Filter.enum-known-r t)
+    (Filter.moved-requires t) (Filter.opened-requires t) (Filter.any-requires t) (Filter.enum-known-r t)
     (Filter.enum-told t) (Filter.same-length t) (Filter.same-length-2 t) (Filter.returns t)
     (Filter.test-tail-requires t) (Filter.add-put16 t) (Filter.sub-put16 t) (Filter.sub-put16-2 t)
     (Filter.put16-requires t) (Filter.same-length-3 t) (Filter.same-length-4 t) (Filter.returns-2 t))
@@ -151,7 +160,7 @@ pub +basic+behind+bracketed+calls·argument+calls·arguments+calls·chained+call
     (MoreOr.loop-holds t) (MoreOr.skip-blanks-requires t) (MoreOr.both-requires t) (MoreOr.same-length t)
     (MoreOr.same-length-2 t) (MoreOr.returns t) (MoreOr.add-skip-blanks t) (MoreOr.skip-blanks-requires-2 t)
     (MoreOr.moved-requires t) (MoreOr.test-tail-requires t) (MoreOr.opened-requires t)
-    (MoreOr.parse-and-requires t) (MoreOr.enum-known-i t) (MoreOr.same-length-3 t) (MoreOr.same-length-4 t)
+    (MoreOr.all-requires t) (MoreOr.enum-known-i t) (MoreOr.same-length-3 t) (MoreOr.same-length-4 t)
     (MoreOr.returns-2 t) (MoreOr.enum-known-n t) (MoreOr.test-tail-requires-2 t) (MoreOr.add-put16 t)
     (MoreOr.sub-put16 t) (MoreOr.sub-put16-2 t) (MoreOr.put16-requires t) (MoreOr.loop-less t)
     (MoreOr.loop-again t))
@@ -177,20 +186,11 @@ pub +basic+behind+bracketed+calls·argument+calls·arguments+calls·chained+call
     (Operand.same-length-8 t) (Operand.returns-4 t) (Operand.write-keyword-requires t)
     (Operand.same-length-9 t) (Operand.returns-5 t))
     (λ t. paren-lts.spec (Paren.calls t) (paren-at t) paren.Post (Paren.add-skip-blanks t)
-    (Paren.skip-blanks-requires t) (Paren.moved-requires t) (Paren.parse-or-requires t) (Paren.enum-known-r t)
+    (Paren.skip-blanks-requires t) (Paren.moved-requires t) (Paren.any-requires t) (Paren.enum-known-r t)
     (Paren.enum-told t) (Paren.same-length t) (Paren.same-length-2 t) (Paren.returns t)
     (Paren.skip-blanks-requires-2 t) (Paren.is-requires t) (Paren.same-length-3 t) (Paren.same-length-4 t)
     (Paren.returns-2 t) (Paren.add-moved t) (Paren.moved-requires-2 t) (Paren.same-length-5 t)
     (Paren.same-length-6 t) (Paren.returns-3 t))
-    (λ t. parse-and-lts.spec (ParseAnd.calls t) (parse-and-at t) parse-and.Post (ParseAnd.basic-requires t)
-    (ParseAnd.enum-known-r t) (ParseAnd.enum-told t) (ParseAnd.same-length t) (ParseAnd.same-length-2 t)
-    (ParseAnd.returns t) (ParseAnd.compared-requires t) (ParseAnd.judged-requires t)
-    (ParseAnd.more-and-requires t) (ParseAnd.same-length-3 t) (ParseAnd.same-length-4 t)
-    (ParseAnd.returns-2 t))
-    (λ t. parse-or-lts.spec (ParseOr.calls t) (parse-or-at t) parse-or.Post (ParseOr.parse-and-requires t)
-    (ParseOr.enum-known-r t) (ParseOr.enum-told t) (ParseOr.same-length t) (ParseOr.same-length-2 t)
-    (ParseOr.returns t) (ParseOr.more-or-requires t) (ParseOr.same-length-3 t) (ParseOr.same-length-4 t)
-    (ParseOr.returns-2 t))
     (λ t. query-lts.spec (Query.calls t) (query-at t) query.Post (Query.item-requires t)
     (Query.segments-requires t) (Query.enum-known-r t) (Query.enum-told t) (Query.same-length t)
     (Query.same-length-2 t) (Query.returns t) (Query.item-requires-2 t) (Query.query-flag-requires t)

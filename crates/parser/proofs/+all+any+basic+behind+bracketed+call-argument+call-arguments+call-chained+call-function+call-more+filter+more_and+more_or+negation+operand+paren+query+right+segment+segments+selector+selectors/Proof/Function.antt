@@ -1,15 +1,15 @@
--- The answers of `function` in the cycle of calls {basic, behind, bracketed, calls::argument, calls::arguments, calls::chained, calls::function, calls::more_arguments, filter, more_and, more_or, negation, operand, paren, parse_and, parse_or, query, right, segment, segments, selector, selectors}.
+-- The answers of `function` in the cycle of calls {all, any, basic, behind, bracketed, call::argument, call::arguments, call::chained, call::function, call::more, filter, more_and, more_or, negation, operand, paren, query, right, segment, segments, selector, selectors}.
 use borrow.Author.Needs.{needs}
-use Rattle.parser.proofs.+basic+behind+bracketed+calls-argument+calls-arguments+calls-chained+calls-function+calls-more_arguments+filter+more_and+more_or+negation+operand+paren+parse_and+parse_or+query+right+segment+segments+selector+selectors.Lts-calls-function as lts
+use Rattle.parser.proofs.+all+any+basic+behind+bracketed+call-argument+call-arguments+call-chained+call-function+call-more+filter+more_and+more_or+negation+operand+paren+query+right+segment+segments+selector+selectors.Lts-call-function as lts
 use Prim.Native.Nat.{ℕ}
-use Rattle.parser.proofs.calls.arguments.Reads as arguments
-use Rattle.parser.proofs.calls.function.Reads as function
+use Rattle.parser.proofs.call.arguments.Reads as arguments
+use Rattle.parser.proofs.call.function.Reads as function
 use Rattle.parser_items.proofs.verdicts.call_sort.Reads as call-sort-reads
 use Rattle.parser_items.proofs.moved.Reads as moved-reads
 use Rattle.parser_items.proofs.write_call.Reads as write-call-reads
 use Rattle.parser_scan.proofs.is.Reads as is-reads
 use Rattle.parser_scan.proofs.skip_blanks.Reads as skip-blanks-reads
-use Rattle.parser.proofs.+basic+behind+bracketed+calls-argument+calls-arguments+calls-chained+calls-function+calls-more_arguments+filter+more_and+more_or+negation+operand+paren+parse_and+parse_or+query+right+segment+segments+selector+selectors.Proof.Base.{arguments-below, function-at}
+use Rattle.parser.proofs.+all+any+basic+behind+bracketed+call-argument+call-arguments+call-chained+call-function+call-more+filter+more_and+more_or+negation+operand+paren+query+right+segment+segments+selector+selectors.Proof.Base.{arguments-below, function-at}
 use native.Mathlib.Omega.{arith}
 use borrow.Author.Tests.{not-true, not-false}
 use lib.Dec.{lit≤}

@@ -1,19 +1,19 @@
--- The answers of `chained` in the cycle of calls {basic, behind, bracketed, calls::argument, calls::arguments, calls::chained, calls::function, calls::more_arguments, filter, more_and, more_or, negation, operand, paren, parse_and, parse_or, query, right, segment, segments, selector, selectors}.
+-- The answers of `chained` in the cycle of calls {all, any, basic, behind, bracketed, call::argument, call::arguments, call::chained, call::function, call::more, filter, more_and, more_or, negation, operand, paren, query, right, segment, segments, selector, selectors}.
 use borrow.Author.Needs.{needs}
 use Rattle.parser.proofs.Chains.{chained-end, chained-no-behind, chained-no-and, asks-chained, chained-then}
 use Rattle.parser.proofs.Operands.{told-behind, asks-behind}
 use Rattle.parser_items.specs.Laws.{read-of, none-of}
 use native.Mathlib.Omega.{arith}
-use Rattle.parser.proofs.+basic+behind+bracketed+calls-argument+calls-arguments+calls-chained+calls-function+calls-more_arguments+filter+more_and+more_or+negation+operand+paren+parse_and+parse_or+query+right+segment+segments+selector+selectors.Lts-calls-chained as lts
+use Rattle.parser.proofs.+all+any+basic+behind+bracketed+call-argument+call-arguments+call-chained+call-function+call-more+filter+more_and+more_or+negation+operand+paren+query+right+segment+segments+selector+selectors.Lts-call-chained as lts
 use Prim.Native.Nat.{ℕ}
 use Rattle.parser_scan.proofs.skip_blanks.Reads as skip-blanks-reads
 use Rattle.parser_scan.proofs.is.Reads as is-reads
 use Rattle.parser_items.proofs.verdicts.plain_sort.Reads as plain-sort-reads
 use Rattle.parser.proofs.behind.Reads as behind
-use Rattle.parser.proofs.calls.chained.Reads as chained
+use Rattle.parser.proofs.call.chained.Reads as chained
 use Rattle.parser.proofs.more_and.Reads as more-and
 use Rattle.parser.proofs.more_or.Reads as more-or
-use Rattle.parser.proofs.+basic+behind+bracketed+calls-argument+calls-arguments+calls-chained+calls-function+calls-more_arguments+filter+more_and+more_or+negation+operand+paren+parse_and+parse_or+query+right+segment+segments+selector+selectors.Proof.Base.{behind-below, chained-at, more-and-below, more-or-below}
+use Rattle.parser.proofs.+all+any+basic+behind+bracketed+call-argument+call-arguments+call-chained+call-function+call-more+filter+more_and+more_or+negation+operand+paren+query+right+segment+segments+selector+selectors.Proof.Base.{behind-below, chained-at, more-and-below, more-or-below}
 
 abbrev pub calls : ℕ → lts.Claims
 calls t = (skip-blanks-reads.Asked, skip-blanks-reads.Learnt, is-reads.Asked, is-reads.Learnt, plain-sort-reads.Asked, plain-sort-reads.Learnt, behind-below t, behind.Post, more-and-below t, more-and.Post, more-or-below t, more-or.Post)

@@ -1,4 +1,4 @@
--- The answers of `negation` in the cycle of calls {basic, behind, bracketed, calls::argument, calls::arguments, calls::chained, calls::function, calls::more_arguments, filter, more_and, more_or, negation, operand, paren, parse_and, parse_or, query, right, segment, segments, selector, selectors}.
+-- The answers of `negation` in the cycle of calls {all, any, basic, behind, bracketed, call::argument, call::arguments, call::chained, call::function, call::more, filter, more_and, more_or, negation, operand, paren, query, right, segment, segments, selector, selectors}.
 use borrow.Author.Needs.{needs}
 use Rattle.parser.proofs.Basics.{negation-at-paren, negation-no-paren, negation-no-operand, negation-of-literal, negation-at-operand}
 use Rattle.parser.proofs.Operands.{known-operand, known-paren, operand-room, paren-room, opens}
@@ -6,7 +6,7 @@ use Rattle.parser.proofs.Steps.{asks-skipped}
 use Rattle.parser_items.specs.Laws.{read-of, none-of}
 use Rattle.parser_items.specs.Reads.{next}
 use native.Mathlib.Omega.{arith}
-use Rattle.parser.proofs.+basic+behind+bracketed+calls-argument+calls-arguments+calls-chained+calls-function+calls-more_arguments+filter+more_and+more_or+negation+operand+paren+parse_and+parse_or+query+right+segment+segments+selector+selectors.Lts-negation as lts
+use Rattle.parser.proofs.+all+any+basic+behind+bracketed+call-argument+call-arguments+call-chained+call-function+call-more+filter+more_and+more_or+negation+operand+paren+query+right+segment+segments+selector+selectors.Lts-negation as lts
 use Prim.Native.Nat.{ℕ}
 use Rattle.parser.proofs.negation.Reads as negation
 use Rattle.parser.proofs.operand.Reads as operand
@@ -15,7 +15,7 @@ use Rattle.parser_items.proofs.moved.Reads as moved-reads
 use Rattle.parser_items.proofs.not_tail.Reads as not-tail-reads
 use Rattle.parser_scan.proofs.is.Reads as is-reads
 use Rattle.parser_scan.proofs.skip_blanks.Reads as skip-blanks-reads
-use Rattle.parser.proofs.+basic+behind+bracketed+calls-argument+calls-arguments+calls-chained+calls-function+calls-more_arguments+filter+more_and+more_or+negation+operand+paren+parse_and+parse_or+query+right+segment+segments+selector+selectors.Proof.Base.{negation-at, operand-below, paren-below}
+use Rattle.parser.proofs.+all+any+basic+behind+bracketed+call-argument+call-arguments+call-chained+call-function+call-more+filter+more_and+more_or+negation+operand+paren+query+right+segment+segments+selector+selectors.Proof.Base.{negation-at, operand-below, paren-below}
 
 abbrev pub calls : ℕ → lts.Claims
 calls t = (skip-blanks-reads.Asked, skip-blanks-reads.Learnt, is-reads.Asked, is-reads.Learnt, moved-reads.Asked, moved-reads.Learnt, paren-below t, paren.Post, not-tail-reads.Asked, not-tail-reads.Learnt, operand-below t, operand.Post)

@@ -1,4 +1,4 @@
--- The answers of `right` in the cycle of calls {basic, behind, bracketed, calls::argument, calls::arguments, calls::chained, calls::function, calls::more_arguments, filter, more_and, more_or, negation, operand, paren, parse_and, parse_or, query, right, segment, segments, selector, selectors}.
+-- The answers of `right` in the cycle of calls {all, any, basic, behind, bracketed, call::argument, call::arguments, call::chained, call::function, call::more, filter, more_and, more_or, negation, operand, paren, query, right, segment, segments, selector, selectors}.
 use borrow.Author.Needs.{needs}
 use Rattle.parser.proofs.Basics.{right-none, right-not-compared, right-read}
 use Rattle.parser.proofs.Operands.{known-operand, operand-room}
@@ -8,7 +8,7 @@ use Rattle.parser_items.specs.Reads.{next}
 use borrow.Author.Tests.{not-true, not-false}
 use native.Mathlib.Omega.{arith}
 use mathlib.Core.Path.{sym, _∙_}
-use Rattle.parser.proofs.+basic+behind+bracketed+calls-argument+calls-arguments+calls-chained+calls-function+calls-more_arguments+filter+more_and+more_or+negation+operand+paren+parse_and+parse_or+query+right+segment+segments+selector+selectors.Lts-right as lts
+use Rattle.parser.proofs.+all+any+basic+behind+bracketed+call-argument+call-arguments+call-chained+call-function+call-more+filter+more_and+more_or+negation+operand+paren+query+right+segment+segments+selector+selectors.Lts-right as lts
 use Prim.Native.Nat.{ℕ}
 use Rattle.parser.proofs.operand.Reads as operand
 use Rattle.parser.proofs.right.Reads as right
@@ -17,7 +17,7 @@ use Rattle.parser_items.proofs.moved.Reads as moved-reads
 use Rattle.parser_items.proofs.verdicts.plain_sort.Reads as plain-sort-reads
 use Rattle.parser_items.proofs.write_compare.Reads as write-compare-reads
 use Rattle.parser_scan.proofs.skip_blanks.Reads as skip-blanks-reads
-use Rattle.parser.proofs.+basic+behind+bracketed+calls-argument+calls-arguments+calls-chained+calls-function+calls-more_arguments+filter+more_and+more_or+negation+operand+paren+parse_and+parse_or+query+right+segment+segments+selector+selectors.Proof.Base.{operand-below, right-at}
+use Rattle.parser.proofs.+all+any+basic+behind+bracketed+call-argument+call-arguments+call-chained+call-function+call-more+filter+more_and+more_or+negation+operand+paren+query+right+segment+segments+selector+selectors.Proof.Base.{operand-below, right-at}
 
 abbrev pub calls : ℕ → lts.Claims
 calls t = (skip-blanks-reads.Asked, skip-blanks-reads.Learnt, moved-reads.Asked, moved-reads.Learnt, operand-below t, operand.Post, comparable-reads.Asked, comparable-reads.Learnt, plain-sort-reads.Asked, plain-sort-reads.Learnt, write-compare-reads.Asked, write-compare-reads.Learnt)

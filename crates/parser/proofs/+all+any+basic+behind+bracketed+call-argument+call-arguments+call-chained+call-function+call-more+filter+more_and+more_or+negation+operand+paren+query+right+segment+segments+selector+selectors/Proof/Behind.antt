@@ -1,4 +1,4 @@
--- The answers of `behind` in the cycle of calls {basic, behind, bracketed, calls::argument, calls::arguments, calls::chained, calls::function, calls::more_arguments, filter, more_and, more_or, negation, operand, paren, parse_and, parse_or, query, right, segment, segments, selector, selectors}.
+-- The answers of `behind` in the cycle of calls {all, any, basic, behind, bracketed, call::argument, call::arguments, call::chained, call::function, call::more, filter, more_and, more_or, negation, operand, paren, query, right, segment, segments, selector, selectors}.
 use borrow.Author.Needs.{needs}
 use Rattle.parser.proofs.Basics.{asks-operator, behind-a-literal, behind-nothing, behind-not-compared, behind-by-operator}
 use Rattle.parser_items.specs.Laws.{operator-of, no-operator-of}
@@ -6,7 +6,7 @@ use Rattle.parser_items.specs.Reads.{next}
 use borrow.Author.Tests.{not-true, not-false}
 use native.Mathlib.Omega.{arith}
 use mathlib.Core.Path.{sym, _∙_}
-use Rattle.parser.proofs.+basic+behind+bracketed+calls-argument+calls-arguments+calls-chained+calls-function+calls-more_arguments+filter+more_and+more_or+negation+operand+paren+parse_and+parse_or+query+right+segment+segments+selector+selectors.Lts-behind as lts
+use Rattle.parser.proofs.+all+any+basic+behind+bracketed+call-argument+call-arguments+call-chained+call-function+call-more+filter+more_and+more_or+negation+operand+paren+query+right+segment+segments+selector+selectors.Lts-behind as lts
 use Prim.Native.Nat.{ℕ}
 use Rattle.parser.proofs.behind.Reads as behind
 use Rattle.parser.proofs.right.Reads as right
@@ -15,7 +15,7 @@ use Rattle.parser_items.proofs.moved.Reads as moved-reads
 use Rattle.parser_items.proofs.verdicts.plain_sort.Reads as plain-sort-reads
 use Rattle.parser_scan.proofs.read_operator.Reads as read-operator-reads
 use Rattle.parser_scan.proofs.skip_blanks.Reads as skip-blanks-reads
-use Rattle.parser.proofs.+basic+behind+bracketed+calls-argument+calls-arguments+calls-chained+calls-function+calls-more_arguments+filter+more_and+more_or+negation+operand+paren+parse_and+parse_or+query+right+segment+segments+selector+selectors.Proof.Base.{behind-at, right-below}
+use Rattle.parser.proofs.+all+any+basic+behind+bracketed+call-argument+call-arguments+call-chained+call-function+call-more+filter+more_and+more_or+negation+operand+paren+query+right+segment+segments+selector+selectors.Proof.Base.{behind-at, right-below}
 
 abbrev pub calls : ℕ → lts.Claims
 calls t = (skip-blanks-reads.Asked, skip-blanks-reads.Learnt, read-operator-reads.Asked, read-operator-reads.Learnt, plain-sort-reads.Asked, plain-sort-reads.Learnt, comparable-reads.Asked, comparable-reads.Learnt, moved-reads.Asked, moved-reads.Learnt, right-below t, right.Post)

@@ -1,16 +1,16 @@
--- The answers of `more_or` in the cycle of calls {basic, behind, bracketed, calls::argument, calls::arguments, calls::chained, calls::function, calls::more_arguments, filter, more_and, more_or, negation, operand, paren, parse_and, parse_or, query, right, segment, segments, selector, selectors}.
+-- The answers of `more_or` in the cycle of calls {all, any, basic, behind, bracketed, call::argument, call::arguments, call::chained, call::function, call::more, filter, more_and, more_or, negation, operand, paren, query, right, segment, segments, selector, selectors}.
 use borrow.Author.Needs.{needs}
-use Rattle.parser.proofs.+basic+behind+bracketed+calls-argument+calls-arguments+calls-chained+calls-function+calls-more_arguments+filter+more_and+more_or+negation+operand+paren+parse_and+parse_or+query+right+segment+segments+selector+selectors.Lts-more_or as lts
+use Rattle.parser.proofs.+all+any+basic+behind+bracketed+call-argument+call-arguments+call-chained+call-function+call-more+filter+more_and+more_or+negation+operand+paren+query+right+segment+segments+selector+selectors.Lts-more_or as lts
 use Prim.Native.Nat.{ℕ}
 use Rattle.parser.proofs.more_or.Reads as more-or
-use Rattle.parser.proofs.parse_and.Reads as parse-and
+use Rattle.parser.proofs.all.Reads as all
 use Rattle.parser_items.proofs.moved.Reads as moved-reads
 use Rattle.parser_items.proofs.opened.Reads as opened-reads
 use Rattle.parser_items.proofs.test_tail.Reads as test-tail-reads
 use Rattle.parser_scan.proofs.both.Reads as both-reads
 use Rattle.parser_scan.proofs.skip_blanks.Reads as skip-blanks-reads
 use Rattle.text.proofs.bytes.put16.Reads as put16-reads
-use Rattle.parser.proofs.+basic+behind+bracketed+calls-argument+calls-arguments+calls-chained+calls-function+calls-more_arguments+filter+more_and+more_or+negation+operand+paren+parse_and+parse_or+query+right+segment+segments+selector+selectors.Proof.Base.{more-or-at, parse-and-below}
+use Rattle.parser.proofs.+all+any+basic+behind+bracketed+call-argument+call-arguments+call-chained+call-function+call-more+filter+more_and+more_or+negation+operand+paren+query+right+segment+segments+selector+selectors.Proof.Base.{more-or-at, all-below}
 use mathlib.Core.Path.{_∙_}
 use Prim.Native.Nat.{_-_}
 use native.Mathlib.Omega.{arith}
@@ -24,7 +24,7 @@ use Rattle.parser_items.specs.Laws.{read-of, none-of, done-plan, done-pool, ask
 use Rattle.parser.proofs.Logic.{room, small-known, read-known, Ready, Framed, asks-operator, asks-tailed, ready, ready-plan, ready-less, framed-place, framed-order, framed-length, framed-room, OrLoop, or-loop, or-end, or-stop, or-behind, or-framed, or-more}
 
 abbrev pub calls : ℕ → lts.Claims
-calls t = (skip-blanks-reads.Asked, skip-blanks-reads.Learnt, both-reads.Asked, both-reads.Learnt, moved-reads.Asked, moved-reads.Learnt, test-tail-reads.Asked, test-tail-reads.Learnt, opened-reads.Asked, opened-reads.Learnt, parse-and-below t, parse-and.Post, put16-reads.Asked, put16-reads.Learnt)
+calls t = (skip-blanks-reads.Asked, skip-blanks-reads.Learnt, both-reads.Asked, both-reads.Learnt, moved-reads.Asked, moved-reads.Learnt, test-tail-reads.Asked, test-tail-reads.Learnt, opened-reads.Asked, opened-reads.Learnt, all-below t, all.Post, put16-reads.Asked, put16-reads.Learnt)
 
 abbrev pub Inv-loop : lts.InvT-loop
 Inv-loop s plan₀ pool₀ sort asked now₀ kind₀ plan pool now kind = OrLoop sort asked s plan₀ plan pool₀ pool now₀ now kind
@@ -39,7 +39,7 @@ module _ (t : ℕ) where
 
   -- the frame with the operand and its tail
   held : (c : lts.After-test-tail2 (calls t) (more-or-at t) more-or.Post Inv-loop μ-loop) → Framed (c .test-tail2 .last .0) (c .before .before .before .before .before .before .before .before .before .before .before .before .before .before .before .before .before .before .test-tail .result) (c .test-tail2 .result)
-  held c = or-framed (c .before .before .before .before .before .before .before .before .before .before .before .before .before .before .before .before .before .before .before .before .before .before .before .before .before .loop .inv) (here (c .before .before .before .before .before .before .before .before .before .before .before .before .before .before)) (read-of (c .before .before .before .before .before .before .before .before .before .parse-and .ensures) (c .before .before .before .n .given .1)) (c .test-tail2 .ensures)
+  held c = or-framed (c .before .before .before .before .before .before .before .before .before .before .before .before .before .before .before .before .before .before .before .before .before .before .before .before .before .loop .inv) (here (c .before .before .before .before .before .before .before .before .before .before .before .before .before .before)) (read-of (c .before .before .before .before .before .before .before .before .before .all .ensures) (c .before .before .before .n .given .1)) (c .test-tail2 .ensures)
 
   -- src/lib.rt:194:5
   pub loop-holds : lts.Need-loop-holds (calls t) (more-or-at t) more-or.Post Inv-loop μ-loop
@@ -86,8 +86,8 @@ module _ (t : ℕ) where
   opened-requires c κs = room 3 (lit≤ tt) (asks-tailed (sortOf (c .before .before .before .before .before .before .before .before .before .before .loop .kind)) {x = 27} (asks-operator 0x7C (lit< tt) (c .before .before .before .before .before .before .before .before .before .before .loop .inv .loop .start) (c .before .before .before .before .before .before .before .before .before .skip-blanks .ensures) (rw (not-false (c .before .before .before .before .before .before .before .before .both .result) (c .before .before .before .before .before .before .before .if1 .left)) at (c .before .before .before .before .before .before .before .before .both .ensures)) (c .before .before .before .before .before .before .skip-blanks2 .ensures) (c .before .before .before .before .moved .ensures)) (c .before .before .before .test-tail .ensures))
 
   -- src/lib.rt:203:15
-  pub parse-and-requires : lts.Need-parse-and-requires (calls t) (more-or-at t) more-or.Post Inv-loop μ-loop
-  parse-and-requires c κs =
+  pub all-requires : lts.Need-all-requires (calls t) (more-or-at t) more-or.Post Inv-loop μ-loop
+  all-requires c κs =
       let r = here (c .before .before .before .before) in
       (omega (arith, r .from, r .start .text, (c .before .before .before .before .before .before .before .before .before .before .before .before .before .before .before .loop .inv .loop .from), (c .before .before .before .before .before .before .before .before .before .before .before .before .before .before .before .before .before .before .before .pre .0)), asks-less (lit≤ tt) (r .start))
 
@@ -97,15 +97,15 @@ module _ (t : ℕ) where
 
   -- src/lib.rt:204:30
   pub same-length-3 : lts.Need-same-length-3 (calls t) (more-or-at t) more-or.Post Inv-loop μ-loop
-  same-length-3 c = (c .before .before .before .before .before .before .before .parse-and .kept .1 .0) ∙ ready-plan (here (c .before .before .before .before .before .before .before .before .before .before .before .before)) ∙ done-plan (c .before .before .before .before .before .before .before .before .before .before .before .before .before .before .before .before .before .before .before .before .before .before .before .loop .inv .loop .done)
+  same-length-3 c = (c .before .before .before .before .before .before .before .all .kept .1 .0) ∙ ready-plan (here (c .before .before .before .before .before .before .before .before .before .before .before .before)) ∙ done-plan (c .before .before .before .before .before .before .before .before .before .before .before .before .before .before .before .before .before .before .before .before .before .before .before .loop .inv .loop .done)
 
   -- src/lib.rt:204:30
   pub same-length-4 : lts.Need-same-length-4 (calls t) (more-or-at t) more-or.Post Inv-loop μ-loop
-  same-length-4 c = (c .before .before .before .before .before .before .before .parse-and .kept .1 .1 .0) ∙ done-pool (c .before .before .before .before .before .before .before .before .before .before .before .before .before .before .before .before .before .before .before .before .before .before .before .loop .inv .loop .done)
+  same-length-4 c = (c .before .before .before .before .before .before .before .all .kept .1 .1 .0) ∙ done-pool (c .before .before .before .before .before .before .before .before .before .before .before .before .before .before .before .before .before .before .before .before .before .before .before .loop .inv .loop .done)
 
   -- src/lib.rt:204:30
   pub returns-2 : lts.Need-returns-2 (calls t) (more-or-at t) more-or.Post Inv-loop μ-loop
-  returns-2 c = or-stop (c .before .before .before .before .before .before .before .before .before .before .before .before .before .before .before .before .before .before .before .before .before .before .before .loop .inv) (here (c .before .before .before .before .before .before .before .before .before .before .before .before)) (none-of (c .before .before .before .before .before .before .before .parse-and .ensures) (c .before .i .given .1))
+  returns-2 c = or-stop (c .before .before .before .before .before .before .before .before .before .before .before .before .before .before .before .before .before .before .before .before .before .before .before .loop .inv) (here (c .before .before .before .before .before .before .before .before .before .before .before .before)) (none-of (c .before .before .before .before .before .before .before .all .ensures) (c .before .i .given .1))
 
   -- src/lib.rt:205:24
   pub enum-known-n : lts.Need-enum-known-n (calls t) (more-or-at t) more-or.Post Inv-loop μ-loop
@@ -114,7 +114,7 @@ module _ (t : ℕ) where
   -- src/lib.rt:206:21
   pub test-tail-requires-2 : lts.Need-test-tail-requires-2 (calls t) (more-or-at t) more-or.Post Inv-loop μ-loop
   test-tail-requires-2 c κs =
-      let h = read-of (c .before .before .before .before .before .before .before .before .parse-and .ensures) (c .before .before .n .given .1) in
+      let h = read-of (c .before .before .before .before .before .before .before .before .all .ensures) (c .before .before .n .given .1) in
       (room 3 (lit≤ tt) (or-behind (c .before .before .before .before .before .before .before .before .before .before .before .before .before .before .before .before .before .before .before .before .before .before .before .before .loop .inv) (here (c .before .before .before .before .before .before .before .before .before .before .before .before .before)) h), read-known sortAnd h)
 
   -- src/lib.rt:209:29
@@ -135,8 +135,8 @@ module _ (t : ℕ) where
 
   -- src/lib.rt:194:5
   pub loop-less : lts.Need-loop-less (calls t) (more-or-at t) more-or.Post Inv-loop μ-loop
-  loop-less c = ready-less (here (c .before .before .before .before .before .before .before .before .before .before .before .before .before .before .before .before .before .before .before .before)) (c .before .before .before .before .before .before .test-tail2 .result) (c .before .before .before .before .before .before .test-tail2 .ensures .at) (read-of (c .before .before .before .before .before .before .before .before .before .before .before .before .before .before .before .parse-and .ensures) (c .before .before .before .before .before .before .before .before .before .n .given .1))
+  loop-less c = ready-less (here (c .before .before .before .before .before .before .before .before .before .before .before .before .before .before .before .before .before .before .before .before)) (c .before .before .before .before .before .before .test-tail2 .result) (c .before .before .before .before .before .before .test-tail2 .ensures .at) (read-of (c .before .before .before .before .before .before .before .before .before .before .before .before .before .before .before .all .ensures) (c .before .before .before .before .before .before .before .before .before .n .given .1))
 
   -- src/lib.rt:194:5
   pub loop-again : lts.Need-loop-again (calls t) (more-or-at t) more-or.Post Inv-loop μ-loop
-  loop-again c = or-more (c .before .before .before .before .before .before .before .before .before .before .before .before .before .before .before .before .before .before .before .before .before .before .before .before .before .before .before .before .before .before .before .loop .inv) (here (c .before .before .before .before .before .before .before .before .before .before .before .before .before .before .before .before .before .before .before .before)) (read-of (c .before .before .before .before .before .before .before .before .before .before .before .before .before .before .before .parse-and .ensures) (c .before .before .before .before .before .before .before .before .before .n .given .1)) (c .before .before .before .before .before .before .test-tail2 .ensures) (c .before .before .put16 .ensures)
+  loop-again c = or-more (c .before .before .before .before .before .before .before .before .before .before .before .before .before .before .before .before .before .before .before .before .before .before .before .before .before .before .before .before .before .before .before .loop .inv) (here (c .before .before .before .before .before .before .before .before .before .before .before .before .before .before .before .before .before .before .before .before)) (read-of (c .before .before .before .before .before .before .before .before .before .before .before .before .before .before .before .all .ensures) (c .before .before .before .before .before .before .before .before .before .n .given .1)) (c .before .before .before .before .before .before .test-tail2 .ensures) (c .before .before .put16 .ensures)

@@ -1,4 +1,4 @@
--- The answers of `segments` in the cycle of calls {basic, behind, bracketed, calls::argument, calls::arguments, calls::chained, calls::function, calls::more_arguments, filter, more_and, more_or, negation, operand, paren, parse_and, parse_or, query, right, segment, segments, selector, selectors}.
+-- The answers of `segments` in the cycle of calls {all, any, basic, behind, bracketed, call::argument, call::arguments, call::chained, call::function, call::more, filter, more_and, more_or, negation, operand, paren, query, right, segment, segments, selector, selectors}.
 use borrow.Author.Needs.{needs}
 use borrow.Author.Tests.{not-true, not-false}
 use native.Mathlib.Omega.{arith}
@@ -6,7 +6,7 @@ use Prim.Native.Nat.{_-_}
 use lib.ListN.{length}
 use Rattle.parser_items.specs.Laws.{read-of, none-of, done-plan, done-pool}
 use Rattle.parser.proofs.Picks.{SegmentsLoop, segments-start, segments-over, segments-begin, segments-stop, segments-again, segment-long}
-use Rattle.parser.proofs.+basic+behind+bracketed+calls-argument+calls-arguments+calls-chained+calls-function+calls-more_arguments+filter+more_and+more_or+negation+operand+paren+parse_and+parse_or+query+right+segment+segments+selector+selectors.Lts-segments as lts
+use Rattle.parser.proofs.+all+any+basic+behind+bracketed+call-argument+call-arguments+call-chained+call-function+call-more+filter+more_and+more_or+negation+operand+paren+query+right+segment+segments+selector+selectors.Lts-segments as lts
 use Prim.Native.Nat.{ℕ}
 use Rattle.parser.proofs.segment.Reads as segment
 use Rattle.parser.proofs.segments.Reads as segments
@@ -14,7 +14,7 @@ use Rattle.parser_items.proofs.begins_segment.Reads as begins-segment-reads
 use Rattle.parser_items.proofs.verdicts.least.Reads as least-reads
 use Rattle.parser_items.proofs.moved.Reads as moved-reads
 use Rattle.parser_scan.proofs.skip_blanks.Reads as skip-blanks-reads
-use Rattle.parser.proofs.+basic+behind+bracketed+calls-argument+calls-arguments+calls-chained+calls-function+calls-more_arguments+filter+more_and+more_or+negation+operand+paren+parse_and+parse_or+query+right+segment+segments+selector+selectors.Proof.Base.{segment-below, segments-at}
+use Rattle.parser.proofs.+all+any+basic+behind+bracketed+call-argument+call-arguments+call-chained+call-function+call-more+filter+more_and+more_or+negation+operand+paren+query+right+segment+segments+selector+selectors.Proof.Base.{segment-below, segments-at}
 
 abbrev pub calls : ℕ → lts.Claims
 calls t = (skip-blanks-reads.Asked, skip-blanks-reads.Learnt, begins-segment-reads.Asked, begins-segment-reads.Learnt, moved-reads.Asked, moved-reads.Learnt, segment-below t, segment.Post, least-reads.Asked, least-reads.Learnt)

@@ -1,4 +1,4 @@
--- The answers of `argument` in the cycle of calls {basic, behind, bracketed, calls::argument, calls::arguments, calls::chained, calls::function, calls::more_arguments, filter, more_and, more_or, negation, operand, paren, parse_and, parse_or, query, right, segment, segments, selector, selectors}.
+-- The answers of `argument` in the cycle of calls {all, any, basic, behind, bracketed, call::argument, call::arguments, call::chained, call::function, call::more, filter, more_and, more_or, negation, operand, paren, query, right, segment, segments, selector, selectors}.
 use borrow.Author.Needs.{needs}
 use Rattle.parser.proofs.Chains.{argument-at-logical, argument-no-operand, argument-at-literal, argument-by-flag, argument-by-operator, argument-at-chain}
 use Rattle.parser.proofs.Operands.{known-operand, asks-operand}
@@ -9,19 +9,19 @@ use native.Mathlib.Omega.{arith}
 use mathlib.Core.Logic.{⊎-elim}
 use mathlib.Core.Path.{refl, ap}
 use lib.ListN.{length}
-use Rattle.parser.proofs.+basic+behind+bracketed+calls-argument+calls-arguments+calls-chained+calls-function+calls-more_arguments+filter+more_and+more_or+negation+operand+paren+parse_and+parse_or+query+right+segment+segments+selector+selectors.Lts-calls-argument as lts
+use Rattle.parser.proofs.+all+any+basic+behind+bracketed+call-argument+call-arguments+call-chained+call-function+call-more+filter+more_and+more_or+negation+operand+paren+query+right+segment+segments+selector+selectors.Lts-call-argument as lts
 use Prim.Native.Nat.{ℕ}
-use Rattle.parser.proofs.calls.argument.Reads as argument
-use Rattle.parser.proofs.calls.chained.Reads as chained
+use Rattle.parser.proofs.call.argument.Reads as argument
+use Rattle.parser.proofs.call.chained.Reads as chained
 use Rattle.parser.proofs.operand.Reads as operand
-use Rattle.parser.proofs.parse_or.Reads as parse-or
+use Rattle.parser.proofs.any.Reads as any
 use Rattle.parser_items.proofs.begins_operator.Reads as begins-operator-reads
 use Rattle.parser_scan.proofs.is.Reads as is-reads
 use Rattle.parser_scan.proofs.skip_blanks.Reads as skip-blanks-reads
-use Rattle.parser.proofs.+basic+behind+bracketed+calls-argument+calls-arguments+calls-chained+calls-function+calls-more_arguments+filter+more_and+more_or+negation+operand+paren+parse_and+parse_or+query+right+segment+segments+selector+selectors.Proof.Base.{argument-at, chained-below, operand-below, parse-or-below}
+use Rattle.parser.proofs.+all+any+basic+behind+bracketed+call-argument+call-arguments+call-chained+call-function+call-more+filter+more_and+more_or+negation+operand+paren+query+right+segment+segments+selector+selectors.Proof.Base.{argument-at, chained-below, operand-below, any-below}
 
 abbrev pub calls : ℕ → lts.Claims
-calls t = (is-reads.Asked, is-reads.Learnt, parse-or-below t, parse-or.Post, operand-below t, operand.Post, skip-blanks-reads.Asked, skip-blanks-reads.Learnt, begins-operator-reads.Asked, begins-operator-reads.Learnt, chained-below t, chained.Post)
+calls t = (is-reads.Asked, is-reads.Learnt, any-below t, any.Post, operand-below t, operand.Post, skip-blanks-reads.Asked, skip-blanks-reads.Learnt, begins-operator-reads.Asked, begins-operator-reads.Learnt, chained-below t, chained.Post)
 
 module _ (t : ℕ) where
   -- src/lib.rt:465:8
@@ -29,20 +29,20 @@ module _ (t : ℕ) where
   is-requires c κs = search needs
 
   -- src/lib.rt:466:25
-  pub sub-parse-or : lts.Need-sub-parse-or (calls t) (argument-at t) argument.Post
-  sub-parse-or c = search needs
+  pub sub-any : lts.Need-sub-any (calls t) (argument-at t) argument.Post
+  sub-any c = search needs
 
   -- src/lib.rt:466:25
-  pub part-parse-or-start : lts.Need-part-parse-or-start (calls t) (argument-at t) argument.Post
-  part-parse-or-start c = search needs
+  pub part-any-start : lts.Need-part-any-start (calls t) (argument-at t) argument.Post
+  part-any-start c = search needs
 
   -- src/lib.rt:466:25
-  pub part-parse-or-end : lts.Need-part-parse-or-end (calls t) (argument-at t) argument.Post
-  part-parse-or-end c = search needs
+  pub part-any-end : lts.Need-part-any-end (calls t) (argument-at t) argument.Post
+  part-any-end c = search needs
 
   -- src/lib.rt:466:9
-  pub parse-or-requires : lts.Need-parse-or-requires (calls t) (argument-at t) argument.Post
-  parse-or-requires c κs = (omega (arith, ap length (whole (c .before .before .before .before .before .before .before .before .args .s .now)), c .before .before .before .before .before .before .before .before .pre .0), asks-whole (whole _) (c .before .before .before .before .before .before .before .before .pre .1))
+  pub any-requires : lts.Need-any-requires (calls t) (argument-at t) argument.Post
+  any-requires c κs = (omega (arith, ap length (whole (c .before .before .before .before .before .before .before .before .args .s .now)), c .before .before .before .before .before .before .before .before .pre .0), asks-whole (whole _) (c .before .before .before .before .before .before .before .before .pre .1))
 
   -- src/lib.rt:466:9
   pub same-length : lts.Need-same-length (calls t) (argument-at t) argument.Post
@@ -54,27 +54,27 @@ module _ (t : ℕ) where
 
   -- src/lib.rt:466:9
   pub returns : lts.Need-returns (calls t) (argument-at t) argument.Post
-  returns c = argument-at-logical refl (rw (c .before .before .before .before .before .before .before .before .if1 .taken) at (c .before .before .before .before .before .before .before .before .before .is .ensures)) (post-whole (whole _) (c .before .before .before .before .parse-or .ensures))
+  returns c = argument-at-logical refl (rw (c .before .before .before .before .before .before .before .before .if1 .taken) at (c .before .before .before .before .before .before .before .before .before .is .ensures)) (post-whole (whole _) (c .before .before .before .before .any .ensures))
 
   -- src/lib.rt:468:8
   pub is-requires-2 : lts.Need-is-requires-2 (calls t) (argument-at t) argument.Post
   is-requires-2 c κs = search needs
 
   -- src/lib.rt:469:25
-  pub sub-parse-or-2 : lts.Need-sub-parse-or-2 (calls t) (argument-at t) argument.Post
-  sub-parse-or-2 c = search needs
+  pub sub-any-2 : lts.Need-sub-any-2 (calls t) (argument-at t) argument.Post
+  sub-any-2 c = search needs
 
   -- src/lib.rt:469:25
-  pub part-parse-or-start-2 : lts.Need-part-parse-or-start-2 (calls t) (argument-at t) argument.Post
-  part-parse-or-start-2 c = search needs
+  pub part-any-start-2 : lts.Need-part-any-start-2 (calls t) (argument-at t) argument.Post
+  part-any-start-2 c = search needs
 
   -- src/lib.rt:469:25
-  pub part-parse-or-end-2 : lts.Need-part-parse-or-end-2 (calls t) (argument-at t) argument.Post
-  part-parse-or-end-2 c = search needs
+  pub part-any-end-2 : lts.Need-part-any-end-2 (calls t) (argument-at t) argument.Post
+  part-any-end-2 c = search needs
 
   -- src/lib.rt:469:9
-  pub parse-or-requires-2 : lts.Need-parse-or-requires-2 (calls t) (argument-at t) argument.Post
-  parse-or-requires-2 c κs = (omega (arith, ap length (whole (c .before .before .before .before .before .before .before .before .before .before .args .s .now)), c .before .before .before .before .before .before .before .before .before .before .pre .0), asks-whole (whole _) (c .before .before .before .before .before .before .before .before .before .before .pre .1))
+  pub any-requires-2 : lts.Need-any-requires-2 (calls t) (argument-at t) argument.Post
+  any-requires-2 c κs = (omega (arith, ap length (whole (c .before .before .before .before .before .before .before .before .before .before .args .s .now)), c .before .before .before .before .before .before .before .before .before .before .pre .0), asks-whole (whole _) (c .before .before .before .before .before .before .before .before .before .before .pre .1))
 
   -- src/lib.rt:469:9
   pub same-length-3 : lts.Need-same-length-3 (calls t) (argument-at t) argument.Post
@@ -86,7 +86,7 @@ module _ (t : ℕ) where
 
   -- src/lib.rt:469:9
   pub returns-2 : lts.Need-returns-2 (calls t) (argument-at t) argument.Post
-  returns-2 c = argument-at-logical refl (rw (c .before .before .before .before .before .before .before .before .if2 .taken) at (c .before .before .before .before .before .before .before .before .before .is2 .ensures)) (post-whole (whole _) (c .before .before .before .before .parse-or2 .ensures))
+  returns-2 c = argument-at-logical refl (rw (c .before .before .before .before .before .before .before .before .if2 .taken) at (c .before .before .before .before .before .before .before .before .before .is2 .ensures)) (post-whole (whole _) (c .before .before .before .before .any2 .ensures))
 
   -- src/lib.rt:471:21
   pub sub-operand : lts.Need-sub-operand (calls t) (argument-at t) argument.Post

@@ -1,4 +1,4 @@
--- The answers of `selectors` in the cycle of calls {basic, behind, bracketed, calls::argument, calls::arguments, calls::chained, calls::function, calls::more_arguments, filter, more_and, more_or, negation, operand, paren, parse_and, parse_or, query, right, segment, segments, selector, selectors}.
+-- The answers of `selectors` in the cycle of calls {all, any, basic, behind, bracketed, call::argument, call::arguments, call::chained, call::function, call::more, filter, more_and, more_or, negation, operand, paren, query, right, segment, segments, selector, selectors}.
 use borrow.Author.Needs.{needs}
 use borrow.Author.Tests.{not-true, not-false}
 use native.Mathlib.Omega.{arith}
@@ -6,14 +6,14 @@ use Prim.Native.Nat.{_-_}
 use lib.ListN.{length}
 use Rattle.parser_items.specs.Laws.{loose-of, loose-none-of, done-plan, done-pool}
 use Rattle.parser.proofs.Lists.{SelectorsLoop, selectors-start, selectors-over, selectors-begin, selectors-stop, selectors-again}
-use Rattle.parser.proofs.+basic+behind+bracketed+calls-argument+calls-arguments+calls-chained+calls-function+calls-more_arguments+filter+more_and+more_or+negation+operand+paren+parse_and+parse_or+query+right+segment+segments+selector+selectors.Lts-selectors as lts
+use Rattle.parser.proofs.+all+any+basic+behind+bracketed+call-argument+call-arguments+call-chained+call-function+call-more+filter+more_and+more_or+negation+operand+paren+query+right+segment+segments+selector+selectors.Lts-selectors as lts
 use Prim.Native.Nat.{ℕ}
 use Rattle.parser.proofs.selector.Reads as selector
 use Rattle.parser.proofs.selectors.Reads as selectors
 use Rattle.parser_items.proofs.moved.Reads as moved-reads
 use Rattle.parser_scan.proofs.is.Reads as is-reads
 use Rattle.parser_scan.proofs.skip_blanks.Reads as skip-blanks-reads
-use Rattle.parser.proofs.+basic+behind+bracketed+calls-argument+calls-arguments+calls-chained+calls-function+calls-more_arguments+filter+more_and+more_or+negation+operand+paren+parse_and+parse_or+query+right+segment+segments+selector+selectors.Proof.Base.{selector-below, selectors-at}
+use Rattle.parser.proofs.+all+any+basic+behind+bracketed+call-argument+call-arguments+call-chained+call-function+call-more+filter+more_and+more_or+negation+operand+paren+query+right+segment+segments+selector+selectors.Proof.Base.{selector-below, selectors-at}
 
 abbrev pub calls : ℕ → lts.Claims
 calls t = (skip-blanks-reads.Asked, skip-blanks-reads.Learnt, is-reads.Asked, is-reads.Learnt, moved-reads.Asked, moved-reads.Learnt, selector-below t, selector.Post)

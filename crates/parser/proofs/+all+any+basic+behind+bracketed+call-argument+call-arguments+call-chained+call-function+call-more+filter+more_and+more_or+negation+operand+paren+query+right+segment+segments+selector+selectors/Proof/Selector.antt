@@ -1,15 +1,15 @@
--- The answers of `selector` in the cycle of calls {basic, behind, bracketed, calls::argument, calls::arguments, calls::chained, calls::function, calls::more_arguments, filter, more_and, more_or, negation, operand, paren, parse_and, parse_or, query, right, segment, segments, selector, selectors}.
+-- The answers of `selector` in the cycle of calls {all, any, basic, behind, bracketed, call::argument, call::arguments, call::chained, call::function, call::more, filter, more_and, more_or, negation, operand, paren, query, right, segment, segments, selector, selectors}.
 use borrow.Author.Needs.{needs}
 use native.Mathlib.Omega.{arith}
 use Rattle.parser.proofs.Picks.{asks-byte, selector-by-filter, selector-by-plain}
-use Rattle.parser.proofs.+basic+behind+bracketed+calls-argument+calls-arguments+calls-chained+calls-function+calls-more_arguments+filter+more_and+more_or+negation+operand+paren+parse_and+parse_or+query+right+segment+segments+selector+selectors.Lts-selector as lts
+use Rattle.parser.proofs.+all+any+basic+behind+bracketed+call-argument+call-arguments+call-chained+call-function+call-more+filter+more_and+more_or+negation+operand+paren+query+right+segment+segments+selector+selectors.Lts-selector as lts
 use Prim.Native.Nat.{ℕ}
 use Rattle.parser.proofs.filter.Reads as filter
 use Rattle.parser.proofs.selector.Reads as selector
 use Rattle.parser_items.proofs.moved.Reads as moved-reads
 use Rattle.parser_items.proofs.write_selector.Reads as write-selector-reads
 use Rattle.parser_scan.proofs.is.Reads as is-reads
-use Rattle.parser.proofs.+basic+behind+bracketed+calls-argument+calls-arguments+calls-chained+calls-function+calls-more_arguments+filter+more_and+more_or+negation+operand+paren+parse_and+parse_or+query+right+segment+segments+selector+selectors.Proof.Base.{filter-below, selector-at}
+use Rattle.parser.proofs.+all+any+basic+behind+bracketed+call-argument+call-arguments+call-chained+call-function+call-more+filter+more_and+more_or+negation+operand+paren+query+right+segment+segments+selector+selectors.Proof.Base.{filter-below, selector-at}
 
 abbrev pub calls : ℕ → lts.Claims
 calls t = (is-reads.Asked, is-reads.Learnt, moved-reads.Asked, moved-reads.Learnt, filter-below t, filter.Post, write-selector-reads.Asked, write-selector-reads.Learnt)

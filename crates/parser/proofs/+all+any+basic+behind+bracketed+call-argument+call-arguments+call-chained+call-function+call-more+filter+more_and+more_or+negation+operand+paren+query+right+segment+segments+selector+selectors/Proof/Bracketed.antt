@@ -1,10 +1,10 @@
--- The answers of `bracketed` in the cycle of calls {basic, behind, bracketed, calls::argument, calls::arguments, calls::chained, calls::function, calls::more_arguments, filter, more_and, more_or, negation, operand, paren, parse_and, parse_or, query, right, segment, segments, selector, selectors}.
+-- The answers of `bracketed` in the cycle of calls {all, any, basic, behind, bracketed, call::argument, call::arguments, call::chained, call::function, call::more, filter, more_and, more_or, negation, operand, paren, query, right, segment, segments, selector, selectors}.
 use borrow.Author.Needs.{needs}
 use borrow.Author.Tests.{not-true, not-false}
 use native.Mathlib.Omega.{arith}
 use Rattle.parser_items.specs.Laws.{loose-of, loose-none-of}
 use Rattle.parser.proofs.Lists.{brackets-none, brackets-room, brackets-begin, brackets-stop, brackets-more, brackets-stop-more, brackets-few, brackets-plan, brackets-pool, brackets-written, brackets-open, brackets-length, brackets-read}
-use Rattle.parser.proofs.+basic+behind+bracketed+calls-argument+calls-arguments+calls-chained+calls-function+calls-more_arguments+filter+more_and+more_or+negation+operand+paren+parse_and+parse_or+query+right+segment+segments+selector+selectors.Lts-bracketed as lts
+use Rattle.parser.proofs.+all+any+basic+behind+bracketed+call-argument+call-arguments+call-chained+call-function+call-more+filter+more_and+more_or+negation+operand+paren+query+right+segment+segments+selector+selectors.Lts-bracketed as lts
 use Prim.Native.Nat.{ℕ}
 use Rattle.parser.proofs.bracketed.Reads as bracketed
 use Rattle.parser.proofs.selector.Reads as selector
@@ -15,7 +15,7 @@ use Rattle.parser_items.proofs.opened.Reads as opened-reads
 use Rattle.parser_scan.proofs.is.Reads as is-reads
 use Rattle.parser_scan.proofs.skip_blanks.Reads as skip-blanks-reads
 use Rattle.text.proofs.bytes.put16.Reads as put16-reads
-use Rattle.parser.proofs.+basic+behind+bracketed+calls-argument+calls-arguments+calls-chained+calls-function+calls-more_arguments+filter+more_and+more_or+negation+operand+paren+parse_and+parse_or+query+right+segment+segments+selector+selectors.Proof.Base.{bracketed-at, selector-below, selectors-below}
+use Rattle.parser.proofs.+all+any+basic+behind+bracketed+call-argument+call-arguments+call-chained+call-function+call-more+filter+more_and+more_or+negation+operand+paren+query+right+segment+segments+selector+selectors.Proof.Base.{bracketed-at, selector-below, selectors-below}
 
 abbrev pub calls : ℕ → lts.Claims
 calls t = (is-reads.Asked, is-reads.Learnt, skip-blanks-reads.Asked, skip-blanks-reads.Learnt, moved-reads.Asked, moved-reads.Learnt, opened-reads.Asked, opened-reads.Learnt, selector-below t, selector.Post, selectors-below t, selectors.Post, put16-reads.Asked, put16-reads.Learnt, brackets-flag-reads.Asked, brackets-flag-reads.Learnt)

@@ -1,13 +1,13 @@
--- The answers of `arguments` in the cycle of calls {basic, behind, bracketed, calls::argument, calls::arguments, calls::chained, calls::function, calls::more_arguments, filter, more_and, more_or, negation, operand, paren, parse_and, parse_or, query, right, segment, segments, selector, selectors}.
+-- The answers of `arguments` in the cycle of calls {all, any, basic, behind, bracketed, call::argument, call::arguments, call::chained, call::function, call::more, filter, more_and, more_or, negation, operand, paren, query, right, segment, segments, selector, selectors}.
 use borrow.Author.Needs.{needs}
-use Rattle.parser.proofs.+basic+behind+bracketed+calls-argument+calls-arguments+calls-chained+calls-function+calls-more_arguments+filter+more_and+more_or+negation+operand+paren+parse_and+parse_or+query+right+segment+segments+selector+selectors.Lts-calls-arguments as lts
+use Rattle.parser.proofs.+all+any+basic+behind+bracketed+call-argument+call-arguments+call-chained+call-function+call-more+filter+more_and+more_or+negation+operand+paren+query+right+segment+segments+selector+selectors.Lts-call-arguments as lts
 use Prim.Native.Nat.{ℕ}
-use Rattle.parser.proofs.calls.argument.Reads as argument
-use Rattle.parser.proofs.calls.arguments.Reads as arguments
-use Rattle.parser.proofs.calls.more_arguments.Reads as more-arguments
+use Rattle.parser.proofs.call.argument.Reads as argument
+use Rattle.parser.proofs.call.arguments.Reads as arguments
+use Rattle.parser.proofs.call.more.Reads as more
 use Rattle.parser_items.proofs.verdicts.one_more.Reads as one-more-reads
 use Rattle.parser_scan.proofs.is.Reads as is-reads
-use Rattle.parser.proofs.+basic+behind+bracketed+calls-argument+calls-arguments+calls-chained+calls-function+calls-more_arguments+filter+more_and+more_or+negation+operand+paren+parse_and+parse_or+query+right+segment+segments+selector+selectors.Proof.Base.{argument-below, arguments-at, more-arguments-below}
+use Rattle.parser.proofs.+all+any+basic+behind+bracketed+call-argument+call-arguments+call-chained+call-function+call-more+filter+more_and+more_or+negation+operand+paren+query+right+segment+segments+selector+selectors.Proof.Base.{argument-below, arguments-at, more-below}
 use native.Mathlib.Omega.{arith}
 use lib.Dec.{lit≤}
 use Rattle.compile_writes.specs.Sorts.{sortArgument}
@@ -18,7 +18,7 @@ use Rattle.parser.proofs.Logic.{read-small}
 use Rattle.parser.proofs.Enclosed.{arguments-nothing, asks-argument, arguments-post}
 
 abbrev pub calls : ℕ → lts.Claims
-calls t = (is-reads.Asked, is-reads.Learnt, argument-below t, argument.Post, one-more-reads.Asked, one-more-reads.Learnt, more-arguments-below t, more-arguments.Post)
+calls t = (is-reads.Asked, is-reads.Learnt, argument-below t, argument.Post, one-more-reads.Asked, one-more-reads.Learnt, more-below t, more.Post)
 
 module _ (t : ℕ) where
   -- src/lib.rt:425:8
@@ -58,8 +58,8 @@ module _ (t : ℕ) where
   one-more-requires c κs = (lit≤ tt, read-small sortArgument (read-of (c .before .before .before .before .before .before .before .before .before .argument .ensures) (c .before .before .before .r .given .1)))
 
   -- src/lib.rt:432:5
-  pub more-arguments-requires : lts.Need-more-arguments-requires (calls t) (arguments-at t) arguments.Post
-  more-arguments-requires c κs =
+  pub more-requires : lts.Need-more-requires (calls t) (arguments-at t) arguments.Post
+  more-requires c κs =
       let h = read-of (c .before .before .before .before .before .before .before .before .before .before .argument .ensures) (c .before .before .before .before .r .given .1) in
       (omega (arith, h .from, (c .before .before .before .before .before .before .before .before .before .before .before .before .before .before .before .before .before .before .pre .0)), (asks-argument h (c .before .before .before .before .before .before .before .before .before .before .before .before .before .before .before .before .before .before .pre .1 .0), (c .one-more .ensures .1)))
 
@@ -73,4 +73,4 @@ module _ (t : ℕ) where
 
   -- src/lib.rt:420:1
   pub returns-3 : lts.Need-returns-3 (calls t) (arguments-at t) arguments.Post
-  returns-3 c = arguments-post (read-of (c .before .before .before .before .before .before .before .before .before .before .before .before .before .before .before .argument .ensures) (c .before .before .before .before .before .before .before .before .before .r .given .1)) (c .before .before .before .before .before .one-more .ensures) (c .before .before .before .before .more-arguments .ensures)
+  returns-3 c = arguments-post (read-of (c .before .before .before .before .before .before .before .before .before .before .before .before .before .before .before .argument .ensures) (c .before .before .before .before .before .before .before .before .before .r .given .1)) (c .before .before .before .before .before .one-more .ensures) (c .before .before .before .before .more .ensures)

@@ -1,6 +1,6 @@
--- The answers of `more_and` in the cycle of calls {basic, behind, bracketed, calls::argument, calls::arguments, calls::chained, calls::function, calls::more_arguments, filter, more_and, more_or, negation, operand, paren, parse_and, parse_or, query, right, segment, segments, selector, selectors}.
+-- The answers of `more_and` in the cycle of calls {all, any, basic, behind, bracketed, call::argument, call::arguments, call::chained, call::function, call::more, filter, more_and, more_or, negation, operand, paren, query, right, segment, segments, selector, selectors}.
 use borrow.Author.Needs.{needs}
-use Rattle.parser.proofs.+basic+behind+bracketed+calls-argument+calls-arguments+calls-chained+calls-function+calls-more_arguments+filter+more_and+more_or+negation+operand+paren+parse_and+parse_or+query+right+segment+segments+selector+selectors.Lts-more_and as lts
+use Rattle.parser.proofs.+all+any+basic+behind+bracketed+call-argument+call-arguments+call-chained+call-function+call-more+filter+more_and+more_or+negation+operand+paren+query+right+segment+segments+selector+selectors.Lts-more_and as lts
 use Prim.Native.Nat.{ℕ}
 use Rattle.parser.proofs.basic.Reads as basic
 use Rattle.parser.proofs.more_and.Reads as more-and
@@ -12,7 +12,7 @@ use Rattle.parser_items.proofs.test_tail.Reads as test-tail-reads
 use Rattle.parser_scan.proofs.both.Reads as both-reads
 use Rattle.parser_scan.proofs.skip_blanks.Reads as skip-blanks-reads
 use Rattle.text.proofs.bytes.put16.Reads as put16-reads
-use Rattle.parser.proofs.+basic+behind+bracketed+calls-argument+calls-arguments+calls-chained+calls-function+calls-more_arguments+filter+more_and+more_or+negation+operand+paren+parse_and+parse_or+query+right+segment+segments+selector+selectors.Proof.Base.{basic-below, more-and-at}
+use Rattle.parser.proofs.+all+any+basic+behind+bracketed+call-argument+call-arguments+call-chained+call-function+call-more+filter+more_and+more_or+negation+operand+paren+query+right+segment+segments+selector+selectors.Proof.Base.{basic-below, more-and-at}
 use mathlib.Core.Path.{_∙_}
 use Prim.Native.Nat.{_-_}
 use native.Mathlib.Omega.{arith}

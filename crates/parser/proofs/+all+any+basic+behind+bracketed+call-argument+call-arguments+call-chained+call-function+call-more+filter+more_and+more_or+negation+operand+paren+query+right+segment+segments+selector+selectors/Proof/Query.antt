@@ -1,17 +1,17 @@
--- The answers of `query` in the cycle of calls {basic, behind, bracketed, calls::argument, calls::arguments, calls::chained, calls::function, calls::more_arguments, filter, more_and, more_or, negation, operand, paren, parse_and, parse_or, query, right, segment, segments, selector, selectors}.
+-- The answers of `query` in the cycle of calls {all, any, basic, behind, bracketed, call::argument, call::arguments, call::chained, call::function, call::more, filter, more_and, more_or, negation, operand, paren, query, right, segment, segments, selector, selectors}.
 use borrow.Author.Needs.{needs}
 use Rattle.parser.proofs.Operands.{told-segments, segments-room, query-none, query-read}
 use Rattle.parser.proofs.Steps.{asks-put}
 use Rattle.parser_items.specs.Laws.{read-of, none-of}
 use Rattle.parser_items.specs.Reads.{next}
 use native.Mathlib.Omega.{arith}
-use Rattle.parser.proofs.+basic+behind+bracketed+calls-argument+calls-arguments+calls-chained+calls-function+calls-more_arguments+filter+more_and+more_or+negation+operand+paren+parse_and+parse_or+query+right+segment+segments+selector+selectors.Lts-query as lts
+use Rattle.parser.proofs.+all+any+basic+behind+bracketed+call-argument+call-arguments+call-chained+call-function+call-more+filter+more_and+more_or+negation+operand+paren+query+right+segment+segments+selector+selectors.Lts-query as lts
 use Prim.Native.Nat.{ℕ}
 use Rattle.parser.proofs.query.Reads as query
 use Rattle.parser.proofs.segments.Reads as segments
 use Rattle.parser_items.proofs.item.Reads as item-reads
 use Rattle.parser_items.proofs.verdicts.query_flag.Reads as query-flag-reads
-use Rattle.parser.proofs.+basic+behind+bracketed+calls-argument+calls-arguments+calls-chained+calls-function+calls-more_arguments+filter+more_and+more_or+negation+operand+paren+parse_and+parse_or+query+right+segment+segments+selector+selectors.Proof.Base.{query-at, segments-below}
+use Rattle.parser.proofs.+all+any+basic+behind+bracketed+call-argument+call-arguments+call-chained+call-function+call-more+filter+more_and+more_or+negation+operand+paren+query+right+segment+segments+selector+selectors.Proof.Base.{query-at, segments-below}
 
 abbrev pub calls : ℕ → lts.Claims
 calls t = (item-reads.Asked, item-reads.Learnt, segments-below t, segments.Post, query-flag-reads.Asked, query-flag-reads.Learnt)

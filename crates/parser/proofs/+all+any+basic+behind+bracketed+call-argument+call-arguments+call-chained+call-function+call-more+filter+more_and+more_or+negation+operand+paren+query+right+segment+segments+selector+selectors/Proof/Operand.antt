@@ -1,13 +1,13 @@
--- The answers of `operand` in the cycle of calls {basic, behind, bracketed, calls::argument, calls::arguments, calls::chained, calls::function, calls::more_arguments, filter, more_and, more_or, negation, operand, paren, parse_and, parse_or, query, right, segment, segments, selector, selectors}.
+-- The answers of `operand` in the cycle of calls {all, any, basic, behind, bracketed, call::argument, call::arguments, call::chained, call::function, call::more, filter, more_and, more_or, negation, operand, paren, query, right, segment, segments, selector, selectors}.
 use borrow.Author.Needs.{needs}
 use Rattle.parser.proofs.Operands.{asks-byte, asks-call, word-room, operand-at-current, operand-at-root, operand-at-call, operand-at-keyword, operand-at-constant}
 use Rattle.parser_items.specs.Laws.{word-of, no-word-of, whole, asks-whole, post-whole}
 use mathlib.Core.Path.{ap}
 use lib.ListN.{length}
 use native.Mathlib.Omega.{arith}
-use Rattle.parser.proofs.+basic+behind+bracketed+calls-argument+calls-arguments+calls-chained+calls-function+calls-more_arguments+filter+more_and+more_or+negation+operand+paren+parse_and+parse_or+query+right+segment+segments+selector+selectors.Lts-operand as lts
+use Rattle.parser.proofs.+all+any+basic+behind+bracketed+call-argument+call-arguments+call-chained+call-function+call-more+filter+more_and+more_or+negation+operand+paren+query+right+segment+segments+selector+selectors.Lts-operand as lts
 use Prim.Native.Nat.{ℕ}
-use Rattle.parser.proofs.calls.function.Reads as function
+use Rattle.parser.proofs.call.function.Reads as function
 use Rattle.parser.proofs.operand.Reads as operand
 use Rattle.parser.proofs.query.Reads as query
 use Rattle.parser_items.proofs.moved.Reads as moved-reads
@@ -16,7 +16,7 @@ use Rattle.parser_items.proofs.write_literal.Reads as write-literal-reads
 use Rattle.parser_scan.proofs.is.Reads as is-reads
 use Rattle.parser_scan.proofs.named_at.Reads as named-at-reads
 use Rattle.parser_scan.proofs.read_word.Reads as read-word-reads
-use Rattle.parser.proofs.+basic+behind+bracketed+calls-argument+calls-arguments+calls-chained+calls-function+calls-more_arguments+filter+more_and+more_or+negation+operand+paren+parse_and+parse_or+query+right+segment+segments+selector+selectors.Proof.Base.{function-below, operand-at, query-below}
+use Rattle.parser.proofs.+all+any+basic+behind+bracketed+call-argument+call-arguments+call-chained+call-function+call-more+filter+more_and+more_or+negation+operand+paren+query+right+segment+segments+selector+selectors.Proof.Base.{function-below, operand-at, query-below}
 
 abbrev pub calls : ℕ → lts.Claims
 calls t = (is-reads.Asked, is-reads.Learnt, moved-reads.Asked, moved-reads.Learnt, query-below t, query.Post, read-word-reads.Asked, read-word-reads.Learnt, write-literal-reads.Asked, write-literal-reads.Learnt, named-at-reads.Asked, named-at-reads.Learnt, function-below t, function.Post, write-keyword-reads.Asked, write-keyword-reads.Learnt)

@@ -1,11 +1,11 @@
--- The answers of `basic` in the cycle of calls {basic, behind, bracketed, calls::argument, calls::arguments, calls::chained, calls::function, calls::more_arguments, filter, more_and, more_or, negation, operand, paren, parse_and, parse_or, query, right, segment, segments, selector, selectors}.
+-- The answers of `basic` in the cycle of calls {all, any, basic, behind, bracketed, call::argument, call::arguments, call::chained, call::function, call::more, filter, more_and, more_or, negation, operand, paren, query, right, segment, segments, selector, selectors}.
 use borrow.Author.Needs.{needs}
 use Rattle.parser.proofs.Basics.{basic-at-paren, basic-at-negation, basic-no-operand, basic-at-operand}
 use Rattle.parser.proofs.Operands.{known-operand, asks-operand, asks-byte, opens}
 use Rattle.parser_items.specs.Laws.{read-of, none-of}
 use native.Mathlib.Omega.{arith}
 use mathlib.Core.Path.{refl}
-use Rattle.parser.proofs.+basic+behind+bracketed+calls-argument+calls-arguments+calls-chained+calls-function+calls-more_arguments+filter+more_and+more_or+negation+operand+paren+parse_and+parse_or+query+right+segment+segments+selector+selectors.Lts-basic as lts
+use Rattle.parser.proofs.+all+any+basic+behind+bracketed+call-argument+call-arguments+call-chained+call-function+call-more+filter+more_and+more_or+negation+operand+paren+query+right+segment+segments+selector+selectors.Lts-basic as lts
 use Prim.Native.Nat.{ℕ}
 use Rattle.parser.proofs.basic.Reads as basic
 use Rattle.parser.proofs.behind.Reads as behind
@@ -14,7 +14,7 @@ use Rattle.parser.proofs.operand.Reads as operand
 use Rattle.parser.proofs.paren.Reads as paren
 use Rattle.parser_items.proofs.moved.Reads as moved-reads
 use Rattle.parser_scan.proofs.is.Reads as is-reads
-use Rattle.parser.proofs.+basic+behind+bracketed+calls-argument+calls-arguments+calls-chained+calls-function+calls-more_arguments+filter+more_and+more_or+negation+operand+paren+parse_and+parse_or+query+right+segment+segments+selector+selectors.Proof.Base.{basic-at, behind-below, negation-below, operand-below, paren-below}
+use Rattle.parser.proofs.+all+any+basic+behind+bracketed+call-argument+call-arguments+call-chained+call-function+call-more+filter+more_and+more_or+negation+operand+paren+query+right+segment+segments+selector+selectors.Proof.Base.{basic-at, behind-below, negation-below, operand-below, paren-below}
 
 abbrev pub calls : ℕ → lts.Claims
 calls t = (is-reads.Asked, is-reads.Learnt, paren-below t, paren.Post, moved-reads.Asked, moved-reads.Learnt, negation-below t, negation.Post, operand-below t, operand.Post, behind-below t, behind.Post)

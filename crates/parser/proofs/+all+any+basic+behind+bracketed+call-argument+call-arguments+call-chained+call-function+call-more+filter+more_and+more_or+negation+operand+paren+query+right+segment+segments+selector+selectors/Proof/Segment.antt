@@ -1,8 +1,8 @@
--- The answers of `segment` in the cycle of calls {basic, behind, bracketed, calls::argument, calls::arguments, calls::chained, calls::function, calls::more_arguments, filter, more_and, more_or, negation, operand, paren, parse_and, parse_or, query, right, segment, segments, selector, selectors}.
+-- The answers of `segment` in the cycle of calls {all, any, basic, behind, bracketed, call::argument, call::arguments, call::chained, call::function, call::more, filter, more_and, more_or, negation, operand, paren, query, right, segment, segments, selector, selectors}.
 use borrow.Author.Needs.{needs}
 use native.Mathlib.Omega.{arith}
 use Rattle.parser.proofs.Picks.{asks-byte, asks-both, segment-by-dots-brackets, segment-by-dots, segment-by-dot, segment-by-brackets}
-use Rattle.parser.proofs.+basic+behind+bracketed+calls-argument+calls-arguments+calls-chained+calls-function+calls-more_arguments+filter+more_and+more_or+negation+operand+paren+parse_and+parse_or+query+right+segment+segments+selector+selectors.Lts-segment as lts
+use Rattle.parser.proofs.+all+any+basic+behind+bracketed+call-argument+call-arguments+call-chained+call-function+call-more+filter+more_and+more_or+negation+operand+paren+query+right+segment+segments+selector+selectors.Lts-segment as lts
 use Prim.Native.Nat.{ℕ}
 use Rattle.parser.proofs.bracketed.Reads as bracketed
 use Rattle.parser.proofs.segment.Reads as segment
@@ -11,7 +11,7 @@ use Rattle.parser_items.proofs.moved.Reads as moved-reads
 use Rattle.parser_items.proofs.write_dotted.Reads as write-dotted-reads
 use Rattle.parser_scan.proofs.both.Reads as both-reads
 use Rattle.parser_scan.proofs.is.Reads as is-reads
-use Rattle.parser.proofs.+basic+behind+bracketed+calls-argument+calls-arguments+calls-chained+calls-function+calls-more_arguments+filter+more_and+more_or+negation+operand+paren+parse_and+parse_or+query+right+segment+segments+selector+selectors.Proof.Base.{bracketed-below, segment-at}
+use Rattle.parser.proofs.+all+any+basic+behind+bracketed+call-argument+call-arguments+call-chained+call-function+call-more+filter+more_and+more_or+negation+operand+paren+query+right+segment+segments+selector+selectors.Proof.Base.{bracketed-below, segment-at}
 
 abbrev pub calls : ℕ → lts.Claims
 calls t = (both-reads.Asked, both-reads.Learnt, is-reads.Asked, is-reads.Learnt, moved-reads.Asked, moved-reads.Learnt, bracketed-below t, bracketed.Post, lowered-reads.Asked, lowered-reads.Learnt, write-dotted-reads.Asked, write-dotted-reads.Learnt)

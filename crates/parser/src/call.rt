@@ -8,11 +8,11 @@ ghost use lib.ListN.{drop};
 ghost use Rattle.parser_follow.specs.Follow.{unblank};
 ghost use Rattle.parser_items.specs.Reads.{Asks, Post, sortNumber, argumentsFrom, Known};
 ghost use Rattle.parser_follow.specs.Pieces.{spellCall, writeCall, callSort, spellChainedOf, writeChainedOf, chainedOfSort};
+use crate::any;
 use crate::behind;
 use crate::more_and;
 use crate::more_or;
 use crate::operand;
-use crate::parse_or;
 use parser_items::Cursor;
 use parser_items::Step;
 use parser_items::begins_operator;
@@ -59,11 +59,11 @@ pub fn arguments(s: &[u8], plan: &mut [u8], pool: &mut [u8], st: Cursor) -> Step
     let Step::Next(n, sort) = r else {
         return r;
     };
-    more_arguments(s, plan, pool, n, one_more(0, sort))
+    more(s, plan, pool, n, one_more(0, sort))
 }
 
 // *( S "," S function-argument ), behind arguments of the given sorts
-pub fn more_arguments(s: &[u8], plan: &mut [u8], pool: &mut [u8], st: Cursor, sorts: usize) -> Step
+pub fn more(s: &[u8], plan: &mut [u8], pool: &mut [u8], st: Cursor, sorts: usize) -> Step
     requires { ⌜ Asks 0 (now s) (now plan) (now pool) st × (sorts ≤ 31) ⌝ }
     ensures { λ r. ⌜ Post spellMoreArguments writeMoreArguments (λ t. argumentsFrom sorts (sortsMore t)) 5 (now (s .entry)) (now (plan .entry)) (now (plan .exit)) (now (pool .entry)) (now (pool .exit)) st r ⌝ }
 {
@@ -93,10 +93,10 @@ pub fn argument(s: &[u8], plan: &mut [u8], pool: &mut [u8], st: Cursor) -> Step
 {
     let at = st.at;
     if is(s, at, b'(') {
-        return parse_or(&s[0..], plan, pool, st, false);
+        return any(&s[0..], plan, pool, st, false);
     }
     if is(s, at, b'!') {
-        return parse_or(&s[0..], plan, pool, st, false);
+        return any(&s[0..], plan, pool, st, false);
     }
     let r = operand(&s[0..], plan, pool, st);
     let Step::Next(n, flag) = r else {
