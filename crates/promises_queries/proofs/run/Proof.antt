@@ -1,8 +1,8 @@
 -- The contract of `run` below leaves one outcome, since a plan and a pool spell one form at most. Assumes nothing.
 use borrow.Author.Needs.{needs}
 use Rattle.promises_stated.specs.Running.{runs-settled}
-use Rattle.promises.proofs.run.Statement.{statement}
-use Rattle.promises.proofs.run.Tie as tie
+use Rattle.promises_queries.proofs.run.Statement.{statement}
+use Rattle.promises_queries.proofs.run.Tie as tie
 
 run-requires : tie.Need-run-requires
 run-requires c κs = search needs
