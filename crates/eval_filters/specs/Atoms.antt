@@ -28,7 +28,7 @@ use Rattle.eval_items.specs.LeafLaws.{name-asked, name-found}
 use Rattle.eval_front.specs.Visits.{Query, Given, Head, AskReach, DoneReach}
 use Rattle.eval_front.specs.Loops.{InReach}
 use Rattle.eval_front.specs.Heads.{name-ends}
-use Rattle.eval_front.specs.Fronts.{single, along-start, one-asked, reach-lost, reach-next, reach-found}
+use Rattle.eval_front.specs.Fronts.{never, single, along-start, one-asked, reach-lost, reach-next, reach-found}
 use Rattle.eval_front.specs.declared.Reached.{Reached}
 use Rattle.eval_filters.specs.Queries.{Within, begins-node, found-lost}
 use Rattle.eval_filters.specs.Tests.{Left, AskShort, DoneShort, AskAgainst, DoneAgainst, AskNode, DoneNode, DonePlain, plain-one, short-tested, short-asked, short-compared, against-value, against-nothing, against-node, short-query}
@@ -36,9 +36,6 @@ use Rattle.eval_filters.specs.declared.Told.{Told}
 use Rattle.eval_filters.specs.declared.Nodes.{Nodes}
 use Rattle.eval_filters.specs.declared.atoms.Atom.{Atom}
 use Rattle.eval_filters.specs.declared.atoms.Behind.{Behind}
-
-never : false ≡ true → ⊥
-never e = let n : _≡_ {A = ℕ} 0 1 = cc in omega arith
 
 -- an answer that is told, and the place behind
 abbrev pub tells : Bits → ℕ → Told

@@ -37,7 +37,8 @@ use Rattle.eval_front.specs.Turns.{visit-lost, visit-end}
 use Rattle.eval_front.specs.declared.Visited.{Visited}
 use Rattle.eval_front.specs.declared.Stop.{Stop}
 use Rattle.eval_filters.specs.Queries.{Within, begins-node}
-use Rattle.eval_filters.specs.Tests.{Left, AskShort, DoneShort, AskLogic, DoneLogic, logic-not, logic-and-enter, logic-and-skip, logic-or-enter, logic-or-skip, Star, AskCount, DoneCount, count-done, AskCounting, AskCounted, counting-counted, counting-done, counted-value, counted-done, short-query}
+use Rattle.eval_filters.specs.Tests.{Left, AskShort, DoneShort, AskLogic, DoneLogic, logic-not, logic-and-enter, logic-and-skip, logic-or-enter, logic-or-skip, short-query}
+use Rattle.eval_filters.specs.Children.{Star, AskCount, DoneCount, count-done, AskCounting, AskCounted, counting-counted, counting-done, counted-value, counted-done}
 use Rattle.eval_filters.specs.Kept.{Tested, AskTest, DoneTest, AskKept, DoneKept, InKept}
 use Rattle.eval_filters.specs.Atoms.{AskCode, AtomAt, AgainstAt, NameAt, tells, start-here, name-lost, name-reached, name-one}
 use Rattle.eval_filters.specs.declared.Told.{Told}

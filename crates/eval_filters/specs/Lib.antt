@@ -1,6 +1,7 @@
 pub mod Queries
 pub mod Numbers
 pub mod Tests
+pub mod Children
 pub mod Kinds
 pub mod Pairs
 pub mod Values

@@ -3,6 +3,7 @@
 // What needs a walk of its own is left to the code's registers.
 //
 //   kinds      a node and a literal by their kinds
+//   children   the number of all children, compared with a literal
 //   pairs      two queries of names and indices, compared with each other
 //   values     comparisons of other values
 //   atoms      a test of one member, read from the plan once
@@ -11,14 +12,11 @@
 //   kept       the nodes of a range that a filter keeps whose test is read once
 use eval_items::leaves;
 use eval_items::plans;
-use eval_values::Operand;
 use eval_values::operands;
 use number_order::Order;
 use plan_format::kinds::AND;
-use plan_format::kinds::CHILD;
 use plan_format::kinds::COMPARE;
 use plan_format::kinds::CONSTANT;
-use plan_format::kinds::COUNT;
 use plan_format::kinds::CURRENT;
 use plan_format::kinds::END;
 use plan_format::kinds::INTEGER;
@@ -26,7 +24,6 @@ use plan_format::kinds::NOT;
 use plan_format::kinds::OR;
 use plan_format::kinds::TEST;
 use plan_format::kinds::TEXT;
-use plan_format::kinds::WILDCARD;
 use plan_format::operators::EQ;
 use plan_format::operators::LE;
 use plan_format::operators::NE;
@@ -44,9 +41,10 @@ ghost use Rattle.eval_values.specs.Alike.{Compares};
 ghost use Rattle.eval_front.specs.Visits.{AskReach};
 ghost use Rattle.eval_filters.specs.Numbers.{saysOf};
 ghost use Rattle.eval_filters.specs.Values.{AskLeft};
-ghost use Rattle.eval_filters.specs.Tests.{literalKind, logicKind, AskNode, DoneNode, AskAgainst, DoneAgainst, DonePlain, AskChildren, DoneChildren, AskCount, DoneCount, AskCounted, DoneCounted, AskCounting, AskShort, DoneShort, AskLogic, DoneLogic};
+ghost use Rattle.eval_filters.specs.Tests.{literalKind, logicKind, AskNode, DoneNode, AskAgainst, DoneAgainst, DonePlain, AskShort, DoneShort, AskLogic, DoneLogic};
 
 pub mod atoms;
+pub mod children;
 pub mod counts;
 pub mod itself;
 pub mod kept;
@@ -274,127 +272,6 @@ fn plain_nodes(plan: &[u8], pool: &[u8], table: &[u8], text: &[u8], from: usize,
     }
 }
 
-// Whether `.*` stands at c, at the end of a query whose nodes are counted.
-fn counts_children(plan: &[u8], c: usize) -> bool
-    requires { ⌜ AskChildren (now plan) c ⌝ }
-    ensures { λ r. ⌜ DoneChildren (now (plan .entry)) c r ⌝ }
-{
-    if plan[c] != CHILD {
-        return false;
-    }
-    if bytes::word16(plan, c + 1) != 1 {
-        return false;
-    }
-    if plan[c + 3] != WILDCARD {
-        return false;
-    }
-    if plan[c + 4] != END {
-        return false;
-    }
-    plan[c + 5] == COUNT
-}
-
-// The number n and the literal at q, by an operator.
-fn compare_count(
-    plan: &[u8],
-    pool: &[u8],
-    table: &[u8],
-    text: &[u8],
-    op: u8,
-    n: usize,
-    q: usize,
-) -> bool
-    requires { ⌜ AskCount (now plan) (now pool) (now table) (now text) n q ⌝ }
-    ensures { λ r. ⌜ DoneCount (now (plan .entry)) (now (pool .entry)) n q op r ⌝ }
-{
-    let a = n as i64;
-    if plan[q] == INTEGER {
-        return compare_ints(op, a, bytes::int64(plan, q + 1));
-    }
-    let y = leaves::literal(plan, pool, q);
-    eval_values::compare_values(table, text, pool, op, Operand::Int(a), y)
-}
-
-// The comparison of the number n with what stands at z, where that is a literal.
-fn count_against(
-    plan: &[u8],
-    pool: &[u8],
-    table: &[u8],
-    text: &[u8],
-    n: usize,
-    z: usize,
-    e: usize,
-) -> Told
-    requires { ⌜ AskCounted (now plan) (now pool) (now table) (now text) n z e ⌝ }
-    ensures { λ r. ⌜ DoneCounted (now (plan .entry)) (now (pool .entry)) n z e r ⌝ }
-{
-    if e <= z {
-        return Told {
-            acc: false,
-            q: z,
-            some: false,
-        };
-    }
-    if !is_literal(plan[z]) {
-        return Told {
-            acc: false,
-            q: z,
-            some: false,
-        };
-    }
-    let w = plans::past_literal(plan, z);
-    if e <= w {
-        return Told {
-            acc: false,
-            q: z,
-            some: false,
-        };
-    }
-    if plan[w] != COMPARE {
-        return Told {
-            acc: false,
-            q: z,
-            some: false,
-        };
-    }
-    let op = plan[w + 1];
-    let b = compare_count(plan, pool, table, text, op, n, z);
-    Told {
-        acc: b,
-        q: w + 2,
-        some: true,
-    }
-}
-
-// The query at q whose nodes are all children of node m, which names and indices lead to, counted and compared with a literal.
-fn count_test(
-    plan: &[u8],
-    pool: &[u8],
-    table: &[u8],
-    text: &[u8],
-    root: usize,
-    node: usize,
-    from: usize,
-    q: usize,
-    e: usize,
-    m: usize,
-    c: usize,
-) -> Told
-    requires { ⌜ AskShort (now plan) (now pool) (now table) (now text) root node q e ⌝ }
-    requires { ⌜ AskCounting (now plan) (now pool) (now table) (now text) root node from q m c ⌝ }
-    ensures { λ r. ⌜ DoneShort (now (plan .entry)) (now (pool .entry)) (now (table .entry)) (now (text .entry)) root node q e r ⌝ }
-{
-    if !counts_children(plan, c) {
-        return Told {
-            acc: false,
-            q,
-            some: false,
-        };
-    }
-    let n = records::child_count(table, m) as usize;
-    count_against(plan, pool, table, text, n, c + 6, e)
-}
-
 // The query at q that is tested, or compared with a literal or with another query, in code that ends at e. Where nothing is told, `acc` says whether values may tell it.
 fn short_test(
     plan: &[u8],
@@ -414,7 +291,7 @@ fn short_test(
     let n = v.n;
     let z = v.z;
     if !v.some {
-        return count_test(plan, pool, table, text, root, node, from, q, e, v.first, z);
+        return children::count_test(plan, pool, table, text, root, node, from, q, e, v.first, z);
     }
     let mode = plan[z];
     if mode == TEST {

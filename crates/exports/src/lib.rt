@@ -1,4 +1,4 @@
-// The operations as functions that a C or Rust engine links: plain numbers and slices, each thin over the operation of `promises`, with its statement carried over.
+// The operations as functions that a C or Rust engine links: plain numbers and slices, each thin over the operation of `promises_tables`, `promises_plans` or `promises_queries`, with its statement carried over.
 // include/stewpebble.h declares them for C.
 ghost use Rattle.promises_stated.specs.Promises.{CompilesOnly, SelectsOnly, RunsOnly, ChecksPlanOnly, ChecksRecordsOnly, ChecksTextsOnly, ChecksTableOnly, TextOnly, KeyOnly, PathOnly, TalliesOnly};
 ghost use mathlib.Core.Path.{_≡_};
@@ -24,7 +24,7 @@ fn tell_check(numbers: CheckNumbers, node: &mut u64) -> u32
 pub extern "C" fn stewpebble_check_records(table: &[u8], text: &[u8], node: &mut u64) -> u32
     ensures { λ r. ⌜ ChecksRecordsOnly (now (table .entry)) (now (text .entry)) (told r (now (node .exit))) ⌝ }
 {
-    let checked = promises::check_records(table, text);
+    let checked = promises_tables::check_records(table, text);
     tell_check(refusals::of_check(checked), node)
 }
 
@@ -33,7 +33,7 @@ pub extern "C" fn stewpebble_check_records(table: &[u8], text: &[u8], node: &mut
 pub extern "C" fn stewpebble_check_texts(table: &[u8], text: &[u8], node: &mut u64) -> u32
     ensures { λ r. ⌜ ChecksTextsOnly (now (table .entry)) (now (text .entry)) (told r (now (node .exit))) ⌝ }
 {
-    let checked = promises::check_texts(table, text);
+    let checked = promises_tables::check_texts(table, text);
     tell_check(refusals::of_check(checked), node)
 }
 
@@ -42,7 +42,7 @@ pub extern "C" fn stewpebble_check_texts(table: &[u8], text: &[u8], node: &mut u
 pub extern "C" fn stewpebble_check_table(table: &[u8], text: &[u8], node: &mut u64) -> u32
     ensures { λ r. ⌜ ChecksTableOnly (now (table .entry)) (now (text .entry)) (told r (now (node .exit))) ⌝ }
 {
-    let checked = promises::check_table(table, text);
+    let checked = promises_tables::check_table(table, text);
     tell_check(refusals::of_check(checked), node)
 }
 
@@ -59,7 +59,7 @@ pub extern "C" fn stewpebble_text_of_node(
     ensures place { λ r. ⌜ Placed r (lowWord (now (table .entry)) node) (highWord (now (table .entry)) node) (now (start .exit)) (now (length .exit)) ⌝ }
 {
     let mut number = 0u8;
-    promises::text_of_node(table, text, node, &mut number);
+    promises_tables::text_of_node(table, text, node, &mut number);
     if number != 0 {
         *start = 0;
         *length = 0;
@@ -83,7 +83,7 @@ pub extern "C" fn stewpebble_key_of_node(
     ensures place { λ r. ⌜ Placed r (keyStart (now (table .entry)) node) (keyLength (now (table .entry)) node) (now (start .exit)) (now (length .exit)) ⌝ }
 {
     let mut number = 0u8;
-    promises::key_of_node(table, text, node, &mut number);
+    promises_tables::key_of_node(table, text, node, &mut number);
     if number != 0 {
         *start = 0;
         *length = 0;
@@ -106,7 +106,7 @@ pub extern "C" fn stewpebble_path_of_node(
 ) -> u32
     ensures { λ r. ⌜ PathOnly (now (table .entry)) (now (text .entry)) node (now (room .entry)) (addressed r (now (length .exit)) (now (wrong .exit)) (now (room .exit))) ⌝ }
 {
-    let written = promises::path_of_node(table, text, node, room);
+    let written = promises_tables::path_of_node(table, text, node, room);
     let numbers = refusals::of_path(written);
     *length = numbers.size as u64;
     *wrong = numbers.node as u64;
@@ -124,7 +124,7 @@ pub extern "C" fn stewpebble_compile(
 ) -> u32
     ensures { λ r. ⌜ CompilesOnly (now (query .entry)) (now (plan .entry)) (now (pool .entry)) (compiled r (now (planned .exit)) (now (pooled .exit)) (now (plan .exit)) (now (pool .exit))) ⌝ }
 {
-    let compiled = promises::compile(query, plan, pool);
+    let compiled = promises_queries::compile(query, plan, pool);
     let numbers = refusals::of_compile(compiled);
     *planned = numbers.plan as u64;
     *pooled = numbers.pool as u64;
@@ -136,7 +136,7 @@ pub extern "C" fn stewpebble_compile(
 pub extern "C" fn stewpebble_check_plan(plan: &[u8], pool: &[u8]) -> u32
     ensures { λ r. ⌜ ChecksPlanOnly (now (plan .entry)) (now (pool .entry)) r ⌝ }
 {
-    if promises::check_plan(plan, pool) {
+    if promises_plans::check_plan(plan, pool) {
         return 0;
     }
     11
@@ -152,7 +152,7 @@ pub extern "C" fn stewpebble_tally(
 ) -> u32
     ensures { λ r. ⌜ TalliesOnly (now (plan .entry)) (now (pool .entry)) (now (counts .entry)) (now (plans .entry)) (tallied r (now (counts .exit)) (now (plans .exit))) ⌝ }
 {
-    promises::tally(plan, pool, counts, plans) as u32
+    promises_plans::tally(plan, pool, counts, plans) as u32
 }
 
 // Hands out the numbers of a run's answer.
@@ -178,7 +178,7 @@ pub extern "C" fn stewpebble_run<'a>(
 ) -> u32
     ensures { λ r. ⌜ RunsOnly (now (plan .entry)) (now (pool .entry)) (now (table .entry)) (now (text .entry)) (now (list .entry)) start (ranTo r (now (count .exit)) (now (node .exit)) (now (list .exit))) ⌝ }
 {
-    let ran = promises::run(plan, pool, table, text, list, start);
+    let ran = promises_queries::run(plan, pool, table, text, list, start);
     tell(refusals::of_run(ran), count, node)
 }
 
@@ -195,6 +195,6 @@ pub extern "C" fn stewpebble_select<'a>(
 ) -> u32
     ensures { λ r. ⌜ SelectsOnly (now (query .entry)) (now (table .entry)) (now (text .entry)) (now (list .entry)) start (ranTo r (now (count .exit)) (now (node .exit)) (now (list .exit))) ⌝ }
 {
-    let selection = promises::select(query, table, text, list, start);
+    let selection = promises_queries::select(query, table, text, list, start);
     tell(refusals::of_select(selection), count, node)
 }

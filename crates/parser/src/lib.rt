@@ -1,6 +1,6 @@
 // The rules of the grammar that nest, one function for each, in the order of the grammar. Repetition is a loop, nesting a call.
 // Each function reads at the cursor's place, writes what it reads, and answers the cursor behind it or the place where reading stopped.
-mod calls;
+mod call;
 
 ghost use Rattle.definition.specs.Grammar.{spellSegments, spellSegment, spellBracketed, spellSelectors, spellSelector, spellLogicalOr, spellMoreOr, spellLogicalAnd, spellMoreAnd, spellBasic, spellParen};
 ghost use Rattle.compile_writes.specs.Sorts.{sortMoreOr, sortMoreAnd, sortOr, sortAnd, sortBasic, sortParen};
@@ -8,7 +8,7 @@ ghost use Rattle.compile_writes.specs.Writes.{writeSegments, writeSegment, writ
 ghost use Prim.Native.Nat.{_≤_};
 ghost use Rattle.parser_items.specs.Reads.{Asks, Post, LoosePost, noFlag, sortNumber, sortOf, segmentsFlag, segmentFlag, bracketedFlag, plainFlag, writeSelection, Known, Opens};
 ghost use Rattle.parser_follow.specs.Pieces.{spellFilter, writeFilter, spellNegation, writeNegation, spellBehindOf, writeBehindOf, behindOfSort, spellSide, writeSide, spellOperand, writeOperand, operandFlag, queryFlag};
-use calls::function;
+use call::function;
 use parser_items::Cursor;
 use parser_items::Step;
 use parser_items::begins_segment;
@@ -159,7 +159,7 @@ fn filter(s: &[u8], plan: &mut [u8], pool: &mut [u8], st: Cursor) -> Step
     let at = st.at;
     let a = skip_blanks(s, at);
     let head = opened(plan, moved(st, a), kinds::FILTER);
-    let r = parse_or(s, plan, pool, head, true);
+    let r = any(s, plan, pool, head, true);
     let Step::Next(n, sort) = r else {
         return r;
     };
@@ -171,11 +171,11 @@ fn filter(s: &[u8], plan: &mut [u8], pool: &mut [u8], st: Cursor) -> Step
 }
 
 // logical-or-expr = logical-and-expr *( S "||" S logical-and-expr ); tells its sort
-fn parse_or(s: &[u8], plan: &mut [u8], pool: &mut [u8], st: Cursor, asked: bool) -> Step
+fn any(s: &[u8], plan: &mut [u8], pool: &mut [u8], st: Cursor, asked: bool) -> Step
     requires { ⌜ Asks 0 (now s) (now plan) (now pool) st ⌝ }
     ensures { λ r. ⌜ Post spellLogicalOr (λ t. writeOr t asked) (λ t. sortNumber (sortOr t)) 4 (now (s .entry)) (now (plan .entry)) (now (plan .exit)) (now (pool .entry)) (now (pool .exit)) st r ⌝ }
 {
-    let r = parse_and(s, plan, pool, st, asked);
+    let r = all(s, plan, pool, st, asked);
     let Step::Next(n, sort) = r else {
         return r;
     };
@@ -198,7 +198,7 @@ fn more_or(s: &[u8], plan: &mut [u8], pool: &mut [u8], st: Cursor, sort: usize, 
         let b = skip_blanks(s, a + 2);
         let left = test_tail(plan, moved(now, b), kind);
         let head = opened(plan, left, kinds::OR);
-        match parse_and(s, plan, pool, head, asked) {
+        match all(s, plan, pool, head, asked) {
             Step::Stop(i) => return Step::Stop(i),
             Step::Next(n, f) => {
                 let m = test_tail(plan, n, f);
@@ -213,7 +213,7 @@ fn more_or(s: &[u8], plan: &mut [u8], pool: &mut [u8], st: Cursor, sort: usize, 
 }
 
 // logical-and-expr = basic-expr *( S "&&" S basic-expr ); tells its sort
-fn parse_and(s: &[u8], plan: &mut [u8], pool: &mut [u8], st: Cursor, asked: bool) -> Step
+fn all(s: &[u8], plan: &mut [u8], pool: &mut [u8], st: Cursor, asked: bool) -> Step
     requires { ⌜ Asks 0 (now s) (now plan) (now pool) st ⌝ }
     ensures { λ r. ⌜ Post spellLogicalAnd (λ t. writeAnd t asked) (λ t. sortNumber (sortAnd t)) 3 (now (s .entry)) (now (plan .entry)) (now (plan .exit)) (now (pool .entry)) (now (pool .exit)) st r ⌝ }
 {
@@ -351,7 +351,7 @@ fn paren(s: &[u8], plan: &mut [u8], pool: &mut [u8], st: Cursor) -> Step
 {
     let at = st.at;
     let a = skip_blanks(s, at + 1);
-    let r = parse_or(s, plan, pool, moved(st, a), true);
+    let r = any(s, plan, pool, moved(st, a), true);
     let Step::Next(n, sort) = r else {
         return r;
     };
