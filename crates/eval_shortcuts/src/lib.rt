@@ -19,7 +19,6 @@ use eval_asks::POOL;
 use eval_asks::ROOT;
 use eval_asks::TABLE;
 use eval_asks::TEXT;
-use eval_filters::atoms;
 use eval_filters::kept;
 use eval_rows::calls;
 use eval_rows::rows::Filter;
@@ -156,7 +155,7 @@ pub fn keep_children(
     true
 }
 
-// The same as `keep_rows`, for two nodes at least and a filter without match and search whose first test is one of a member.
+// The same as `keep_rows`, for two nodes at least and a filter without match and search that `joined` is for.
 fn keep_joined(
     lent: &[&[u8]; 4],
     state: &mut [usize; 3],
@@ -173,7 +172,8 @@ fn keep_joined(
     ensures { λ r. ⌜ DoneRows (now (lent .entry)) i e p z rest (now (state .entry)) (now (now (list .entry))) (now (state .exit)) (now (now (list .exit))) r ⌝ }
 {
     let plan = lent[PLAN];
-    if atoms::read_atom(plan, p, z).form == 0 {
+    let way = joined::way_of(plan, p, z);
+    if way == 0 {
         return i;
     }
     let tail = kept::tail_of(plan, rest);
@@ -192,7 +192,17 @@ fn keep_joined(
         rest,
         cap,
     };
-    let v = joined::keep(plan, lent[POOL], lent[TABLE], lent[TEXT], f, i, *list, at);
+    let v = joined::keep(
+        plan,
+        lent[POOL],
+        lent[TABLE],
+        lent[TEXT],
+        f,
+        i,
+        way,
+        *list,
+        at,
+    );
     state[AT] = v.at;
     if v.more {
         return v.i;
