@@ -11,7 +11,10 @@ use Rattle.eval_laws.specs.States.{st}
 use Rattle.eval_laws.specs.Steps.{kept}
 use Rattle.eval_front.specs.Overs.{over-end}
 use Rattle.eval_filters.specs.Keeps.{AskTail, TailAt, tail-asked, test-code}
-use Rattle.eval_rows.specs.Rows.{AskRows as AskFilter, DoneRows as DoneFilter}
+use Rattle.eval_filters.specs.Queries.{Within}
+use Rattle.eval_rows.specs.Calls.{AskCall, left-asked}
+use Rattle.eval_rows.specs.Turns.{turn-left}
+use Rattle.eval_rows.specs.Rows.{AskRows as AskFilter, DoneRows as DoneFilter, asked-start, asked-turn}
 use Rattle.eval_rows.specs.declared.rows.Filter.{Filter}
 use Rattle.eval_rows.specs.declared.rows.Passed.{Passed}
 use Rattle.eval_asks.specs.Lent.{planOf, poolOf, tableOf, textOf, rootOf, capOf, atOf}
@@ -27,6 +30,13 @@ module _ {v : List (RefT (List ℕ))} {i e p z rest : ℕ} {s l : List ℕ} (a :
   module _ (q : AskRows v i e p z rest) where
     pub rows-code : (z ≤ length (planOf v)) × (z ≤ maxPlan)
     rows-code = let c = test-code (a .given .fewP) (q .test) in (c .inside, omega (arith, c .inside, a .given .fewP))
+
+    -- the code is that of a test, so that a query in front of it is one
+    pub rows-call : p < z → AskCall (planOf v) p z
+    rows-call h =
+        let g = a .given in
+        let w : Within (planOf v) (poolOf v) (tableOf v) (textOf v) (rootOf s) (rootOf s) = record { fewP = g .fewP; fewL = g .fewL; tab = g .tab; root-in = a .root-in; node-in = a .root-in } in
+        left-asked (turn-left (asked-turn w (q .test) (asked-start w) h))
 
     pub rows-tail : AskTail (planOf v) rest
     rows-tail = tail-asked (a .given .fewP) (q .query)

@@ -3,9 +3,11 @@
 // one. Evaluation knows no other shortcut, and is proved without them (docs/DECISIONS.md, 271).
 //
 //   flats     nodes with nothing below their children under a descendant segment of one selector
+//   joined    a range of nodes with a filter of several tests
 //   straight  a range of nodes with names and indices up to the end
 //
 // Filters that are read once stand in `eval_filters`, those with match or search of a text of the plan in `eval_rows`.
+ghost use Prim.Native.Nat.{_≤_};
 ghost use Rattle.eval_front.specs.Visits.{Given};
 ghost use Rattle.eval_asks.specs.Lent.{planOf, poolOf, tableOf, textOf};
 ghost use Rattle.eval_asks.specs.Asks.{Asked, Steady, AskEach, DoneAhead, Descends, AskFlats, DoneFlats, AskSelector, AskKind, DoneKeep};
@@ -24,6 +26,7 @@ use table::records;
 use text::bytes;
 
 pub mod flats;
+pub mod joined;
 pub mod straight;
 
 // The first node from i on that needs a call with the segments at rest, or i. What names and indices up to the end lead to from those before it is pushed.
@@ -152,6 +155,61 @@ pub fn keep_children(
     true
 }
 
+// The same as `keep_rows`, for two nodes at least and a filter without match and search that `joined` is for.
+fn keep_joined(
+    lent: &[&[u8]; 4],
+    state: &mut [usize; 3],
+    list: &mut &mut [u32],
+    i: usize,
+    e: usize,
+    p: usize,
+    z: usize,
+    rest: usize,
+) -> usize
+    requires { ⌜ Asked (now lent) (now state) (now (now list)) ⌝ }
+    requires { ⌜ AskRows (now lent) i e p z rest × (i ≤ e) ⌝ }
+    ensures { λ r. ⌜ Steady (now (state .entry)) (now (list .entry)) (now (state .exit)) (now (list .exit)) ⌝ }
+    ensures { λ r. ⌜ DoneRows (now (lent .entry)) i e p z rest (now (state .entry)) (now (now (list .entry))) (now (state .exit)) (now (now (list .exit))) r ⌝ }
+{
+    let plan = lent[PLAN];
+    let way = joined::way_of(plan, p, z);
+    if way == 0 {
+        return i;
+    }
+    let tail = kept::tail_of(plan, rest);
+    if 1 < tail {
+        return i;
+    }
+    let root = state[ROOT];
+    let cap = state[CAP];
+    let at = state[AT];
+    let f = Filter {
+        root,
+        e,
+        p,
+        z,
+        tail,
+        rest,
+        cap,
+    };
+    let v = joined::keep(
+        plan,
+        lent[POOL],
+        lent[TABLE],
+        lent[TEXT],
+        f,
+        i,
+        way,
+        *list,
+        at,
+    );
+    state[AT] = v.at;
+    if v.more {
+        return v.i;
+    }
+    e
+}
+
 // The first node from i on of which the test from p up to z needs a walk, or e. Those before it for which it holds are pushed with what follows, where nothing or one
 // name does. Else, and where one node alone is asked, none is looked at.
 pub fn keep_rows(
@@ -174,7 +232,7 @@ pub fn keep_rows(
     }
     let plan = lent[PLAN];
     if !calls::may_call(plan, p, z, e - i) {
-        return i;
+        return keep_joined(lent, state, list, i, e, p, z, rest);
     }
     let tail = kept::tail_of(plan, rest);
     if 1 < tail {

@@ -27,8 +27,11 @@ sub-may-call c = omega (arith, c .before .if1 .left)
 may-call-requires : tie.Need-may-call-requires
 may-call-requires c κs = rows-code (c .before .before .pre .0) (c .before .before .pre .1)
 
+keep-joined-requires : tie.Need-keep-joined-requires
+keep-joined-requires c κs = (c .before .before .before .before .before .before .pre .0, (c .before .before .before .before .before .before .pre .1, omega (arith, c .before .before .before .before .before .if1 .left)))
+
 returns-2 : tie.Need-returns-2
-returns-2 c = (steady-refl _ _, rows-none (c .before .before .before .before .pre .0))
+returns-2 c = c .keep-joined .ensures
 
 tail-of-requires : tie.Need-tail-of-requires
 tail-of-requires c κs = rows-tail (c .before .before .before .before .pre .0) (c .before .before .before .before .pre .1)
@@ -78,6 +81,7 @@ keep-rows-spec =
     element-copy-out-plan
     sub-may-call
     may-call-requires
+    keep-joined-requires
     returns-2
     tail-of-requires
     returns-3
