@@ -154,33 +154,15 @@ fn is_same(k: Rank) -> bool
     }
 }
 
-// Whether the n bytes of the pool from a on are the text of a value. There are two such functions because a compiler puts a function into its caller where it has one.
-fn is_pool_text(text: &[u8], pool: &[u8], a: usize, n: usize, y: Operand) -> bool
-    requires { ⌜ a + n ≤ length (now pool) ⌝ }
+// Whether the n bytes of s from a on are the text of a value.
+fn is_text(s: &[u8], a: usize, n: usize, text: &[u8], pool: &[u8], y: Operand) -> bool
+    requires { ⌜ a + n ≤ length (now s) ⌝ }
     requires { ⌜ Parts (now text) (now pool) y ⌝ }
-    ensures { λ r. ⌜ r ≡ isRankEqual (rankTexts (some (part (now (pool .entry)) a n)) (textIn (now (text .entry)) (now (pool .entry)) y)) ⌝ }
+    ensures { λ r. ⌜ r ≡ isRankEqual (rankTexts (some (part (now (s .entry)) a n)) (textIn (now (text .entry)) (now (pool .entry)) y)) ⌝ }
 {
     match y {
-        Operand::Pool(b, m) => parts::same_part(pool, a, n, pool, b, m),
-        Operand::Text(b, m) => parts::same_part(pool, a, n, text, b, m),
-        Operand::Nothing => false,
-        Operand::Null => false,
-        Operand::Bool(_) => false,
-        Operand::Int(_) => false,
-        Operand::Float(_) => false,
-        Operand::Node(_) => false,
-    }
-}
-
-// The same of the n bytes of the text from a on.
-fn is_own_text(text: &[u8], pool: &[u8], a: usize, n: usize, y: Operand) -> bool
-    requires { ⌜ a + n ≤ length (now text) ⌝ }
-    requires { ⌜ Parts (now text) (now pool) y ⌝ }
-    ensures { λ r. ⌜ r ≡ isRankEqual (rankTexts (some (part (now (text .entry)) a n)) (textIn (now (text .entry)) (now (pool .entry)) y)) ⌝ }
-{
-    match y {
-        Operand::Pool(b, m) => parts::same_part(text, a, n, pool, b, m),
-        Operand::Text(b, m) => parts::same_part(text, a, n, text, b, m),
+        Operand::Pool(b, m) => parts::same_part(s, a, n, pool, b, m),
+        Operand::Text(b, m) => parts::same_part(s, a, n, text, b, m),
         Operand::Nothing => false,
         Operand::Null => false,
         Operand::Bool(_) => false,
@@ -198,8 +180,8 @@ pub fn is_equal(text: &[u8], pool: &[u8], x: Operand, y: Operand) -> bool
     match x {
         Operand::Int(a) => is_same(rank_int(a, y)),
         Operand::Float(a) => is_same(rank_float(a, y)),
-        Operand::Pool(a, n) => is_pool_text(text, pool, a, n, y),
-        Operand::Text(a, n) => is_own_text(text, pool, a, n, y),
+        Operand::Pool(a, n) => is_text(pool, a, n, text, pool, y),
+        Operand::Text(a, n) => is_text(text, a, n, text, pool, y),
         Operand::Nothing => false,
         Operand::Null => false,
         Operand::Bool(_) => false,

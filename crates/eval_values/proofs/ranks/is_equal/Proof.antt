@@ -13,8 +13,7 @@ use Rattle.eval_values.proofs.ranks.is_equal.Tie as tie
 use Rattle.eval_values.proofs.ranks.is_equal.Reads as reads
 use Rattle.eval_values.proofs.ranks.is_equal.Lts as lts
 use Rattle.eval_values.proofs.ranks.is_same.Reads as is-same-reads
-use Rattle.eval_values.proofs.ranks.is_pool_text.Reads as is-pool-text-reads
-use Rattle.eval_values.proofs.ranks.is_own_text.Reads as is-own-text-reads
+use Rattle.eval_values.proofs.ranks.is_text.Reads as is-text-reads
 use Rattle.eval_values.proofs.ranks.rank_float.Reads as rank-float-reads
 use Rattle.eval_values.proofs.ranks.rank_int.Reads as rank-int-reads
 
@@ -39,16 +38,16 @@ is-same-requires-2 c κs = search needs
 enum-known-x-3 : tie.Need-enum-known-x-3
 enum-known-x-3 c = search needs
 
-is-pool-text-requires : tie.Need-is-pool-text-requires
-is-pool-text-requires c κs =
+is-text-requires : tie.Need-is-text-requires
+is-text-requires c κs =
     let e = c .before .before .before .before .before in
     (subst (Parts (e .args .text .now) (e .args .pool .now)) (c .before .x3 .given .1) (e .pre .parts-x), e .pre .parts-y)
 
 enum-known-x-4 : tie.Need-enum-known-x-4
 enum-known-x-4 c = search needs
 
-is-own-text-requires : tie.Need-is-own-text-requires
-is-own-text-requires c κs =
+is-text-requires-2 : tie.Need-is-text-requires-2
+is-text-requires-2 c κs =
     let e = c .before .before .before .before .before in
     (subst (Parts (e .args .text .now) (e .args .pool .now)) (c .before .x4 .given .1) (e .pre .parts-x), e .pre .parts-y)
 
@@ -79,12 +78,12 @@ returns-2 c =
 returns-3 : tie.Need-returns-3
 returns-3 c =
     let a = c .before .before .before .before .before .before .args in
-    c .is-pool-text .ensures ∙ ap (λ (z : Operand). isRankEqual (rankIn (a .text .now) (a .pool .now) z (a .y))) (sym (c .before .before .x3 .given .1))
+    c .is-text .ensures ∙ ap (λ (z : Operand). isRankEqual (rankIn (a .text .now) (a .pool .now) z (a .y))) (sym (c .before .before .x3 .given .1))
 
 returns-4 : tie.Need-returns-4
 returns-4 c =
     let a = c .before .before .before .before .before .before .args in
-    c .is-own-text .ensures ∙ ap (λ (z : Operand). isRankEqual (rankIn (a .text .now) (a .pool .now) z (a .y))) (sym (c .before .before .x4 .given .1))
+    c .is-text2 .ensures ∙ ap (λ (z : Operand). isRankEqual (rankIn (a .text .now) (a .pool .now) z (a .y))) (sym (c .before .before .x4 .given .1))
 
 returns-5 : tie.Need-returns-5
 returns-5 c = search needs
@@ -109,9 +108,9 @@ is-equal-spec =
     rank-float-requires
     is-same-requires-2
     enum-known-x-3
-    is-pool-text-requires
+    is-text-requires
     enum-known-x-4
-    is-own-text-requires
+    is-text-requires-2
     enum-told
     enum-told-2
     enum-told-3
