@@ -7,6 +7,7 @@ use crate::atoms::Held;
 use crate::counts;
 use crate::itself;
 use eval_items::leaves;
+use eval_items::plans;
 use eval_values::members;
 use eval_values::members::Member;
 use plan_format::kinds::AND;
@@ -286,7 +287,7 @@ fn read_joined(plan: &[u8], left: Atom, q: usize, z: usize) -> Pair
             some: false,
         };
     }
-    if q + 3 + bytes::word16(plan, q + 1) != z {
+    if plans::past_sized(plan, q) != z {
         return Pair {
             left,
             join,

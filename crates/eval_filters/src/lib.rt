@@ -364,7 +364,7 @@ pub fn logic_expr(plan: &[u8], acc: bool, q: usize) -> Told
         };
     }
     let inside = q + 3;
-    let behind = q + 3 + bytes::word16(plan, q + 1);
+    let behind = plans::past_sized(plan, q);
     if k == AND {
         if acc {
             return Told {

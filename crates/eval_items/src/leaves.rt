@@ -320,7 +320,7 @@ fn right_operand(plan: &[u8], pool: &[u8], table: &[u8], text: &[u8], s: Regs) -
     let y = s.y;
     let q = s.q;
     let inside = q + 3;
-    let behind = q + 3 + bytes::word16(plan, q + 1);
+    let behind = plans::past_sized(plan, q);
     if plan[q] == AND {
         if acc {
             return Regs {

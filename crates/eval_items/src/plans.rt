@@ -11,7 +11,16 @@ use text::bytes;
 ghost use mathlib.Core.Path.{_≡_};
 ghost use Prim.Native.Nat.{_+_, _≤_};
 ghost use lib.ListN.{length};
+ghost use Rattle.definition.specs.Bytes.{number, part};
 ghost use Rattle.eval_items.specs.Ends.{AskNext, AskSkip, AskPast, AskLiteral, DoneNext, DoneSkip, DonePast, DoneLiteral};
+
+// The place behind the item at p that has its size in it: a filter, or `&&` or `||` with its right operand.
+pub fn past_sized(plan: &[u8], p: usize) -> usize
+    requires { ⌜ p + 3 ≤ length (now plan) ⌝ }
+    ensures { λ r. ⌜ r ≡ p + 3 + number (part (now (plan .entry)) (p + 1) 2) ⌝ }
+{
+    p + lengths::SIZE_ITEM + bytes::word16(plan, p + 1)
+}
 
 // The place behind the selector at p.
 pub fn next_selector(plan: &[u8], p: usize) -> usize
@@ -31,7 +40,7 @@ pub fn next_selector(plan: &[u8], p: usize) -> usize
     if k == WILDCARD {
         return p + lengths::PLAIN_ITEM;
     }
-    p + lengths::SIZE_ITEM + bytes::word16(plan, p + 1)
+    past_sized(plan, p)
 }
 
 // The place behind the n selectors at p.

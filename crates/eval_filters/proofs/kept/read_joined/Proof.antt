@@ -11,7 +11,7 @@ use Rattle.eval_filters.proofs.kept.read_joined.Reads as reads
 use Rattle.eval_filters.proofs.kept.read_joined.Lts as lts
 use Rattle.eval_filters.proofs.atoms.read_atom.Reads as read-atom-reads
 use Rattle.eval_filters.proofs.kept.is_join.Reads as is-join-reads
-use Rattle.text.proofs.bytes.word16.Reads as word16-reads
+use Rattle.eval_items.proofs.plans.past_sized.Reads as past-sized-reads
 
 shared-slice-read-join : tie.Need-shared-slice-read-join
 shared-slice-read-join c = search needs
@@ -34,17 +34,8 @@ add-if3 c = search needs
 returns-3 : tie.Need-returns-3
 returns-3 c = λ e. absurd (never e)
 
-add-if4 : tie.Need-add-if4
-add-if4 c = search needs
-
-add-word16 : tie.Need-add-word16
-add-word16 c = search needs
-
-word16-requires : tie.Need-word16-requires
-word16-requires c κs = search needs
-
-add-if4-2 : tie.Need-add-if4-2
-add-if4-2 c = search needs
+past-sized-requires : tie.Need-past-sized-requires
+past-sized-requires c κs = search needs
 
 returns-4 : tie.Need-returns-4
 returns-4 c = λ e. absurd (never e)
@@ -63,7 +54,7 @@ returns-6 c =
     let k = join-kind _ (sym (c .before .before .before .before .before .before .before .is-join .ensures) ∙ not-false _ (c .before .before .before .before .before .before .if2 .left)) in
     let k0 = k .0 in
     let n = c .before .before .before .before .before .before .before .before .if1 .left in
-    λ e. record { same = refl; other = λ i. absurd (omega arith); negated = λ i. absurd (n i); joined = λ o. record { more = c .before .before .before .before .before .before .before .before .before .before .before .pre .1; low = k .0; high = k .1; byte = refl; ends = omega (arith, c .before .before .before .if4 .left, c .before .before .before .before .word16 .ensures .is); right = c .before .before .read-atom .ensures (c .if5 .left); next = eqb-true _ _ e } }
+    λ e. record { same = refl; other = λ i. absurd (omega arith); negated = λ i. absurd (n i); joined = λ o. record { more = c .before .before .before .before .before .before .before .before .before .before .before .pre .1; low = k .0; high = k .1; byte = refl; ends = omega (arith, c .before .before .before .if4 .left, c .before .before .before .before .past-sized .ensures); right = c .before .before .read-atom .ensures (c .if5 .left); next = eqb-true _ _ e } }
 
 pub read-joined-spec : {M : Type 1} → statement M
 read-joined-spec =
@@ -76,10 +67,7 @@ read-joined-spec =
     returns-2
     add-if3
     returns-3
-    add-if4
-    add-word16
-    word16-requires
-    add-if4-2
+    past-sized-requires
     returns-4
     add-read-atom
     read-atom-requires

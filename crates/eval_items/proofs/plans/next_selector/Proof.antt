@@ -1,11 +1,12 @@
 -- `next_selector` meets its contract: each kind of selector has its length. Assumes nothing.
+use mathlib.Core.Path.{refl, _∙_}
 use native.Mathlib.Omega.{arith}
 use Rattle.eval_items.specs.EndLaws.{filter-ends, next-name, next-index, next-slice, next-wildcard, next-filter, selector-end}
 use Rattle.eval_items.proofs.plans.next_selector.Statement.{statement}
 use Rattle.eval_items.proofs.plans.next_selector.Tie as tie
 use Rattle.eval_items.proofs.plans.next_selector.Reads as reads
 use Rattle.eval_items.proofs.plans.next_selector.Lts as lts
-use Rattle.text.proofs.bytes.word16.Reads as word16-reads
+use Rattle.eval_items.proofs.plans.past_sized.Reads as past-sized-reads
 
 shared-slice-read-k : tie.Need-shared-slice-read-k
 shared-slice-read-k c =
@@ -52,30 +53,15 @@ returns-4 c =
     let s = c .before .before .before .before .before .before in
     next-wildcard (s .args .plan .now) (s .pre .few) (s .args .p) (c .if4 .taken)
 
-add-result-5 : tie.Need-add-result-5
-add-result-5 c =
-    let s = c .before .before .before .before .before .before in
-    omega (arith, s .pre .few, (selector-end (s .args .plan .now) (s .args .p) (s .pre .k) (s .pre .s) (s .pre .holds)) .0)
-
-add-word16 : tie.Need-add-word16
-add-word16 c =
-    let s = c .before .before .before .before .before .before in
-    omega (arith, s .pre .few, (selector-end (s .args .plan .now) (s .args .p) (s .pre .k) (s .pre .s) (s .pre .holds)) .0)
-
-word16-requires : tie.Need-word16-requires
-word16-requires c κs =
+past-sized-requires : tie.Need-past-sized-requires
+past-sized-requires c κs =
     let s = c .before .before .before .before .before .before in
     omega (arith, (filter-ends (s .args .plan .now) (s .pre .few) (s .args .p) (s .pre .s) (s .pre .k) (s .pre .holds) (c .before .before .before .if1 .left) (c .before .before .if2 .left) (c .before .if3 .left) (c .if4 .left)) .0)
-
-add-result-6 : tie.Need-add-result-6
-add-result-6 c =
-    let s = c .before .before .before .before .before .before .before in
-    omega (arith, s .pre .few, (selector-end (s .args .plan .now) (s .args .p) (s .pre .k) (s .pre .s) (s .pre .holds)) .0, c .word16 .ensures .fits)
 
 returns-5 : tie.Need-returns-5
 returns-5 c =
     let s = c .before .before .before .before .before .before .before in
-    next-filter (s .args .plan .now) (s .pre .few) (s .args .p) (c .before .before .before .before .if1 .left) (c .before .before .before .if2 .left) (c .before .before .if3 .left) (c .before .if4 .left) _ (c .word16 .ensures .is)
+    λ s′ k h. c .past-sized .ensures ∙ next-filter (s .args .plan .now) (s .pre .few) (s .args .p) (c .before .before .before .before .if1 .left) (c .before .before .before .if2 .left) (c .before .before .if3 .left) (c .before .if4 .left) _ refl s′ k h
 
 pub next-selector-spec : {M : Type 1} → statement M
 next-selector-spec =
@@ -90,8 +76,5 @@ next-selector-spec =
     returns-3
     add-result-4
     returns-4
-    add-result-5
-    add-word16
-    word16-requires
-    add-result-6
+    past-sized-requires
     returns-5)
