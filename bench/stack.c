@@ -65,17 +65,28 @@ static uint8_t *bottom(uint8_t *p) {
     return p + 17;
 }
 
+// In front of a filter's code, where told: `!match(@,'a')&&` with a text of the pool, whose nodes then go by cells. Where it ends, and the place for the length of what
+// follows.
+static int calling;
+static uint8_t *call(uint8_t *p) {
+    memcpy(p, "\2\12\22\0\0\1\0\34\25\26\0\0", 12);
+    memcpy(p + 3, &(uint16_t){(uint16_t)pool_length}, 2);
+    pool[pool_length++] = 'a';
+    return p + 12;
+}
+
+static void put_length(uint8_t *at, const uint8_t *begins, const uint8_t *ends) { memcpy(at, &(uint16_t){(uint16_t)(ends - begins)}, 2); }
+
 // The code of a query from `$` that nests n filters, each behind many segments, written at p; where it ends.
 static uint8_t *code(uint8_t *p, int n, const uint8_t *segment, size_t size, int many) {
     *p++ = 1;
     for (int i = 0; i < many; i++) { memcpy(p, segment, size); p += size; }
     if (n > 0) {
         memcpy(p, "\3\1\0\11", 4);
-        uint8_t *length = p + 4, *q = code(p + 6, n - 1, segment, size, many);
+        uint8_t *length = p + 4, *inner = calling ? call(p + 6) : p + 6, *q = code(inner, n - 1, segment, size, many);
         *q++ = 0x18;
-        size_t m = (size_t)(q - length - 2);
-        length[0] = (uint8_t)m;
-        length[1] = (uint8_t)(m >> 8);
+        if (calling) put_length(inner - 2, inner, q);
+        put_length(length, length + 2, q);
         p = q;
     } else if (searching) p = bottom(p);
     *p++ = 10;
@@ -212,6 +223,7 @@ static void measure_beside(void) {
     nodes = DEPTH + 2, levels = 29;
     printf("alternatives beside the lists, at the bottom of the deepest query\n");
     measure_query("..*", "..*", 39, "[?$", "[?search('a',$[1])]");
+    measure_query("..* match", "..*", 34, "[?!match(@,'a')&&$", "[?search('a',$[1])]");
 }
 
 // A list of one text, the longest that a table may have, and an expression of 1,024 bytes around `((a{64}){64}){64}`, by select.
@@ -243,6 +255,13 @@ int main(void) {
     measure_plan("..[*,*]", 128, "\4\2\0\10\10", 5);
     measure_query("..[?@==1", "", 0, "..[?@==1&&$", "..[?@==1&&$==$]");
     measure_query("..*", "..*", 38, "[?$", "[?$]");
+    calling = 1; // each filter has a call of match, so that its nodes go by cells; the call has a bracket of its own in a query
+    measure_plan("[?@] calls", 63, "\3\1\0\11\3\0\2\12\30", 9);
+    measure_plan("..[*,*] calls", 63, "\4\2\0\10\10", 5);
+    calling = 0, levels = 30;
+    measure_query("..[?match", "", 0, "..[?!match(@,'a')&&$", "..[?!match(@,'a')&&$==$]");
+    measure_query("..* match", "..*", 34, "[?!match(@,'a')&&$", "[?!match(@,'a')&&$==$]");
+    levels = 31;
     static char many[1200] = "..[?@>''&&match('";
     memset(many + 17, 'a', 1024), strcpy(many + 17 + 1024, "',@)]");
     measure_expression("a row of characters", ".", "", "", 1024, many);

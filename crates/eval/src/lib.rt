@@ -7,14 +7,16 @@
 //
 //   answers    what is asked of a query in a filter's code
 //   descents   the next child that a descent goes to
-ghost use Prim.Native.Nat.{_<_};
+ghost use Prim.Native.Nat.{_<_, _≤_};
 ghost use lib.ListN.{length};
 ghost use Rattle.definition.specs.Tables.{nodeCount};
 ghost use Rattle.eval_filters.specs.Queries.{Within};
-ghost use Rattle.eval_filters.specs.Kept.{AskTest, DoneTest};
+ghost use Rattle.eval_filters.specs.Kept.{AskTest};
 ghost use Rattle.eval_filters.specs.Tests.{AskRest, DoneRest};
 ghost use Rattle.eval_asks.specs.Lent.{planOf, poolOf, tableOf, textOf};
 ghost use Rattle.eval_asks.specs.Asks.{Begins, AskSegments, DoneSegments, Asked, Steady, AskSegment, DoneSegment, AskEnter, Entered, AskSelectors, DoneSelectors, AskDescent, DoneDescent, AskSelector, DoneSelector, AskKind, AskEach, DoneEach, AskNext, DoneNext, AskQuery, DoneQuery};
+ghost use Rattle.eval_asks.specs.Rows.{AskRows, DoneKept};
+ghost use Rattle.eval.specs.Loops.{DoneSaid};
 use eval_asks::AT;
 use eval_asks::CAP;
 use eval_asks::PLAN;
@@ -22,6 +24,7 @@ use eval_asks::POOL;
 use eval_asks::ROOT;
 use eval_asks::TABLE;
 use eval_asks::TEXT;
+use eval_asks::cells;
 use eval_items::Regs;
 use eval_items::leaves;
 use eval_items::plans;
@@ -41,6 +44,21 @@ use text::bytes;
 
 mod answers;
 mod descents;
+
+// So many nodes of a filter have cells at a time.
+const CELLS: usize = 256;
+
+// What a filter says of a node; where `call`, it is not told yet, since a call of match or search is met.
+struct Said {
+    acc: bool,
+    call: bool,
+}
+
+// The next node that a filter keeps; where `call`, the next of which it says so.
+struct Next {
+    node: usize,
+    call: bool,
+}
 
 // From one node, what the segments at pc select: the next place of the list. Where names and indices lead to the end of the query, no further call is needed.
 pub fn evaluate<'a>(
@@ -357,7 +375,7 @@ fn each_child(
     }
 }
 
-// The children of a node for which the filter at p holds, each with the segments at rest. A filter that is match or search alone has a way of its own.
+// The children of a node for which the filter at p holds, each with the segments at rest. From the first on that meets match or search they go by cells.
 fn eval_filter(
     lent: &[&[u8]; 4],
     state: &mut [usize; 3],
@@ -377,37 +395,93 @@ fn eval_filter(
     let i = records::first_child(table, node) as usize;
     let n = records::child_count(table, node) as usize;
     let e = i + n;
-    let k = eval_shortcuts::keep_rows(lent, state, list, i, e, p + 3, z, rest);
-    let mut j = next_kept(lent, state[ROOT], k, e, p + 3, z);
-    while j < e {
+    let k = eval_shortcuts::keep_joined(lent, state, list, i, e, p + 3, z, rest);
+    let mut v = next_kept(lent, state[ROOT], k, e, p + 3, z);
+    while v.node < e {
+        let j = v.node;
+        if v.call {
+            eval_cells(lent, state, list, j, e, p + 3, z, rest);
+            return;
+        }
         evaluate_segment(lent, state, list, j, rest);
         if state[CAP] < state[AT] {
             return;
         }
-        j = next_kept(lent, state[ROOT], j + 1, e, p + 3, z);
+        v = next_kept(lent, state[ROOT], j + 1, e, p + 3, z);
     }
 }
 
-// The first node from i on for which the test from p up to z holds, or e.
-fn next_kept(lent: &[&[u8]; 4], root: usize, i: usize, e: usize, p: usize, z: usize) -> usize
+// The nodes from i up to e for which the test from p up to z holds, each with the segments at rest. A cell for each of them, 256 at a time, says how far the test is
+// told; so an expression of match or search is read once for so many.
+fn eval_cells(
+    lent: &[&[u8]; 4],
+    state: &mut [usize; 3],
+    list: &mut &mut [u32],
+    i: usize,
+    e: usize,
+    p: usize,
+    z: usize,
+    rest: usize,
+)
+    requires { ⌜ Asked (now lent) (now state) (now (now list)) ⌝ }
+    requires { ⌜ AskRows (now lent) i e p z rest × ((p ≤ rest) × (i < e)) ⌝ }
+    ensures { λ r. ⌜ Steady (now (state .entry)) (now (list .entry)) (now (state .exit)) (now (list .exit)) ⌝ }
+    ensures { λ r. ⌜ DoneKept (now (lent .entry)) i e p z rest (now (state .entry)) (now (now (list .entry))) (now (state .exit)) (now (now (list .exit))) ⌝ }
+{
+    let mut j = eval_shortcuts::keep_rows(lent, state, list, i, e, p, z, rest);
+    if e <= j {
+        return;
+    }
+    let mut column = [0u32; CELLS];
+    let mut b = j;
+    let mut k = eval_shortcuts::fill_cells(lent, state[ROOT], j, e, p, z, &mut column);
+    while j < e {
+        if state[CAP] < state[AT] {
+            return;
+        }
+        if k <= j {
+            k = eval_shortcuts::fill_cells(lent, state[ROOT], j, e, p, z, &mut column);
+            b = j;
+        } else {
+            let c = column[j - b];
+            if eval_rest(lent, state[ROOT], j, cells::answer(c), cells::place(c), z) {
+                evaluate_segment(lent, state, list, j, rest);
+                j += 1;
+            } else {
+                j += 1;
+            }
+        }
+    }
+}
+
+// The first node from i on for which the test from p up to z holds, or that meets a call of match or search, or e.
+fn next_kept(lent: &[&[u8]; 4], root: usize, i: usize, e: usize, p: usize, z: usize) -> Next
     requires { ⌜ AskNext (now lent) root i e p z ⌝ }
-    ensures { λ r. ⌜ DoneNext (now (lent .entry)) root i e p z r ⌝ }
+    ensures { λ r. ⌜ DoneNext (now (lent .entry)) root i e p z (r .node) (r .call) ⌝ }
 {
     let mut j = i;
     while j < e {
-        if eval_filter_expr(lent, root, j, p, z) {
-            return j;
+        let s = eval_filter_expr(lent, root, j, p, z);
+        if s.acc {
+            return Next {
+                node: j,
+                call: s.call,
+            };
         }
         j += 1;
     }
-    j
+    Next {
+        node: j,
+        call: false,
+    }
 }
 
-// Whether the test from p up to e holds of a node. What is left of its code goes by registers from the first part on that is not told without them.
-fn eval_filter_expr(lent: &[&[u8]; 4], root: usize, node: usize, p: usize, e: usize) -> bool
+// Whether the test from p up to e holds of a node. What is left of its code goes by registers from the first part on that is not told without them, but for a call of
+// match or search, which is left.
+fn eval_filter_expr(lent: &[&[u8]; 4], root: usize, node: usize, p: usize, e: usize) -> Said
     requires { ⌜ Within (planOf (now lent)) (poolOf (now lent)) (tableOf (now lent)) (textOf (now lent)) root node ⌝ }
     requires { ⌜ AskTest (planOf (now lent)) (poolOf (now lent)) p e ⌝ }
-    ensures { λ r. ⌜ DoneTest (planOf (now (lent .entry))) (poolOf (now (lent .entry))) (tableOf (now (lent .entry))) (textOf (now (lent .entry))) root node p e r ⌝ }
+    ensures { λ r. ⌜ DoneSaid (planOf (now (lent .entry))) (poolOf (now (lent .entry))) (tableOf (now (lent .entry))) (textOf (now (lent .entry))) root node p e r ⌝ }
 {
     let mut acc = false;
     let mut q = p;
@@ -430,13 +504,23 @@ fn eval_filter_expr(lent: &[&[u8]; 4], root: usize, node: usize, p: usize, e: us
                 e,
             );
             if !t.some {
-                return eval_rest(lent, root, node, acc, q, e);
+                if eval_shortcuts::is_call(lent, root, node, q, e) {
+                    return Said {
+                        acc: true,
+                        call: true,
+                    };
+                }
+                let r = eval_rest(lent, root, node, acc, q, e);
+                return Said {
+                    acc: r,
+                    call: false,
+                };
             }
             acc = t.acc;
             q = t.q;
         }
     }
-    acc
+    Said { acc, call: false }
 }
 
 // The answer of a test's code from p up to e with an answer before it, by registers.

@@ -201,11 +201,12 @@ pub record AskNext (v : List (RefT (List ℕ))) (root i e p z : ℕ) : Type 0 wh
   pub range : i < e → e ≤ nodeCount (tableOf v)
   pub test : AskTest (planOf v) (poolOf v) p z
 
-pub record DoneNext (v : List (RefT (List ℕ))) (root i e p z r : ℕ) : Type 0 where
+-- or that meets a call
+pub record DoneNext (v : List (RefT (List ℕ))) (root i e p z r : ℕ) (call : Bits) : Type 0 where
   pub low : i ≤ r
   pub high : i ≤ e → r ≤ e
   pub passed : (t : Test) (k : ℕ) → Tested (planOf v) (poolOf v) p z t k → (m : ℕ) → i ≤ m → m < r → evalTest t (nodeAt (tableOf v) (textOf v) root) (nodeAt (tableOf v) (textOf v) m) ≡ false
-  pub holds : r < e → (t : Test) (k : ℕ) → Tested (planOf v) (poolOf v) p z t k → evalTest t (nodeAt (tableOf v) (textOf v) root) (nodeAt (tableOf v) (textOf v) r) ≡ true
+  pub holds : call ≡ false → r < e → (t : Test) (k : ℕ) → Tested (planOf v) (poolOf v) p z t k → evalTest t (nodeAt (tableOf v) (textOf v) root) (nodeAt (tableOf v) (textOf v) r) ≡ true
 
 -- ---- a query in a filter's code
 

@@ -34,7 +34,7 @@ use Rattle.eval_front.specs.Spans.{over-range, wildcard-range}
 use Rattle.eval_filters.specs.Kept.{Tested, AskTest, DoneTest, tested-of}
 use Rattle.eval_asks.specs.Lent.{planOf, poolOf, tableOf, textOf, rootOf, capOf, atOf}
 use Rattle.eval_asks.specs.Asks.{Asked, Steady, Gives, AskEnter, AskSegment, DoneSegment, AskSelector, AskKind, DoneSelector, Selects, selection, DoneKeep, AskEach, DoneEach, each, AskNext, DoneNext}
-use Rattle.eval_asks.specs.Steady.{steady-refl, steady-then, asked-later, gives-wrote, gives-none, gives-as, Going, going-asked, going-on, going-step, going-end, going-full}
+use Rattle.eval_asks.specs.Steady.{steady-refl, steady-then, asked-later, gives-wrote, gives-none, gives-as, Going, going-asked, going-on, going-step, going-end, going-full, going-last}
 
 -- ---- forms
 
@@ -249,7 +249,7 @@ module _ {v : List (RefT (List ℕ))} {rest : ℕ} {w₀ : Walk} {s₀ : List �
 -- ---- the children that a test keeps
 
 -- the nodes for which the test fails are passed
-module _ {v : List (RefT (List ℕ))} {root j e p z r : ℕ} (d : DoneNext v root j e p z r) (rest : ℕ) (x : Keeps (planOf v) (poolOf v) p z rest) (σ : State) where
+module _ {v : List (RefT (List ℕ))} {root j e p z r : ℕ} {call : Bits} (d : DoneNext v root j e p z r call) (rest : ℕ) (x : Keeps (planOf v) (poolOf v) p z rest) (σ : State) where
   passed-by : r ≤ e → (o b : ℕ) → b + o ≡ r → j ≤ b → keeping v p z rest r e x root σ ≡ keeping v p z rest b e x root σ
   passed-by h zero b u y = let n : r ≡ b = omega arith in ap (λ (m : ℕ). keeping v p z rest m e x root σ) n
   passed-by h (suc o) b u y =
@@ -259,31 +259,35 @@ module _ {v : List (RefT (List ℕ))} {root j e p z r : ℕ} (d : DoneNext v roo
   pub passed : r ≤ e → keeping v p z rest r e x root σ ≡ keeping v p z rest j e x root σ
   passed h = let y = d .low in passed-by h (r - j) j (omega arith) (omega arith)
 
--- node j is the next for which it holds, or e
-pub record InFilter (v : List (RefT (List ℕ))) (i e p z rest : ℕ) (s₀ : List ℕ) (l₀ : RefT (List ℕ)) (s : List ℕ) (l : RefT (List ℕ)) (j : ℕ) : Type 0 where
+-- node j is the next for which it holds or that meets a call, or e
+pub record InFilter (v : List (RefT (List ℕ))) (i e p z rest : ℕ) (s₀ : List ℕ) (l₀ : RefT (List ℕ)) (s : List ℕ) (l : RefT (List ℕ)) (j : ℕ) (call : Bits) : Type 0 where
   pub low : i ≤ j
   pub high : j ≤ e
-  pub holds : j < e → (x : Keeps (planOf v) (poolOf v) p z rest) → evalTest (x .t) (nodeAt (tableOf v) (textOf v) (rootOf s₀)) (nodeAt (tableOf v) (textOf v) j) ≡ true
+  pub holds : call ≡ false → j < e → (x : Keeps (planOf v) (poolOf v) p z rest) → evalTest (x .t) (nodeAt (tableOf v) (textOf v) (rootOf s₀)) (nodeAt (tableOf v) (textOf v) j) ≡ true
   pub going : Going (keeping v p z rest i e) (keeping v p z rest j e) s₀ l₀ s l
 
-pub filter-start : {v : List (RefT (List ℕ))} {i e p z j : ℕ} (rest : ℕ) (s : List ℕ) (l : RefT (List ℕ)) → Asked v s (l .now) → i ≤ e → DoneNext v (rootOf s) i e p z j → InFilter v i e p z rest s l s l j
+pub filter-start : {v : List (RefT (List ℕ))} {i e p z j : ℕ} {call : Bits} (rest : ℕ) (s : List ℕ) (l : RefT (List ℕ)) → Asked v s (l .now) → i ≤ e → DoneNext v (rootOf s) i e p z j call → InFilter v i e p z rest s l s l j call
 filter-start {v} {i} {e} {p} {z} {j} rest s l a h d =
     record {
       low = d .low;
       high = d .high h;
-      holds = λ y x. d .holds y (x .t) (x .k) (x .tested);
+      holds = λ n y x. d .holds n y (x .t) (x .k) (x .tested);
       going = record { kept = steady-refl s l; room = a .room; again = λ x R C r c. subst (λ (R : ℕ). keeping v p z rest j e x R (st C (l .now) (atOf s)) ≡ keeping v p z rest i e x R (st C (l .now) (atOf s))) r (passed d rest x _ (d .high h)) };
     }
 
-module _ {v : List (RefT (List ℕ))} {i e p z rest : ℕ} {s₀ : List ℕ} {l₀ : RefT (List ℕ)} {s : List ℕ} {l : RefT (List ℕ)} {j : ℕ} (t : InFilter v i e p z rest s₀ l₀ s l j) where
+module _ {v : List (RefT (List ℕ))} {i e p z rest : ℕ} {s₀ : List ℕ} {l₀ : RefT (List ℕ)} {s : List ℕ} {l : RefT (List ℕ)} {j : ℕ} {call : Bits} (t : InFilter v i e p z rest s₀ l₀ s l j call) where
   pub filter-end-all : e ≤ j → Gives (Keeps (planOf v) (poolOf v) p z rest) (keeping v p z rest i e) s₀ (l₀ .now) s (l .now)
   filter-end-all h = going-end (t .going) (λ x R σ. over-end (x .q) _ (kept (x .t) _) (tableOf v) (textOf v) j e σ h)
 
-  module _ (h : j < e) {s′ : List ℕ} {l′ : RefT (List ℕ)} (k : Steady s l s′ l′) (b : atOf s′ ≤ capOf s + 1) (d : DoneSegment v j rest s (l .now) s′ (l′ .now)) where
+  -- those that are left
+  pub filter-left : {s′ l′ : List ℕ} → Gives (Keeps (planOf v) (poolOf v) p z rest) (keeping v p z rest j e) s (l .now) s′ l′ → Gives (Keeps (planOf v) (poolOf v) p z rest) (keeping v p z rest i e) s₀ (l₀ .now) s′ l′
+  filter-left d = going-last (t .going) d (λ x. x) (λ x R σ. refl)
+
+  module _ (n : call ≡ false) (h : j < e) {s′ : List ℕ} {l′ : RefT (List ℕ)} (k : Steady s l s′ l′) (b : atOf s′ ≤ capOf s + 1) (d : DoneSegment v j rest s (l .now) s′ (l′ .now)) where
     kept-one : (x : Keeps (planOf v) (poolOf v) p z rest) (R : ℕ) → rootOf s ≡ R → (σ σ′ : State) → σ′ ≡ go (x .q) (nodeAt (tableOf v) (textOf v) R) (nodeAt (tableOf v) (textOf v) j ∷ []) σ → keeping v p z rest (j + 1) e x R σ′ ≡ keeping v p z rest j e x R σ
     kept-one x R r σ σ′ y =
         over-step (x .q) _ (kept (x .t) _) (tableOf v) (textOf v) j e σ σ′ h
-        (kept-in (x .q) (x .t) _ _ σ σ′ (subst (λ (R : ℕ). evalTest (x .t) (nodeAt (tableOf v) (textOf v) R) (nodeAt (tableOf v) (textOf v) j) ≡ true) (sym (t .going .kept .root) ∙ r) (t .holds h x)) y)
+        (kept-in (x .q) (x .t) _ _ σ σ′ (subst (λ (R : ℕ). evalTest (x .t) (nodeAt (tableOf v) (textOf v) R) (nodeAt (tableOf v) (textOf v) j) ≡ true) (sym (t .going .kept .root) ∙ r) (t .holds n h x)) y)
 
     behind-one : Going (keeping v p z rest i e) (keeping v p z rest (j + 1) e) s₀ l₀ s′ l′
     behind-one =
@@ -293,14 +297,14 @@ module _ {v : List (RefT (List ℕ))} {i e p z rest : ℕ} {s₀ : List ℕ} {l�
     pub filter-full : Asked v s₀ (l₀ .now) → capOf s′ < atOf s′ → Gives (Keeps (planOf v) (poolOf v) p z rest) (keeping v p z rest i e) s₀ (l₀ .now) s′ (l′ .now)
     filter-full a f = going-full behind-one a f (λ x R m n c u w y. over-full (x .q) _ (kept (x .t) _) (tableOf v) (textOf v) (j + 1) e m n c u w y)
 
-    pub filter-again : {r : ℕ} → DoneNext v (rootOf s′) (j + 1) e p z r → InFilter v i e p z rest s₀ l₀ s′ l′ r
+    pub filter-again : {r : ℕ} {call′ : Bits} → DoneNext v (rootOf s′) (j + 1) e p z r call′ → InFilter v i e p z rest s₀ l₀ s′ l′ r call′
     filter-again {r} f =
         let g = f .low in
         let m : rootOf s′ ≡ rootOf s₀ = k .root ∙ t .going .kept .root in
         record {
           low = omega (arith, t .low);
           high = f .high (omega arith);
-          holds = λ y x. subst (λ (R : ℕ). evalTest (x .t) (nodeAt (tableOf v) (textOf v) R) (nodeAt (tableOf v) (textOf v) r) ≡ true) m (f .holds y (x .t) (x .k) (x .tested));
+          holds = λ o y x. subst (λ (R : ℕ). evalTest (x .t) (nodeAt (tableOf v) (textOf v) R) (nodeAt (tableOf v) (textOf v) r) ≡ true) m (f .holds o y (x .t) (x .k) (x .tested));
           going = going-on behind-one (keeping v p z rest r e) (steady-refl s′ l′) (omega (arith, k .cap, b))
               (λ x R C u c. subst (λ (R : ℕ). keeping v p z rest r e x R (st C (l′ .now) (atOf s′)) ≡ keeping v p z rest (j + 1) e x R (st C (l′ .now) (atOf s′))) u (passed f rest x _ (f .high (omega arith))));
         }
@@ -313,11 +317,11 @@ pub record InNext (v : List (RefT (List ℕ))) (root i e p z j : ℕ) : Type 0 w
   pub passed : (t : Test) (k : ℕ) → Tested (planOf v) (poolOf v) p z t k → (m : ℕ) → i ≤ m → m < j → evalTest t (nodeAt (tableOf v) (textOf v) root) (nodeAt (tableOf v) (textOf v) m) ≡ false
 
 module _ {v : List (RefT (List ℕ))} {root i e p z j : ℕ} (t : InNext v root i e p z j) where
-  pub next-found : {b : Bits} → DoneTest (planOf v) (poolOf v) (tableOf v) (textOf v) root j p z b → b ≡ true → DoneNext v root i e p z j
-  next-found d b = record { low = t .low; high = t .high; passed = t .passed; holds = λ h x k y. sym (d x k y) ∙ b }
+  pub next-found : {b call : Bits} → (call ≡ false → DoneTest (planOf v) (poolOf v) (tableOf v) (textOf v) root j p z b) → b ≡ true → DoneNext v root i e p z j call
+  next-found d b = record { low = t .low; high = t .high; passed = t .passed; holds = λ n h x k y. sym (d n x k y) ∙ b }
 
-  pub next-none : e ≤ j → DoneNext v root i e p z j
-  next-none h = record { low = t .low; high = t .high; passed = t .passed; holds = λ y. absurd (omega arith) }
+  pub next-none : {call : Bits} → e ≤ j → DoneNext v root i e p z j call
+  next-none h = record { low = t .low; high = t .high; passed = t .passed; holds = λ n y. absurd (omega arith) }
 
   pub next-again : {b : Bits} → j < e → DoneTest (planOf v) (poolOf v) (tableOf v) (textOf v) root j p z b → b ≡ false → InNext v root i e p z (j + 1)
   next-again h d b =

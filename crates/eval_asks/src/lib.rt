@@ -1,5 +1,8 @@
 // What the functions of evaluation and its shortcuts are lent, ask and give: the places of what stands behind their references of one word. What each asks and gives
 // stands in specs/.
+//
+//   cells   how far a filter has been told of a node
+pub mod cells;
 
 // The places of what is lent.
 pub const PLAN: usize = 0;

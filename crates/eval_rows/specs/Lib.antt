@@ -3,3 +3,4 @@ pub mod Calls
 pub mod Known
 pub mod Turns
 pub mod Rows
+pub mod Columns

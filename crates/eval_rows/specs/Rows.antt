@@ -5,14 +5,13 @@ use mathlib.Core.List.{List}
 use mathlib.Core.Bool.{Bool as Bits, true, false}
 use lib.ListN.{length}
 use native.Mathlib.Omega.{arith}
-use Rattle.definition.specs.Forms.{Test}
 use Rattle.definition.specs.Tables.{nodeCount, nodeAt}
-use Rattle.definition.specs.Evaluation.{evalTest}
-use Rattle.eval_laws.specs.Todos.{todo-start, todo-end}
+use Rattle.eval_laws.specs.Todos.{todo-to}
+use Rattle.eval_asks.specs.Cells.{answerOf, placeOf, left-ended}
 use Rattle.eval_filters.specs.Queries.{Within}
-use Rattle.eval_filters.specs.Kept.{Tested, AskTest, DoneTest, AskKept, InKept, kept-full, kept-end}
+use Rattle.eval_filters.specs.Kept.{AskTest, AskKept, InKept, kept-full, kept-end}
 use Rattle.eval_filters.specs.Keeps.{TailAt, DoneRange, range-done}
-use Rattle.eval_filters.specs.Tests.{Left}
+use Rattle.eval_filters.specs.Tests.{Left, AskRest}
 use Rattle.eval_filters.specs.Values.{AskLeft}
 use Rattle.eval_filters.specs.declared.Told.{Told}
 use Rattle.eval_rows.specs.declared.rows.Filter.{Filter}
@@ -23,31 +22,40 @@ use Rattle.eval_rows.specs.Turns.{AskTurn, DoneTurn}
 never : false ≡ true → ⊥
 never e = let n : _≡_ {A = ℕ} 0 1 = cc in omega arith
 
--- ---- the answer for a node
+-- ---- how far the filter is told of a node with a cell
 
-pub record DoneAnswer (P L S X : List ℕ) (root node p z : ℕ) (r : Answer) : Type 0 where
-  pub told : r .some ≡ true → DoneTest P L S X root node p z (r .acc)
-  pub untold : r .some ≡ false → AskLeft P L S X root node (r .q) z
+pub record DoneAnswer (P L S X : List ℕ) (root node c first z : ℕ) (r : Answer) : Type 0 where
+  pub later : placeOf c ≤ z → placeOf c ≤ r .q
+  pub near : placeOf c ≤ z → r .q ≤ z
+  pub goes : (want : Bits) → Left P L (placeOf c) z (nodeAt S X root) (nodeAt S X node) (answerOf c) want → Left P L (r .q) z (nodeAt S X root) (nodeAt S X node) (r .acc) want
+  pub told : r .some ≡ true → z ≤ r .q
+  pub untold : r .some ≡ false → placeOf c ≡ first → r .q < z
 
--- what is left of the code gives the test's answer, for every form that stands there
-abbrev pub InAsked : List ℕ → List ℕ → List ℕ → List ℕ → ℕ → ℕ → ℕ → ℕ → Bits → ℕ → Type 0
-InAsked P L S X root node p z acc q = (t : Test) (k : ℕ) → Tested P L p z t k → Left P L q z (nodeAt S X root) (nodeAt S X node) acc (evalTest t (nodeAt S X root) (nodeAt S X node))
+-- what is left of the code gives what was wanted
+pub record InAsked (P L S X : List ℕ) (root node z c : ℕ) (acc : Bits) (q : ℕ) : Type 0 where
+  pub later : placeOf c ≤ q
+  pub goes : (want : Bits) → Left P L (placeOf c) z (nodeAt S X root) (nodeAt S X node) (answerOf c) want → Left P L q z (nodeAt S X root) (nodeAt S X node) acc want
 
-pub asked-start : {P L S X : List ℕ} {root node p z : ℕ} → Within P L S X root node → InAsked P L S X root node p z false p
-asked-start w t k h = todo-start _ _ _ _ k _ _ _ _ _ t (h .test) (h .place)
+module _ {P L S X : List ℕ} {root node z c : ℕ} {acc : Bits} {q : ℕ} (a : acc ≡ answerOf c) (e : q ≡ placeOf c) where
+  pub asked-start : InAsked P L S X root node z c acc q
+  asked-start = record { later = omega arith; goes = λ want d. todo-to P L (placeOf c) q z _ _ _ _ _ _ _ _ want e a refl refl d }
 
-module _ {P L S X : List ℕ} {root node p z : ℕ} {acc : Bits} {q : ℕ} (w : Within P L S X root node) (a : AskTest P L p z) (i : InAsked P L S X root node p z acc q) where
+  -- a cell that is not at the place that is asked
+  pub answer-left : {first : ℕ} → (q ≡ first → ⊥) → DoneAnswer P L S X root node c first z (record { acc = acc; q = q; some = false })
+  answer-left n = record { later = λ h. omega arith; near = λ h. omega arith; goes = asked-start .goes; told = λ u. absurd (never u); untold = λ u v. absurd (n (e ∙ v)) }
+
+module _ {P L S X : List ℕ} {root node z c : ℕ} {acc : Bits} {q : ℕ} (w : Within P L S X root node) (a : AskRest P L S X root node (answerOf c) (placeOf c) z) (i : InAsked P L S X root node z c acc q) where
   pub asked-turn : q < z → AskTurn P L S X root node acc q z
-  asked-turn h = record { within = w; want = _; todo = i (a .t) (a .k) (a .stands); more = h }
+  asked-turn h = record { within = w; want = _; todo = i .goes (a .want) (a .todo); more = h }
 
-  pub asked-further : {r : Told} → DoneTurn P L S X root node acc q z r → r .some ≡ true → InAsked P L S X root node p z (r .acc) (r .q)
-  asked-further d s t k h = d .goes s _ (i t k h)
+  pub asked-further : {r : Told} → q < z → DoneTurn P L S X root node acc q z r → r .some ≡ true → InAsked P L S X root node z c (r .acc) (r .q)
+  asked-further h d s = record { later = omega (arith, i .later, d .further s); goes = λ want t. d .goes s want (i .goes want t) }
 
-  pub answer-none : q < z → DoneAnswer P L S X root node p z (record { acc = false; q = q; some = false })
-  answer-none h = record { told = λ u. absurd (never u); untold = λ u. record { within = w; acc = acc; want = _; todo = i (a .t) (a .k) (a .stands); more = h } }
+  pub answer-none : {first : ℕ} → q < z → DoneAnswer P L S X root node c first z (record { acc = acc; q = q; some = false })
+  answer-none h = record { later = λ n. i .later; near = λ n. omega arith; goes = i .goes; told = λ u. absurd (never u); untold = λ u v. h }
 
-  pub answer-told : z ≤ q → DoneAnswer P L S X root node p z (record { acc = acc; q = q; some = true })
-  answer-told h = record { told = λ u t k b. todo-end _ _ _ _ _ _ _ _ _ _ (i t k b) h; untold = λ u. absurd (never (sym u)) }
+  pub answer-told : {first : ℕ} → z ≤ q → DoneAnswer P L S X root node c first z (record { acc = acc; q = z; some = true })
+  answer-told h = record { later = λ n. n; near = λ n. omega arith; goes = λ want t. left-ended h (i .goes want t); told = λ u. omega arith; untold = λ u. absurd (never (sym u)) }
 
 -- ---- all nodes in turn
 

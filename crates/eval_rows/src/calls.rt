@@ -2,7 +2,6 @@
 use crate::paths;
 use plan_format::kinds::CURRENT;
 use plan_format::kinds::MATCH;
-use plan_format::kinds::NOT;
 use plan_format::kinds::SEARCH;
 use plan_format::kinds::TEXT;
 use text::bytes;
@@ -15,9 +14,6 @@ ghost use Rattle.eval_rows.specs.Calls.{AskCall, ReadAt, regexKind};
 
 // A place that is in no plan.
 const NOWHERE: usize = 65536;
-
-// For so many nodes the whole code of a filter is looked at.
-const MANY: usize = 16;
 
 // The places of the call and of its query's end, the expression's place in the pool, and the kind of the call; `some` is false where there is no such call.
 pub struct Call {
@@ -53,8 +49,8 @@ fn is_regex(k: u8) -> bool
     k <= SEARCH
 }
 
-// Whether a byte from p up to z is that of match or search, with one that begins a text at the place of its last operand.
-fn mentions(plan: &[u8], p: usize, z: usize) -> bool
+// Whether a call may stand in the code from p up to z: whether a byte is that of match or search, with one that begins a text at the place of its last operand.
+pub fn mentions(plan: &[u8], p: usize, z: usize) -> bool
     requires { ⌜ (z ≤ length (now plan)) × (z ≤ maxPlan) ⌝ }
 {
     if z < 5 {
@@ -71,27 +67,6 @@ fn mentions(plan: &[u8], p: usize, z: usize) -> bool
         k += 1;
     }
     false
-}
-
-// Whether a call may stand in the code from p up to z, which n nodes are asked for: a hint that is cheap beside them. For few nodes the end of the code is looked at
-// alone.
-pub fn may_call(plan: &[u8], p: usize, z: usize, n: usize) -> bool
-    requires { ⌜ (z ≤ length (now plan)) × (z ≤ maxPlan) ⌝ }
-{
-    if z < 8 {
-        return false;
-    }
-    let k = plan[z - 1];
-    if is_regex(k) {
-        return true;
-    }
-    if MANY <= n {
-        return mentions(plan, p, z);
-    }
-    if k != NOT {
-        return false;
-    }
-    is_regex(plan[z - 2])
 }
 
 // The call at q, in code that ends at z.

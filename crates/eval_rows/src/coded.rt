@@ -8,12 +8,11 @@ use crate::turns::READ;
 use crate::turns::STATES;
 use regex_marks::weigh;
 use regex_states::prepare;
-ghost use lib.ListN.{length};
 ghost use Rattle.definition.specs.Bytes.{part};
 ghost use Rattle.regex_rooms.specs.Rooms.{scopeFor};
 ghost use Rattle.eval_rows.specs.Calls.{CallAt, Spelled};
 ghost use Rattle.eval_rows.specs.Known.{Ready, Outside};
-ghost use Rattle.eval_rows.specs.Rows.{AskRows, DoneRows};
+ghost use Rattle.eval_rows.specs.Columns.{AskPass, DonePass};
 
 // Rooms for marks, as in `regex_rooms`.
 const FEW: usize = 4096;
@@ -46,10 +45,10 @@ fn with_few(
     at: usize,
     again: u8,
 ) -> Passed
-    requires { ⌜ AskRows (now plan) (now pool) (now table) (now text) f i (length (now list)) at ⌝ }
+    requires { ⌜ AskPass (now plan) (now pool) (now table) (now text) f i (now list) at ⌝ }
     requires { ⌜ CallAt (now plan) (f .z) g × Spelled (now pool) g ⌝ }
     requires { ⌜ Ready (scopeFor (g .kind)) (part (now pool) (g .start) (g .size)) (now code) 2 ⌝ }
-    ensures { λ r. ⌜ DoneRows (now (plan .entry)) (now (pool .entry)) (now (table .entry)) (now (text .entry)) f i (now (list .entry)) at (now (list .exit)) r ⌝ }
+    ensures { λ r. ⌜ DonePass (now (plan .entry)) (now (pool .entry)) (now (table .entry)) (now (text .entry)) f i (now (list .entry)) at (now (list .exit)) r ⌝ }
 {
     if 0 < again {
         return with_few(plan, pool, table, text, f, i, g, code, list, at, again - 1);
@@ -89,10 +88,10 @@ fn with_states(
     at: usize,
     again: u8,
 ) -> Passed
-    requires { ⌜ AskRows (now plan) (now pool) (now table) (now text) f i (length (now list)) at ⌝ }
+    requires { ⌜ AskPass (now plan) (now pool) (now table) (now text) f i (now list) at ⌝ }
     requires { ⌜ CallAt (now plan) (f .z) g × Spelled (now pool) g ⌝ }
     requires { ⌜ Ready (scopeFor (g .kind)) (part (now pool) (g .start) (g .size)) (now code) 3 ⌝ }
-    ensures { λ r. ⌜ DoneRows (now (plan .entry)) (now (pool .entry)) (now (table .entry)) (now (text .entry)) f i (now (list .entry)) at (now (list .exit)) r ⌝ }
+    ensures { λ r. ⌜ DonePass (now (plan .entry)) (now (pool .entry)) (now (table .entry)) (now (text .entry)) f i (now (list .entry)) at (now (list .exit)) r ⌝ }
 {
     if 0 < again {
         return with_states(plan, pool, table, text, f, i, g, code, list, at, again - 1);
@@ -133,10 +132,10 @@ fn with_most(
     at: usize,
     again: u8,
 ) -> Passed
-    requires { ⌜ AskRows (now plan) (now pool) (now table) (now text) f i (length (now list)) at ⌝ }
+    requires { ⌜ AskPass (now plan) (now pool) (now table) (now text) f i (now list) at ⌝ }
     requires { ⌜ CallAt (now plan) (f .z) g × Spelled (now pool) g ⌝ }
     requires { ⌜ Ready (scopeFor (g .kind)) (part (now pool) (g .start) (g .size)) (now code) 2 ⌝ }
-    ensures { λ r. ⌜ DoneRows (now (plan .entry)) (now (pool .entry)) (now (table .entry)) (now (text .entry)) f i (now (list .entry)) at (now (list .exit)) r ⌝ }
+    ensures { λ r. ⌜ DonePass (now (plan .entry)) (now (pool .entry)) (now (table .entry)) (now (text .entry)) f i (now (list .entry)) at (now (list .exit)) r ⌝ }
 {
     if 0 < again {
         return with_most(plan, pool, table, text, f, i, g, code, list, at, again - 1);
@@ -186,10 +185,10 @@ pub fn by_code(
     list: &mut [u32],
     at: usize,
 ) -> Passed
-    requires { ⌜ AskRows (now plan) (now pool) (now table) (now text) f i (length (now list)) at ⌝ }
+    requires { ⌜ AskPass (now plan) (now pool) (now table) (now text) f i (now list) at ⌝ }
     requires { ⌜ CallAt (now plan) (f .z) g × Spelled (now pool) g ⌝ }
     requires { ⌜ Ready (scopeFor (g .kind)) (part (now pool) (g .start) (g .size)) (now code) 2 ⌝ }
-    ensures { λ r. ⌜ DoneRows (now (plan .entry)) (now (pool .entry)) (now (table .entry)) (now (text .entry)) f i (now (list .entry)) at (now (list .exit)) r ⌝ }
+    ensures { λ r. ⌜ DonePass (now (plan .entry)) (now (pool .entry)) (now (table .entry)) (now (text .entry)) f i (now (list .entry)) at (now (list .exit)) r ⌝ }
 {
     // 0 for both kinds; but LLVM cannot tell.
     let again = g.kind / NO_KIND;
@@ -215,10 +214,10 @@ pub fn outside(
     list: &mut [u32],
     at: usize,
 ) -> Passed
-    requires { ⌜ AskRows (now plan) (now pool) (now table) (now text) f i (length (now list)) at ⌝ }
+    requires { ⌜ AskPass (now plan) (now pool) (now table) (now text) f i (now list) at ⌝ }
     requires { ⌜ CallAt (now plan) (f .z) g × Spelled (now pool) g ⌝ }
     requires { ⌜ Outside (scopeFor (g .kind)) (part (now pool) (g .start) (g .size)) ⌝ }
-    ensures { λ r. ⌜ DoneRows (now (plan .entry)) (now (pool .entry)) (now (table .entry)) (now (text .entry)) f i (now (list .entry)) at (now (list .exit)) r ⌝ }
+    ensures { λ r. ⌜ DonePass (now (plan .entry)) (now (pool .entry)) (now (table .entry)) (now (text .entry)) f i (now (list .entry)) at (now (list .exit)) r ⌝ }
 {
     let code = [0u32; 1];
     let mut edges = [0u8; 1];

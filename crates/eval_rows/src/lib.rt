@@ -1,17 +1,20 @@
 // The nodes of a range that a filter keeps, where its tests need no walk. An expression of match or search that is a text of the plan is read once for all of them, at
-// the first node that asks for it.
+// the first node that asks for it. Where there are more calls than one, or more follows than a name, each node has a cell that says how far it is told, and every call
+// is asked of all nodes that stand at it (`fill`).
 //
 // The rooms for it stand in frames of their own. LLVM would join the functions that hold them into evaluation, which calls itself, and every call of that would have
 // the rooms; a function that calls itself it leaves alone. `again` says how often one does, which changes nothing of the answer. There are two sizes of each room,
 // since a room is cleared first.
 //
-//   paths   names and indices that lead to the end of a query
-//   calls   such a call in a filter's code
-//   turns   one test of a filter's code on a node
-//   rows    one node with the whole filter, and all of them in turn
-//   coded   all of them where the expression is known
+//   paths     names and indices that lead to the end of a query
+//   calls     such a call in a filter's code
+//   turns     one test of a filter's code on a node
+//   rows      one node with the whole filter, and all of them in turn
+//   columns   how far each of them is told, in a cell
+//   coded     all of them where the expression is known
 pub mod calls;
 pub mod coded;
+pub mod columns;
 pub mod paths;
 pub mod rows;
 pub mod turns;
@@ -22,10 +25,13 @@ use regex_rooms::reads;
 use rows::Filter;
 use rows::Passed;
 use turns::UNREAD;
-ghost use Prim.Native.Nat.{_+_, _*_, _≤_};
+ghost use mathlib.Core.Path.{_≡_};
+ghost use mathlib.Core.Bool.{true, false};
+ghost use Prim.Native.Nat.{_+_, _-_, _*_, _≤_, _<_};
 ghost use lib.ListN.{length};
 ghost use Rattle.eval_rows.specs.Calls.{CallAt, Spelled};
-ghost use Rattle.eval_rows.specs.Rows.{AskRows, DoneRows};
+ghost use Rattle.eval_rows.specs.Columns.{AskPass, DonePass, Standing, AskFill};
+ghost use Rattle.eval_asks.specs.Cells.{Column};
 
 // An expression of the part has at most so many bytes.
 const LONG: usize = 1024;
@@ -54,10 +60,10 @@ fn read_in(
     chars: &mut [u32],
     code: &mut [u32],
 ) -> Passed
-    requires { ⌜ AskRows (now plan) (now pool) (now table) (now text) f i (length (now list)) at ⌝ }
+    requires { ⌜ AskPass (now plan) (now pool) (now table) (now text) f i (now list) at ⌝ }
     requires { ⌜ CallAt (now plan) (f .z) g × Spelled (now pool) g ⌝ }
     requires { ⌜ (g .size ≤ length (now chars)) × (8 * g .size + 15 ≤ length (now code)) ⌝ }
-    ensures { λ r. ⌜ DoneRows (now (plan .entry)) (now (pool .entry)) (now (table .entry)) (now (text .entry)) f i (now (list .entry)) at (now (list .exit)) r ⌝ }
+    ensures { λ r. ⌜ DonePass (now (plan .entry)) (now (pool .entry)) (now (table .entry)) (now (text .entry)) f i (now (list .entry)) at (now (list .exit)) r ⌝ }
 {
     let b = g.start;
     let n = g.size;
@@ -80,10 +86,10 @@ fn short(
     at: usize,
     again: u8,
 ) -> Passed
-    requires { ⌜ AskRows (now plan) (now pool) (now table) (now text) f i (length (now list)) at ⌝ }
+    requires { ⌜ AskPass (now plan) (now pool) (now table) (now text) f i (now list) at ⌝ }
     requires { ⌜ CallAt (now plan) (f .z) g × Spelled (now pool) g ⌝ }
     requires { ⌜ g .size ≤ 128 ⌝ }
-    ensures { λ r. ⌜ DoneRows (now (plan .entry)) (now (pool .entry)) (now (table .entry)) (now (text .entry)) f i (now (list .entry)) at (now (list .exit)) r ⌝ }
+    ensures { λ r. ⌜ DonePass (now (plan .entry)) (now (pool .entry)) (now (table .entry)) (now (text .entry)) f i (now (list .entry)) at (now (list .exit)) r ⌝ }
 {
     if 0 < again {
         return short(plan, pool, table, text, f, i, g, list, at, again - 1);
@@ -118,10 +124,10 @@ fn long(
     at: usize,
     again: u8,
 ) -> Passed
-    requires { ⌜ AskRows (now plan) (now pool) (now table) (now text) f i (length (now list)) at ⌝ }
+    requires { ⌜ AskPass (now plan) (now pool) (now table) (now text) f i (now list) at ⌝ }
     requires { ⌜ CallAt (now plan) (f .z) g × Spelled (now pool) g ⌝ }
     requires { ⌜ g .size ≤ 1024 ⌝ }
-    ensures { λ r. ⌜ DoneRows (now (plan .entry)) (now (pool .entry)) (now (table .entry)) (now (text .entry)) f i (now (list .entry)) at (now (list .exit)) r ⌝ }
+    ensures { λ r. ⌜ DonePass (now (plan .entry)) (now (pool .entry)) (now (table .entry)) (now (text .entry)) f i (now (list .entry)) at (now (list .exit)) r ⌝ }
 {
     if 0 < again {
         return long(plan, pool, table, text, f, i, g, list, at, again - 1);
@@ -155,9 +161,9 @@ fn by_size(
     list: &mut [u32],
     at: usize,
 ) -> Passed
-    requires { ⌜ AskRows (now plan) (now pool) (now table) (now text) f i (length (now list)) at ⌝ }
+    requires { ⌜ AskPass (now plan) (now pool) (now table) (now text) f i (now list) at ⌝ }
     requires { ⌜ CallAt (now plan) (f .z) g × Spelled (now pool) g ⌝ }
-    ensures { λ r. ⌜ DoneRows (now (plan .entry)) (now (pool .entry)) (now (table .entry)) (now (text .entry)) f i (now (list .entry)) at (now (list .exit)) r ⌝ }
+    ensures { λ r. ⌜ DonePass (now (plan .entry)) (now (pool .entry)) (now (table .entry)) (now (text .entry)) f i (now (list .entry)) at (now (list .exit)) r ⌝ }
 {
     // 0 for both kinds; but LLVM cannot tell.
     let again = g.kind / NO_KIND;
@@ -171,8 +177,8 @@ fn by_size(
     coded::outside(plan, pool, table, text, f, i, g, list, at)
 }
 
-// The nodes from i on that the filter keeps, with what follows, up to the first that needs a walk. Up to the first that asks for an expression none is needed.
-pub fn keep_rows(
+// The nodes from i on that the filter keeps, with what follows, up to the first that needs an expression or a walk; or their cells, each up to there.
+fn unread(
     plan: &[u8],
     pool: &[u8],
     table: &[u8],
@@ -182,14 +188,14 @@ pub fn keep_rows(
     list: &mut [u32],
     at: usize,
 ) -> Passed
-    requires { ⌜ AskRows (now plan) (now pool) (now table) (now text) f i (length (now list)) at ⌝ }
-    ensures { λ r. ⌜ DoneRows (now (plan .entry)) (now (pool .entry)) (now (table .entry)) (now (text .entry)) f i (now (list .entry)) at (now (list .exit)) r ⌝ }
+    requires { ⌜ AskPass (now plan) (now pool) (now table) (now text) f i (now list) at ⌝ }
+    ensures { λ r. ⌜ DonePass (now (plan .entry)) (now (pool .entry)) (now (table .entry)) (now (text .entry)) f i (now (list .entry)) at (now (list .exit)) r ⌝ }
 {
     let code = [0u32; 1];
     let mut edges = [0u8; 1];
     let mut sets = [0u8; 1];
     let mut marks = [0u8; 1];
-    let v = rows::keep(
+    rows::keep(
         plan,
         pool,
         table,
@@ -204,7 +210,25 @@ pub fn keep_rows(
         &mut marks,
         list,
         at,
-    );
+    )
+}
+
+// The nodes from i on that the filter keeps, with what follows, up to the first that needs a walk or another expression. Up to the first that asks for an expression
+// none is needed. A filter with more than one is left.
+pub fn keep_rows(
+    plan: &[u8],
+    pool: &[u8],
+    table: &[u8],
+    text: &[u8],
+    f: Filter,
+    i: usize,
+    list: &mut [u32],
+    at: usize,
+) -> Passed
+    requires { ⌜ AskPass (now plan) (now pool) (now table) (now text) f i (now list) at × (f .cells ≡ false) ⌝ }
+    ensures { λ r. ⌜ DonePass (now (plan .entry)) (now (pool .entry)) (now (table .entry)) (now (text .entry)) f i (now (list .entry)) at (now (list .exit)) r ⌝ }
+{
+    let v = unread(plan, pool, table, text, f, i, list, at);
     if !v.more {
         return v;
     }
@@ -212,5 +236,73 @@ pub fn keep_rows(
     if !g.some {
         return v;
     }
+    if calls::mentions(plan, g.end + 7, f.z) {
+        return v;
+    }
     by_size(plan, pool, table, text, f, v.i, g, list, v.at)
+}
+
+// The cells of the nodes from i on, one of which stands at q: those that stand there go through the call; or, where nothing is told of any, each goes to the first test
+// that needs an expression or a walk.
+fn through(
+    plan: &[u8],
+    pool: &[u8],
+    table: &[u8],
+    text: &[u8],
+    f: Filter,
+    i: usize,
+    q: usize,
+    column: &mut [u32],
+)
+    requires { ⌜ AskPass (now plan) (now pool) (now table) (now text) f i (now column) 0 × (f .cells ≡ true) ⌝ }
+    requires { ⌜ Standing (now column) (f .e - i) q × (q < f .z) ⌝ }
+    ensures { λ r. ⌜ Column (now (plan .entry)) (now (pool .entry)) (now (table .entry)) (now (text .entry)) (f .root) i (f .e) (f .p) (f .z) (now (column .exit)) ⌝ }
+{
+    let g = calls::read_call(plan, q, f.z);
+    if g.some {
+        by_size(plan, pool, table, text, f, i, g, column, 0);
+        return;
+    }
+    if q == f.p {
+        unread(plan, pool, table, text, f, i, column, 0);
+    }
+}
+
+// The cells of the nodes from i up to e with the filter from p up to z: each call of match or search with a text of the plan is asked of all that stand at it, from one
+// place of the code to the next. What stands at something else is left.
+pub fn fill(
+    plan: &[u8],
+    pool: &[u8],
+    table: &[u8],
+    text: &[u8],
+    root: usize,
+    i: usize,
+    e: usize,
+    p: usize,
+    z: usize,
+    column: &mut [u32],
+)
+    requires { ⌜ AskFill (now plan) (now pool) (now table) (now text) root i e p z (length (now column)) ⌝ }
+    ensures { λ r. ⌜ Column (now (plan .entry)) (now (pool .entry)) (now (table .entry)) (now (text .entry)) root i e p z (now (column .exit)) ⌝ }
+{
+    let f = Filter {
+        root,
+        e,
+        p,
+        z,
+        tail: 0,
+        rest: 0,
+        cap: 0,
+        cells: true,
+    };
+    columns::lay(column, e - i, p);
+    let mut from = p;
+    while from < z {
+        let q = columns::least(column, e - i, from, z);
+        if z <= q {
+            return;
+        }
+        from = q + 1;
+        through(plan, pool, table, text, f, i, q, column);
+    }
 }

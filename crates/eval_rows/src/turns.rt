@@ -1,5 +1,4 @@
 // One test of a filter's code on a node, or an operator between tests, told without registers; and a call by what is known of its expression.
-use crate::calls;
 use crate::calls::Call;
 use crate::paths;
 use eval_filters::Told;
@@ -124,34 +123,7 @@ pub fn called(
     tested(g.kind, known, code, &text[a..a + n], edges, sets, marks)
 }
 
-// The same where the expression is read for this node alone.
-fn called_alone(
-    plan: &[u8],
-    pool: &[u8],
-    table: &[u8],
-    text: &[u8],
-    root: usize,
-    node: usize,
-    z: usize,
-    g: Call,
-) -> bool
-    requires { ⌜ AskLeft (now plan) (now pool) (now table) (now text) root node (g .at) z × CallAt (now plan) z g ⌝ }
-    ensures { λ r. ⌜ DoneCall (now (plan .entry)) (now (pool .entry)) (now (table .entry)) (now (text .entry)) root node z g r ⌝ }
-{
-    let q = g.at;
-    let from = leaves::begins(plan[q], root, node);
-    let s = text_of(plan, pool, table, text, from, g);
-    if !s.some {
-        return false;
-    }
-    let a = s.start;
-    let n = s.size;
-    let b = g.start;
-    let m = g.size;
-    regex_rooms::holds(g.kind, &text[a..a + n], &pool[b..b + m])
-}
-
-// The test or operator at q, with an answer before it, where no call stands that is known. Another call is asked alone, once one is known.
+// The test or operator at q, with an answer before it, where no call stands that is known.
 pub fn told(
     plan: &[u8],
     pool: &[u8],
@@ -162,7 +134,6 @@ pub fn told(
     acc: bool,
     q: usize,
     z: usize,
-    known: u8,
 ) -> Told
     requires { ⌜ AskTurn (now plan) (now pool) (now table) (now text) root node «acc» q z ⌝ }
     ensures { λ r. ⌜ DoneTurn (now (plan .entry)) (now (pool .entry)) (now (table .entry)) (now (text .entry)) root node «acc» q z r ⌝ }
@@ -170,29 +141,5 @@ pub fn told(
     if eval_filters::is_logic(plan[q]) {
         return eval_filters::logic_expr(plan, acc, q);
     }
-    let t = eval_filters::plain_test(plan, pool, table, text, root, node, q, z);
-    if t.some {
-        return t;
-    }
-    if known == UNREAD {
-        return Told {
-            acc: false,
-            q,
-            some: false,
-        };
-    }
-    let g = calls::read_call(plan, q, z);
-    if !g.some {
-        return Told {
-            acc: false,
-            q,
-            some: false,
-        };
-    }
-    let b = called_alone(plan, pool, table, text, root, node, z, g);
-    Told {
-        acc: b,
-        q: g.end + 7,
-        some: true,
-    }
+    eval_filters::plain_test(plan, pool, table, text, root, node, q, z)
 }

@@ -3,4 +3,5 @@ pub mod FlatLaws
 pub mod FlatTests
 pub mod Alongs
 pub mod Entries
+pub mod Joined
 pub mod Rows

@@ -21,7 +21,8 @@ ghost use Rattle.eval_filters.specs.Kept.{AskTest};
 ghost use Rattle.eval_filters.specs.Tests.{DoneShort};
 ghost use Rattle.eval_filters.specs.Values.{AskLeft};
 ghost use Rattle.eval_rows.specs.Calls.{AskCall};
-ghost use Rattle.eval_rows.specs.Rows.{DoneAnswer, AskRows, DoneRows};
+ghost use Rattle.eval_rows.specs.Rows.{AskRows, DoneRows};
+ghost use Rattle.eval_shortcuts.specs.Joined.{DoneJoined};
 
 // The ways of a filter: several tests, and one comparison.
 const JOINED: u8 = 1;
@@ -67,7 +68,7 @@ fn asked(
     z: usize,
 ) -> Answer
     requires { ⌜ Within (now plan) (now pool) (now table) (now text) root node × AskTest (now plan) (now pool) p z ⌝ }
-    ensures { λ r. ⌜ DoneAnswer (now (plan .entry)) (now (pool .entry)) (now (table .entry)) (now (text .entry)) root node p z r ⌝ }
+    ensures { λ r. ⌜ DoneJoined (now (plan .entry)) (now (pool .entry)) (now (table .entry)) (now (text .entry)) root node p z r ⌝ }
 {
     let mut acc = false;
     let mut q = p;
@@ -105,7 +106,7 @@ fn compared(
 ) -> Answer
     requires { ⌜ Within (now plan) (now pool) (now table) (now text) root node × AskTest (now plan) (now pool) p z ⌝ }
     requires { ⌜ p < z ⌝ }
-    ensures { λ r. ⌜ DoneAnswer (now (plan .entry)) (now (pool .entry)) (now (table .entry)) (now (text .entry)) root node p z r ⌝ }
+    ensures { λ r. ⌜ DoneJoined (now (plan .entry)) (now (pool .entry)) (now (table .entry)) (now (text .entry)) root node p z r ⌝ }
 {
     let t = values::value_test(plan, pool, table, text, root, node, p, z);
     let acc = t.acc;
@@ -136,7 +137,7 @@ fn told(
 ) -> Answer
     requires { ⌜ Within (now plan) (now pool) (now table) (now text) root node × AskTest (now plan) (now pool) p z ⌝ }
     requires { ⌜ p < z ⌝ }
-    ensures { λ r. ⌜ DoneAnswer (now (plan .entry)) (now (pool .entry)) (now (table .entry)) (now (text .entry)) root node p z r ⌝ }
+    ensures { λ r. ⌜ DoneJoined (now (plan .entry)) (now (pool .entry)) (now (table .entry)) (now (text .entry)) root node p z r ⌝ }
 {
     if way == ALONE {
         return compared(plan, pool, table, text, root, node, p, z);

@@ -7,11 +7,13 @@
 //   straight  a range of nodes with names and indices up to the end
 //
 // Filters that are read once stand in `eval_filters`, those with match or search of a text of the plan in `eval_rows`.
-ghost use Prim.Native.Nat.{_≤_};
 ghost use Rattle.eval_front.specs.Visits.{Given};
 ghost use Rattle.eval_asks.specs.Lent.{planOf, poolOf, tableOf, textOf};
-ghost use Rattle.eval_asks.specs.Asks.{Asked, Steady, AskEach, DoneAhead, Descends, AskFlats, DoneFlats, AskSelector, AskKind, DoneKeep};
-ghost use Rattle.eval_asks.specs.Rows.{AskRows, DoneRows};
+ghost use Rattle.eval_asks.specs.Asks.{Asked, Steady, AskEach, DoneAhead, Descends, AskFlats, DoneFlats, AskSelector, AskKind, DoneKeep, AskNext};
+ghost use Rattle.eval_asks.specs.Rows.{AskRows, DoneRows, DoneCells};
+ghost use Rattle.eval_filters.specs.Values.{AskLeft};
+ghost use Prim.Native.Nat.{_-_, _≤_, _<_};
+ghost use lib.ListN.{length};
 use eval_asks::AT;
 use eval_asks::CAP;
 use eval_asks::PLAN;
@@ -155,8 +157,9 @@ pub fn keep_children(
     true
 }
 
-// The same as `keep_rows`, for two nodes at least and a filter without match and search that `joined` is for.
-fn keep_joined(
+// The first node from i on of which the test from p up to z needs a walk or an expression, or e, for a filter that `joined` is for. Those before it for which it holds
+// are pushed with what follows, where nothing or one name does. Else, and where one node alone is asked, none is looked at.
+pub fn keep_joined(
     lent: &[&[u8]; 4],
     state: &mut [usize; 3],
     list: &mut &mut [u32],
@@ -167,10 +170,13 @@ fn keep_joined(
     rest: usize,
 ) -> usize
     requires { ⌜ Asked (now lent) (now state) (now (now list)) ⌝ }
-    requires { ⌜ AskRows (now lent) i e p z rest × (i ≤ e) ⌝ }
+    requires { ⌜ AskRows (now lent) i e p z rest ⌝ }
     ensures { λ r. ⌜ Steady (now (state .entry)) (now (list .entry)) (now (state .exit)) (now (list .exit)) ⌝ }
     ensures { λ r. ⌜ DoneRows (now (lent .entry)) i e p z rest (now (state .entry)) (now (now (list .entry))) (now (state .exit)) (now (now (list .exit))) r ⌝ }
 {
+    if e < i + 2 {
+        return i;
+    }
     let plan = lent[PLAN];
     let way = joined::way_of(plan, p, z);
     if way == 0 {
@@ -191,6 +197,7 @@ fn keep_joined(
         tail,
         rest,
         cap,
+        cells: false,
     };
     let v = joined::keep(
         plan,
@@ -210,8 +217,16 @@ fn keep_joined(
     e
 }
 
-// The first node from i on of which the test from p up to z needs a walk, or e. Those before it for which it holds are pushed with what follows, where nothing or one
-// name does. Else, and where one node alone is asked, none is looked at.
+// Whether a call of match or search with a text of the plan stands at q, where a node comes to in a test that ends at z. It only says which way is the faster one.
+pub fn is_call(lent: &[&[u8]; 4], root: usize, node: usize, q: usize, z: usize) -> bool
+    requires { ⌜ AskLeft (planOf (now lent)) (poolOf (now lent)) (tableOf (now lent)) (textOf (now lent)) root node q z ⌝ }
+{
+    let g = calls::read_call(lent[PLAN], q, z);
+    g.some
+}
+
+// The first node from i on of which the test from p up to z needs a walk or a second expression, or e. Those before it for which it holds are pushed with what
+// follows, where nothing or one name does. Else, and where one node alone is asked, none is looked at.
 pub fn keep_rows(
     lent: &[&[u8]; 4],
     state: &mut [usize; 3],
@@ -231,9 +246,6 @@ pub fn keep_rows(
         return i;
     }
     let plan = lent[PLAN];
-    if !calls::may_call(plan, p, z, e - i) {
-        return keep_joined(lent, state, list, i, e, p, z, rest);
-    }
     let tail = kept::tail_of(plan, rest);
     if 1 < tail {
         return i;
@@ -249,6 +261,7 @@ pub fn keep_rows(
         tail,
         rest,
         cap,
+        cells: false,
     };
     let v = eval_rows::keep_rows(plan, lent[POOL], lent[TABLE], lent[TEXT], f, i, *list, at);
     state[AT] = v.at;
@@ -256,4 +269,44 @@ pub fn keep_rows(
         return v.i;
     }
     e
+}
+
+// The end of the range from i up to e, or of its first n nodes.
+fn chunk_end(i: usize, e: usize, n: usize) -> usize
+    requires { ⌜ (i < e) × ((e ≤ 4294967295) × (0 < n)) ⌝ }
+    ensures { λ r. ⌜ (i < r) × ((r ≤ e) × (r - i ≤ n)) ⌝ }
+{
+    if e - i <= n {
+        return e;
+    }
+    i + n
+}
+
+// How far the test from p up to z is told of the nodes from i on, in a cell for each, as many as there are cells: the node behind the last of them.
+pub fn fill_cells(
+    lent: &[&[u8]; 4],
+    root: usize,
+    i: usize,
+    e: usize,
+    p: usize,
+    z: usize,
+    column: &mut [u32],
+) -> usize
+    requires { ⌜ AskNext (now lent) root i e p z × ((i < e) × (0 < length (now column))) ⌝ }
+    ensures { λ r. ⌜ DoneCells (now (lent .entry)) root i e p z (now (column .exit)) r ⌝ }
+{
+    let k = chunk_end(i, e, column.len());
+    eval_rows::fill(
+        lent[PLAN],
+        lent[POOL],
+        lent[TABLE],
+        lent[TEXT],
+        root,
+        i,
+        k,
+        p,
+        z,
+        column,
+    );
+    k
 }

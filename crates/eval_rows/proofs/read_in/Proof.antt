@@ -15,7 +15,7 @@ use Rattle.eval_rows.proofs.coded.outside.Reads as outside-reads
 use Rattle.regex_rooms.proofs.reads.read_widened.Reads as read-widened-reads
 
 add-read-widened : tie.Need-add-read-widened
-add-read-widened c = let s = c .before .before .before .before .before .before .before .pre in omega (arith, s .1 .0 .1 .0, s .0 .kept .given .fewL)
+add-read-widened c = let s = c .before .before .before .before .before .before .before .pre in omega (arith, s .1 .0 .1 .0, s .0 .given .fewL)
 
 sub-read-widened : tie.Need-sub-read-widened
 sub-read-widened c = search needs

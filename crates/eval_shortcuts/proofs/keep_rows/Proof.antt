@@ -2,14 +2,13 @@
 use mathlib.Core.Path.{refl}
 use native.Mathlib.Omega.{arith}
 use Rattle.eval_asks.specs.Steady.{steady-refl, steady-wrote}
-use Rattle.eval_shortcuts.specs.Rows.{rows-none, rows-code, rows-tail, rows-asked, rows-left, rows-all}
+use Rattle.eval_shortcuts.specs.Rows.{rows-none, rows-tail, rows-asked, rows-left, rows-all}
 use borrow.Author.Needs.{needs}
 use Rattle.eval_shortcuts.proofs.keep_rows.Statement.{statement}
 use Rattle.eval_shortcuts.proofs.keep_rows.Tie as tie
 use Rattle.eval_shortcuts.proofs.keep_rows.Reads as reads
 use Rattle.eval_shortcuts.proofs.keep_rows.Lts as lts
 use Rattle.eval_filters.proofs.kept.tail_of.Reads as tail-of-reads
-use Rattle.eval_rows.proofs.calls.may_call.Reads as may-call-reads
 use Rattle.eval_rows.proofs.keep_rows.Reads as keep-rows-reads
 
 add-if1 : tie.Need-add-if1
@@ -21,23 +20,11 @@ returns c = (steady-refl _ _, rows-none (c .before .pre .0))
 element-copy-out-plan : tie.Need-element-copy-out-plan
 element-copy-out-plan c = search needs
 
-sub-may-call : tie.Need-sub-may-call
-sub-may-call c = omega (arith, c .before .if1 .left)
-
-may-call-requires : tie.Need-may-call-requires
-may-call-requires c κs = rows-code (c .before .before .pre .0) (c .before .before .pre .1)
-
-keep-joined-requires : tie.Need-keep-joined-requires
-keep-joined-requires c κs = (c .before .before .before .before .before .before .pre .0, (c .before .before .before .before .before .before .pre .1, omega (arith, c .before .before .before .before .before .if1 .left)))
+tail-of-requires : tie.Need-tail-of-requires
+tail-of-requires c κs = rows-tail (c .before .before .pre .0) (c .before .before .pre .1)
 
 returns-2 : tie.Need-returns-2
-returns-2 c = c .keep-joined .ensures
-
-tail-of-requires : tie.Need-tail-of-requires
-tail-of-requires c κs = rows-tail (c .before .before .before .before .pre .0) (c .before .before .before .before .pre .1)
-
-returns-3 : tie.Need-returns-3
-returns-3 c = (steady-refl _ _, rows-none (c .before .before .before .before .before .before .pre .0))
+returns-2 c = (steady-refl _ _, rows-none (c .before .before .before .before .pre .0))
 
 element-copy-out-root : tie.Need-element-copy-out-root
 element-copy-out-root c = search needs
@@ -61,16 +48,16 @@ slice-aggregate-keep-rows : tie.Need-slice-aggregate-keep-rows
 slice-aggregate-keep-rows c = search needs
 
 keep-rows-requires : tie.Need-keep-rows-requires
-keep-rows-requires c κs = rows-asked (c .before .before .before .before .before .before .before .before .before .before .before .before .before .pre .0) (c .before .before .before .before .before .before .before .before .before .before .before .before .before .pre .1) (c .before .before .before .before .before .before .before .before .tail-of .ensures) (c .before .before .before .before .before .before .before .if3 .left)
+keep-rows-requires c κs = (rows-asked (c .before .before .before .before .before .before .before .before .before .before .before .pre .0) (c .before .before .before .before .before .before .before .before .before .before .before .pre .1) (c .before .before .before .before .before .before .before .before .tail-of .ensures) (c .before .before .before .before .before .before .before .if2 .left), refl)
 
 element-write-state : tie.Need-element-write-state
 element-write-state c = search needs
 
-returns-4 : tie.Need-returns-4
-returns-4 c = (steady-wrote _ _ _ _ (c .before .keep-rows .kept .1 .1 .1 .1 .1 .1 .0) refl, rows-left (c .before .before .before .before .before .before .before .before .before .before .before .before .before .before .before .pre .0) (c .before .before .before .before .before .before .before .before .before .before .before .before .before .before .before .pre .1) (c .before .keep-rows .ensures) (c .if4 .taken))
+returns-3 : tie.Need-returns-3
+returns-3 c = (steady-wrote _ _ _ _ (c .before .keep-rows .kept .1 .1 .1 .1 .1 .1 .0) refl, rows-left (c .before .before .before .before .before .before .before .before .before .before .before .before .before .pre .0) (c .before .before .before .before .before .before .before .before .before .before .before .before .before .pre .1) (c .before .keep-rows .ensures .rows refl) (c .if3 .taken))
 
-returns-5 : tie.Need-returns-5
-returns-5 c = (steady-wrote _ _ _ _ (c .before .keep-rows .kept .1 .1 .1 .1 .1 .1 .0) refl, rows-all (c .before .before .before .before .before .before .before .before .before .before .before .before .before .before .before .pre .0) (c .before .before .before .before .before .before .before .before .before .before .before .before .before .before .before .pre .1) (c .before .keep-rows .ensures) (omega (arith, c .before .before .before .before .before .before .before .before .before .before .before .before .before .before .if1 .left)) (c .if4 .left))
+returns-4 : tie.Need-returns-4
+returns-4 c = (steady-wrote _ _ _ _ (c .before .keep-rows .kept .1 .1 .1 .1 .1 .1 .0) refl, rows-all (c .before .before .before .before .before .before .before .before .before .before .before .before .before .pre .0) (c .before .before .before .before .before .before .before .before .before .before .before .before .before .pre .1) (c .before .keep-rows .ensures .rows refl) (omega (arith, c .before .before .before .before .before .before .before .before .before .before .before .before .if1 .left)) (c .if3 .left))
 
 pub keep-rows-spec : {M : Type 1} → statement M
 keep-rows-spec =
@@ -79,12 +66,8 @@ keep-rows-spec =
     add-if1
     returns
     element-copy-out-plan
-    sub-may-call
-    may-call-requires
-    keep-joined-requires
-    returns-2
     tail-of-requires
-    returns-3
+    returns-2
     element-copy-out-root
     element-copy-out-cap
     element-copy-out-at
@@ -94,5 +77,5 @@ keep-rows-spec =
     slice-aggregate-keep-rows
     keep-rows-requires
     element-write-state
-    returns-4
-    returns-5)
+    returns-3
+    returns-4)

@@ -5,7 +5,7 @@ use native.Mathlib.Omega.{arith}
 use borrow.Author.Tests.{not-false}
 use Rattle.eval_rows.specs.Calls.{left-in}
 use Rattle.eval_rows.specs.Turns.{turn-left, turn-asks, turn-plain}
-use Rattle.eval_rows.specs.Rows.{InAsked, asked-start, asked-turn, asked-further, answer-none, answer-told}
+use Rattle.eval_shortcuts.specs.Joined.{InJoined, joined-start, joined-turn, joined-further, joined-none, joined-told}
 use borrow.Author.Needs.{needs}
 use Rattle.eval_shortcuts.proofs.joined.asked.Statement.{statement}
 use Rattle.eval_shortcuts.proofs.joined.asked.Tie as tie
@@ -14,22 +14,22 @@ use Rattle.eval_shortcuts.proofs.joined.asked.Lts as lts
 use Rattle.eval_filters.proofs.is_logic.Reads as is-logic-reads
 
 abbrev Inv-loop : tie.InvT-loop
-Inv-loop plan pool table text root node p z acc₀ q₀ acc q = InAsked plan pool table text root node p z acc q
+Inv-loop plan pool table text root node p z acc₀ q₀ acc q = InJoined plan pool table text root node p z acc q
 
 abbrev μ-loop : tie.MeasureT-loop
 μ-loop plan pool table text root node p z acc₀ q₀ acc q = z - q
 
 loop-holds : tie.Need-loop-holds Inv-loop μ-loop
-loop-holds c = asked-start (c .before .before .before .before .pre .0)
+loop-holds c = joined-start (c .before .before .before .before .pre .0)
 
 shared-slice-read-is-logic : tie.Need-shared-slice-read-is-logic Inv-loop μ-loop
-shared-slice-read-is-logic c = let s = c .before .before .before .before .before .before .before .pre in left-in (turn-left (asked-turn (s .0) (s .1) (c .before .before .loop .inv) (c .before .loop-test .taken)))
+shared-slice-read-is-logic c = let s = c .before .before .before .before .before .before .before .pre in left-in (turn-left (joined-turn (s .0) (s .1) (c .before .before .loop .inv) (c .before .loop-test .taken)))
 
 is-logic-requires : tie.Need-is-logic-requires Inv-loop μ-loop
 is-logic-requires c κs = search needs
 
 logic-expr-requires : tie.Need-logic-expr-requires Inv-loop μ-loop
-logic-expr-requires c κs = let s = c .before .before .before .before .before .before .before .before .before .pre in turn-asks (asked-turn (s .0) (s .1) (c .before .before .before .before .loop .inv) (c .before .before .before .loop-test .taken)) (sym (c .before .is-logic .ensures) ∙ c .if1 .taken)
+logic-expr-requires c κs = let s = c .before .before .before .before .before .before .before .before .before .pre in turn-asks (joined-turn (s .0) (s .1) (c .before .before .before .before .loop .inv) (c .before .before .before .loop-test .taken)) (sym (c .before .is-logic .ensures) ∙ c .if1 .taken)
 
 loop-less : tie.Need-loop-less Inv-loop μ-loop
 loop-less c = omega (arith, c .logic-expr .ensures .further, c .before .before .before .before .loop-test .taken)
@@ -38,10 +38,10 @@ loop-again : tie.Need-loop-again Inv-loop μ-loop
 loop-again c = λ t k h. c .logic-expr .ensures .goes _ _ _ _ _ (c .before .before .before .before .before .loop .inv t k h) (c .before .before .before .before .loop-test .taken)
 
 test-at-requires : tie.Need-test-at-requires Inv-loop μ-loop
-test-at-requires c κs = let s = c .before .before .before .before .before .before .before .before .before .pre in turn-left (asked-turn (s .0) (s .1) (c .before .before .before .before .loop .inv) (c .before .before .before .loop-test .taken))
+test-at-requires c κs = let s = c .before .before .before .before .before .before .before .before .before .pre in turn-left (joined-turn (s .0) (s .1) (c .before .before .before .before .loop .inv) (c .before .before .before .loop-test .taken))
 
 returns : tie.Need-returns Inv-loop μ-loop
-returns c = let s = c .before .before .before .before .before .before .before .before .before .before .before .before .pre in answer-none (s .0) (s .1) (c .before .before .before .before .before .before .before .loop .inv) (c .before .before .before .before .before .before .loop-test .taken)
+returns c = let s = c .before .before .before .before .before .before .before .before .before .before .before .before .pre in joined-none (s .0) (s .1) (c .before .before .before .before .before .before .before .loop .inv) (c .before .before .before .before .before .before .loop-test .taken)
 
 loop-less-2 : tie.Need-loop-less-2 Inv-loop μ-loop
 loop-less-2 c = omega (arith, c .before .before .test-at .ensures .further (not-false _ (c .if2 .left)), c .before .before .before .before .before .before .loop-test .taken)
@@ -50,10 +50,10 @@ loop-again-2 : tie.Need-loop-again-2 Inv-loop μ-loop
 loop-again-2 c =
     let s = c .before .before .before .before .before .before .before .before .before .before .before .before .pre in
     let i = c .before .before .before .before .before .before .before .loop .inv in
-    asked-further (s .0) (s .1) i (turn-plain (asked-turn (s .0) (s .1) i (c .before .before .before .before .before .before .loop-test .taken)) (c .before .before .test-at .ensures)) (not-false _ (c .if2 .left))
+    joined-further (s .0) (s .1) i (turn-plain (joined-turn (s .0) (s .1) i (c .before .before .before .before .before .before .loop-test .taken)) (c .before .before .test-at .ensures)) (not-false _ (c .if2 .left))
 
 returns-2 : tie.Need-returns-2 Inv-loop μ-loop
-returns-2 c = let s = c .before .before .before .before .before .before .pre in answer-told (s .0) (s .1) (c .before .loop .inv) (c .loop-test .left)
+returns-2 c = let s = c .before .before .before .before .before .before .pre in joined-told (s .0) (s .1) (c .before .loop .inv) (c .loop-test .left)
 
 pub asked-spec : {M : Type 1} → statement M
 asked-spec =

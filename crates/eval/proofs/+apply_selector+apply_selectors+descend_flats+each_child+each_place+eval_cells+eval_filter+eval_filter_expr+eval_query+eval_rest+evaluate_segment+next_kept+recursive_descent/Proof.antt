@@ -1,36 +1,39 @@
 -- The proof of evaluation's cycle of calls: the members' answers, tied. Assumes nothing.
 use Rattle.eval.proofs.apply_selector.Reads as apply-selector
-use Rattle.eval.proofs.+apply_selector+apply_selectors+descend_flats+each_child+each_place+eval_filter+eval_filter_expr+eval_query+eval_rest+evaluate_segment+next_kept+recursive_descent.Lts-apply_selector as apply-selector-lts
+use Rattle.eval.proofs.+apply_selector+apply_selectors+descend_flats+each_child+each_place+eval_cells+eval_filter+eval_filter_expr+eval_query+eval_rest+evaluate_segment+next_kept+recursive_descent.Lts-apply_selector as apply-selector-lts
 use Rattle.eval.proofs.apply_selectors.Reads as apply-selectors
-use Rattle.eval.proofs.+apply_selector+apply_selectors+descend_flats+each_child+each_place+eval_filter+eval_filter_expr+eval_query+eval_rest+evaluate_segment+next_kept+recursive_descent.Lts-apply_selectors as apply-selectors-lts
+use Rattle.eval.proofs.+apply_selector+apply_selectors+descend_flats+each_child+each_place+eval_cells+eval_filter+eval_filter_expr+eval_query+eval_rest+evaluate_segment+next_kept+recursive_descent.Lts-apply_selectors as apply-selectors-lts
 use Rattle.eval.proofs.descend_flats.Reads as descend-flats
-use Rattle.eval.proofs.+apply_selector+apply_selectors+descend_flats+each_child+each_place+eval_filter+eval_filter_expr+eval_query+eval_rest+evaluate_segment+next_kept+recursive_descent.Lts-descend_flats as descend-flats-lts
+use Rattle.eval.proofs.+apply_selector+apply_selectors+descend_flats+each_child+each_place+eval_cells+eval_filter+eval_filter_expr+eval_query+eval_rest+evaluate_segment+next_kept+recursive_descent.Lts-descend_flats as descend-flats-lts
 use Rattle.eval.proofs.each_child.Reads as each-child
-use Rattle.eval.proofs.+apply_selector+apply_selectors+descend_flats+each_child+each_place+eval_filter+eval_filter_expr+eval_query+eval_rest+evaluate_segment+next_kept+recursive_descent.Lts-each_child as each-child-lts
+use Rattle.eval.proofs.+apply_selector+apply_selectors+descend_flats+each_child+each_place+eval_cells+eval_filter+eval_filter_expr+eval_query+eval_rest+evaluate_segment+next_kept+recursive_descent.Lts-each_child as each-child-lts
 use Rattle.eval.proofs.each_place.Reads as each-place
-use Rattle.eval.proofs.+apply_selector+apply_selectors+descend_flats+each_child+each_place+eval_filter+eval_filter_expr+eval_query+eval_rest+evaluate_segment+next_kept+recursive_descent.Lts-each_place as each-place-lts
+use Rattle.eval.proofs.+apply_selector+apply_selectors+descend_flats+each_child+each_place+eval_cells+eval_filter+eval_filter_expr+eval_query+eval_rest+evaluate_segment+next_kept+recursive_descent.Lts-each_place as each-place-lts
+use Rattle.eval.proofs.eval_cells.Reads as eval-cells
+use Rattle.eval.proofs.+apply_selector+apply_selectors+descend_flats+each_child+each_place+eval_cells+eval_filter+eval_filter_expr+eval_query+eval_rest+evaluate_segment+next_kept+recursive_descent.Lts-eval_cells as eval-cells-lts
 use Rattle.eval.proofs.eval_filter.Reads as eval-filter
-use Rattle.eval.proofs.+apply_selector+apply_selectors+descend_flats+each_child+each_place+eval_filter+eval_filter_expr+eval_query+eval_rest+evaluate_segment+next_kept+recursive_descent.Lts-eval_filter as eval-filter-lts
+use Rattle.eval.proofs.+apply_selector+apply_selectors+descend_flats+each_child+each_place+eval_cells+eval_filter+eval_filter_expr+eval_query+eval_rest+evaluate_segment+next_kept+recursive_descent.Lts-eval_filter as eval-filter-lts
 use Rattle.eval.proofs.eval_filter_expr.Reads as eval-filter-expr
-use Rattle.eval.proofs.+apply_selector+apply_selectors+descend_flats+each_child+each_place+eval_filter+eval_filter_expr+eval_query+eval_rest+evaluate_segment+next_kept+recursive_descent.Lts-eval_filter_expr as eval-filter-expr-lts
+use Rattle.eval.proofs.+apply_selector+apply_selectors+descend_flats+each_child+each_place+eval_cells+eval_filter+eval_filter_expr+eval_query+eval_rest+evaluate_segment+next_kept+recursive_descent.Lts-eval_filter_expr as eval-filter-expr-lts
 use Rattle.eval.proofs.eval_query.Reads as eval-query
-use Rattle.eval.proofs.+apply_selector+apply_selectors+descend_flats+each_child+each_place+eval_filter+eval_filter_expr+eval_query+eval_rest+evaluate_segment+next_kept+recursive_descent.Lts-eval_query as eval-query-lts
+use Rattle.eval.proofs.+apply_selector+apply_selectors+descend_flats+each_child+each_place+eval_cells+eval_filter+eval_filter_expr+eval_query+eval_rest+evaluate_segment+next_kept+recursive_descent.Lts-eval_query as eval-query-lts
 use Rattle.eval.proofs.eval_rest.Reads as eval-rest
-use Rattle.eval.proofs.+apply_selector+apply_selectors+descend_flats+each_child+each_place+eval_filter+eval_filter_expr+eval_query+eval_rest+evaluate_segment+next_kept+recursive_descent.Lts-eval_rest as eval-rest-lts
+use Rattle.eval.proofs.+apply_selector+apply_selectors+descend_flats+each_child+each_place+eval_cells+eval_filter+eval_filter_expr+eval_query+eval_rest+evaluate_segment+next_kept+recursive_descent.Lts-eval_rest as eval-rest-lts
 use Rattle.eval.proofs.evaluate_segment.Reads as evaluate-segment
-use Rattle.eval.proofs.+apply_selector+apply_selectors+descend_flats+each_child+each_place+eval_filter+eval_filter_expr+eval_query+eval_rest+evaluate_segment+next_kept+recursive_descent.Lts-evaluate_segment as evaluate-segment-lts
+use Rattle.eval.proofs.+apply_selector+apply_selectors+descend_flats+each_child+each_place+eval_cells+eval_filter+eval_filter_expr+eval_query+eval_rest+evaluate_segment+next_kept+recursive_descent.Lts-evaluate_segment as evaluate-segment-lts
 use Rattle.eval.proofs.next_kept.Reads as next-kept
-use Rattle.eval.proofs.+apply_selector+apply_selectors+descend_flats+each_child+each_place+eval_filter+eval_filter_expr+eval_query+eval_rest+evaluate_segment+next_kept+recursive_descent.Lts-next_kept as next-kept-lts
+use Rattle.eval.proofs.+apply_selector+apply_selectors+descend_flats+each_child+each_place+eval_cells+eval_filter+eval_filter_expr+eval_query+eval_rest+evaluate_segment+next_kept+recursive_descent.Lts-next_kept as next-kept-lts
 use Rattle.eval.proofs.recursive_descent.Reads as recursive-descent
-use Rattle.eval.proofs.+apply_selector+apply_selectors+descend_flats+each_child+each_place+eval_filter+eval_filter_expr+eval_query+eval_rest+evaluate_segment+next_kept+recursive_descent.Lts-recursive_descent as recursive-descent-lts
-use Rattle.eval.proofs.+apply_selector+apply_selectors+descend_flats+each_child+each_place+eval_filter+eval_filter_expr+eval_query+eval_rest+evaluate_segment+next_kept+recursive_descent.{statement}
-use Rattle.eval.proofs.+apply_selector+apply_selectors+descend_flats+each_child+each_place+eval_filter+eval_filter_expr+eval_query+eval_rest+evaluate_segment+next_kept+recursive_descent.Tie.{close}
+use Rattle.eval.proofs.+apply_selector+apply_selectors+descend_flats+each_child+each_place+eval_cells+eval_filter+eval_filter_expr+eval_query+eval_rest+evaluate_segment+next_kept+recursive_descent.Lts-recursive_descent as recursive-descent-lts
+use Rattle.eval.proofs.+apply_selector+apply_selectors+descend_flats+each_child+each_place+eval_cells+eval_filter+eval_filter_expr+eval_query+eval_rest+evaluate_segment+next_kept+recursive_descent.{statement}
+use Rattle.eval.proofs.+apply_selector+apply_selectors+descend_flats+each_child+each_place+eval_cells+eval_filter+eval_filter_expr+eval_query+eval_rest+evaluate_segment+next_kept+recursive_descent.Tie.{close}
 mod Base
 mod ApplySelector
 mod ApplySelectors
 mod DescendFlats
 mod EachChild
 mod EachPlace
+mod EvalCells
 mod EvalFilter
 mod EvalFilterExpr
 mod EvalQuery
@@ -38,11 +41,11 @@ mod EvalRest
 mod EvaluateSegment
 mod NextKept
 mod RecursiveDescent
-use Rattle.eval.proofs.+apply_selector+apply_selectors+descend_flats+each_child+each_place+eval_filter+eval_filter_expr+eval_query+eval_rest+evaluate_segment+next_kept+recursive_descent.Proof.Base.{μ-apply-selector, μ-apply-selectors, μ-descend-flats, μ-each-child, μ-each-place, μ-eval-filter, μ-eval-filter-expr, μ-eval-query, μ-eval-rest, μ-evaluate-segment, μ-next-kept, μ-recursive-descent, apply-selector-at, apply-selectors-at, descend-flats-at, each-child-at, each-place-at, eval-filter-at, eval-filter-expr-at, eval-query-at, eval-rest-at, evaluate-segment-at, next-kept-at, recursive-descent-at}
+use Rattle.eval.proofs.+apply_selector+apply_selectors+descend_flats+each_child+each_place+eval_cells+eval_filter+eval_filter_expr+eval_query+eval_rest+evaluate_segment+next_kept+recursive_descent.Proof.Base.{μ-apply-selector, μ-apply-selectors, μ-descend-flats, μ-each-child, μ-each-place, μ-eval-cells, μ-eval-filter, μ-eval-filter-expr, μ-eval-query, μ-eval-rest, μ-evaluate-segment, μ-next-kept, μ-recursive-descent, apply-selector-at, apply-selectors-at, descend-flats-at, each-child-at, each-place-at, eval-cells-at, eval-filter-at, eval-filter-expr-at, eval-query-at, eval-rest-at, evaluate-segment-at, next-kept-at, recursive-descent-at}
 
-pub +apply-selector+apply-selectors+descend-flats+each-child+each-place+eval-filter+eval-filter-expr+eval-query+eval-rest+evaluate-segment+next-kept+recursive-descent-spec : {M : Type 1} → statement M
-+apply-selector+apply-selectors+descend-flats+each-child+each-place+eval-filter+eval-filter-expr+eval-query+eval-rest+evaluate-segment+next-kept+recursive-descent-spec =
-    close μ-apply-selector μ-apply-selectors μ-descend-flats μ-each-child μ-each-place μ-eval-filter μ-eval-filter-expr
+pub +apply-selector+apply-selectors+descend-flats+each-child+each-place+eval-cells+eval-filter+eval-filter-expr+eval-query+eval-rest+evaluate-segment+next-kept+recursive-descent-spec : {M : Type 1} → statement M
++apply-selector+apply-selectors+descend-flats+each-child+each-place+eval-cells+eval-filter+eval-filter-expr+eval-query+eval-rest+evaluate-segment+next-kept+recursive-descent-spec =
+    close μ-apply-selector μ-apply-selectors μ-descend-flats μ-each-child μ-each-place μ-eval-cells μ-eval-filter μ-eval-filter-expr
     μ-eval-query μ-eval-rest μ-evaluate-segment μ-next-kept μ-recursive-descent
     (λ t. apply-selector-lts.spec (ApplySelector.calls t) (apply-selector-at t) apply-selector.Post
     (ApplySelector.element-copy-out-plan t) (ApplySelector.shared-slice-read-k t)
@@ -97,21 +100,9 @@ pub +apply-selector+apply-selectors+descend-flats+each-child+each-place+eval-fil
     (EachPlace.loop-holds t) (EachPlace.element-copy-out-if3 t) (EachPlace.element-copy-out-if3-2 t)
     (EachPlace.returns-2 t) (EachPlace.evaluate-segment-requires t) (EachPlace.further-requires t)
     (EachPlace.loop-less t) (EachPlace.loop-again t) (EachPlace.returns-3 t))
-    (λ t. eval-filter-lts.spec (EvalFilter.calls t) (eval-filter-at t) eval-filter.Post EvalFilter.Inv-loop
-    EvalFilter.μ-loop (EvalFilter.add-z t) (EvalFilter.element-copy-out-word16 t) (EvalFilter.add-word16 t)
-    (EvalFilter.word16-requires t) (EvalFilter.add-z-2 t) (EvalFilter.element-copy-out-table t)
-    (EvalFilter.first-child-requires t) (EvalFilter.cast-i t) (EvalFilter.child-count-requires t)
-    (EvalFilter.cast-n t) (EvalFilter.add-e t) (EvalFilter.add-keep-rows t) (EvalFilter.keep-rows-requires t)
-    (EvalFilter.element-copy-out-next-kept t)
-    (EvalFilter.add-next-kept t) (EvalFilter.next-kept-requires t) (EvalFilter.loop-holds t)
-    (EvalFilter.evaluate-segment-requires t) (EvalFilter.element-copy-out-if1 t)
-    (EvalFilter.element-copy-out-if1-2 t) (EvalFilter.returns t) (EvalFilter.element-copy-out-next-kept-2 t)
-    (EvalFilter.add-next-kept-2 t) (EvalFilter.add-next-kept-3 t) (EvalFilter.next-kept-requires-2 t)
-    (EvalFilter.loop-less t) (EvalFilter.loop-again t) (EvalFilter.returns-2 t))
-    (λ t. eval-filter-expr-lts.spec (EvalFilterExpr.calls t) (eval-filter-expr-at t) eval-filter-expr.Post
-    EvalFilterExpr.Inv-loop EvalFilterExpr.μ-loop (EvalFilterExpr.loop-holds t)
-    (EvalFilterExpr.element-copy-out-plan t) (EvalFilterExpr.shared-slice-read-k t)
-    (EvalFilterExpr.is-logic-requires t) (EvalFilterExpr.logic-expr-requires t) (EvalFilterExpr.loop-less t) (EvalFilterExpr.loop-again t) (EvalFilterExpr.element-copy-out-plain-test t) (EvalFilterExpr.element-copy-out-plain-test-2 t) (EvalFilterExpr.element-copy-out-plain-test-3 t) (EvalFilterExpr.plain-test-requires t) (EvalFilterExpr.eval-rest-requires t) (EvalFilterExpr.returns t) (EvalFilterExpr.loop-less-2 t) (EvalFilterExpr.loop-again-2 t) (EvalFilterExpr.returns-2 t))
+    (λ t. eval-cells-lts.spec (EvalCells.calls t) (eval-cells-at t) eval-cells.Post EvalCells.Inv-loop EvalCells.μ-loop (EvalCells.keep-rows-requires t) (EvalCells.returns t) (EvalCells.element-copy-out-fill-cells t) (EvalCells.slice-aggregate-fill-cells t) (EvalCells.fill-cells-requires t) (EvalCells.loop-holds t) (EvalCells.element-copy-out-if2 t) (EvalCells.element-copy-out-if2-2 t) (EvalCells.returns-2 t) (EvalCells.element-copy-out-fill-cells-2 t) (EvalCells.slice-aggregate-fill-cells-2 t) (EvalCells.fill-cells-requires-2 t) (EvalCells.loop-less t) (EvalCells.loop-again t) (EvalCells.sub-c t) (EvalCells.mul-c t) (EvalCells.array-read-c t) (EvalCells.element-copy-out-eval-rest t) (EvalCells.answer-requires t) (EvalCells.place-requires t) (EvalCells.eval-rest-requires t) (EvalCells.evaluate-segment-requires t) (EvalCells.add-j t) (EvalCells.loop-less-2 t) (EvalCells.loop-again-2 t) (EvalCells.add-j-2 t) (EvalCells.loop-less-3 t) (EvalCells.loop-again-3 t) (EvalCells.returns-3 t))
+    (λ t. eval-filter-lts.spec (EvalFilter.calls t) (eval-filter-at t) eval-filter.Post EvalFilter.Inv-loop EvalFilter.μ-loop (EvalFilter.add-z t) (EvalFilter.element-copy-out-word16 t) (EvalFilter.add-word16 t) (EvalFilter.word16-requires t) (EvalFilter.add-z-2 t) (EvalFilter.element-copy-out-table t) (EvalFilter.first-child-requires t) (EvalFilter.cast-i t) (EvalFilter.child-count-requires t) (EvalFilter.cast-n t) (EvalFilter.add-e t) (EvalFilter.add-keep-joined t) (EvalFilter.keep-joined-requires t) (EvalFilter.element-copy-out-next-kept t) (EvalFilter.add-next-kept t) (EvalFilter.next-kept-requires t) (EvalFilter.loop-holds t) (EvalFilter.add-eval-cells t) (EvalFilter.eval-cells-requires t) (EvalFilter.returns t) (EvalFilter.evaluate-segment-requires t) (EvalFilter.element-copy-out-if3 t) (EvalFilter.element-copy-out-if3-2 t) (EvalFilter.returns-2 t) (EvalFilter.element-copy-out-next-kept-2 t) (EvalFilter.add-next-kept-2 t) (EvalFilter.add-next-kept-3 t) (EvalFilter.next-kept-requires-2 t) (EvalFilter.loop-less t) (EvalFilter.loop-again t) (EvalFilter.returns-3 t))
+    (λ t. eval-filter-expr-lts.spec (EvalFilterExpr.calls t) (eval-filter-expr-at t) eval-filter-expr.Post EvalFilterExpr.Inv-loop EvalFilterExpr.μ-loop (EvalFilterExpr.loop-holds t) (EvalFilterExpr.element-copy-out-plan t) (EvalFilterExpr.shared-slice-read-k t) (EvalFilterExpr.is-logic-requires t) (EvalFilterExpr.logic-expr-requires t) (EvalFilterExpr.loop-less t) (EvalFilterExpr.loop-again t) (EvalFilterExpr.element-copy-out-plain-test t) (EvalFilterExpr.element-copy-out-plain-test-2 t) (EvalFilterExpr.element-copy-out-plain-test-3 t) (EvalFilterExpr.plain-test-requires t) (EvalFilterExpr.is-call-requires t) (EvalFilterExpr.returns t) (EvalFilterExpr.eval-rest-requires t) (EvalFilterExpr.returns-2 t) (EvalFilterExpr.loop-less-2 t) (EvalFilterExpr.loop-again-2 t) (EvalFilterExpr.returns-3 t))
     (λ t. eval-query-lts.spec (EvalQuery.calls t) (eval-query-at t) eval-query.Post
     (EvalQuery.element-copy-out-plan t) (EvalQuery.element-copy-out-table t)
     (EvalQuery.element-copy-out-text t) (EvalQuery.shared-slice-read-begins t) (EvalQuery.begins-requires t)
@@ -138,9 +129,7 @@ pub +apply-selector+apply-selectors+descend-flats+each-child+each-place+eval-fil
     (EvaluateSegment.apply-selectors-requires t) (EvaluateSegment.returns-3 t)
     (EvaluateSegment.has-flats-requires t) (EvaluateSegment.descend-flats-requires t)
     (EvaluateSegment.returns-4 t) (EvaluateSegment.recursive-descent-requires t) (EvaluateSegment.returns-5 t))
-    (λ t. next-kept-lts.spec (NextKept.calls t) (next-kept-at t) next-kept.Post NextKept.Inv-loop
-    NextKept.μ-loop (NextKept.loop-holds t) (NextKept.eval-filter-expr-requires t) (NextKept.returns t)
-    (NextKept.add-j t) (NextKept.loop-less t) (NextKept.loop-again t) (NextKept.returns-2 t))
+    (λ t. next-kept-lts.spec (NextKept.calls t) (next-kept-at t) next-kept.Post NextKept.Inv-loop NextKept.μ-loop (NextKept.loop-holds t) (NextKept.eval-filter-expr-requires t) (NextKept.returns t) (NextKept.add-j t) (NextKept.loop-less t) (NextKept.loop-again t) (NextKept.returns-2 t))
     (λ t. recursive-descent-lts.spec (RecursiveDescent.calls t) (recursive-descent-at t)
     recursive-descent.Post RecursiveDescent.Inv-loop RecursiveDescent.μ-loop
     (RecursiveDescent.apply-selectors-requires t) (RecursiveDescent.element-copy-out-table t)

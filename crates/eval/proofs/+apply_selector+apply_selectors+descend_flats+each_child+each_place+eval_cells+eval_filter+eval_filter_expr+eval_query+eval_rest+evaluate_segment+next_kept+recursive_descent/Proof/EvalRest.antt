@@ -1,10 +1,10 @@
 -- The answers of `eval_rest` in evaluation's cycle of calls. The loop keeps that what is left of the filter's code gives the test's answer. Assumes nothing.
-use Rattle.eval.proofs.+apply_selector+apply_selectors+descend_flats+each_child+each_place+eval_filter+eval_filter_expr+eval_query+eval_rest+evaluate_segment+next_kept+recursive_descent.Lts-eval_rest as lts
+use Rattle.eval.proofs.+apply_selector+apply_selectors+descend_flats+each_child+each_place+eval_cells+eval_filter+eval_filter_expr+eval_query+eval_rest+evaluate_segment+next_kept+recursive_descent.Lts-eval_rest as lts
 use Prim.Native.Nat.{ℕ}
 use Rattle.eval.proofs.eval_query.Reads as eval-query
 use Rattle.eval.proofs.eval_rest.Reads as eval-rest
 use Rattle.eval_items.proofs.leaves.plain_expr.Reads as plain-expr-reads
-use Rattle.eval.proofs.+apply_selector+apply_selectors+descend_flats+each_child+each_place+eval_filter+eval_filter_expr+eval_query+eval_rest+evaluate_segment+next_kept+recursive_descent.Proof.Base.{eval-query-below, eval-rest-at}
+use Rattle.eval.proofs.+apply_selector+apply_selectors+descend_flats+each_child+each_place+eval_cells+eval_filter+eval_filter_expr+eval_query+eval_rest+evaluate_segment+next_kept+recursive_descent.Proof.Base.{eval-query-below, eval-rest-at}
 use borrow.Author.Needs.{needs}
 use Prim.Native.Nat.{_-_}
 use native.Mathlib.Omega.{arith}

@@ -18,6 +18,8 @@ use Rattle.eval.proofs.each_child.Reads as each-child
 use Rattle.eval.proofs.each_child.Kinds as each-child-kinds
 use Rattle.eval.proofs.each_place.Reads as each-place
 use Rattle.eval.proofs.each_place.Kinds as each-place-kinds
+use Rattle.eval.proofs.eval_cells.Reads as eval-cells
+use Rattle.eval.proofs.eval_cells.Kinds as eval-cells-kinds
 use Rattle.eval.proofs.eval_filter.Reads as eval-filter
 use Rattle.eval.proofs.eval_filter.Kinds as eval-filter-kinds
 use Rattle.eval.proofs.eval_filter_expr.Reads as eval-filter-expr
@@ -51,6 +53,9 @@ abbrev pub μ-each-child : Measures 5 each-child-kinds.ps ℕ
 
 abbrev pub μ-each-place : Measures 5 each-place-kinds.ps ℕ
 μ-each-place κs a = left (planOf (a .0 .now)) (a .1 .1 .1 .1 .1 .0) + 71
+
+abbrev pub μ-eval-cells : Measures 5 eval-cells-kinds.ps ℕ
+μ-eval-cells κs a = left (planOf (a .0 .now)) (a .1 .1 .1 .1 .1 .0) + 81
 
 abbrev pub μ-eval-filter : Measures 5 eval-filter-kinds.ps ℕ
 μ-eval-filter κs a = left (planOf (a .0 .now)) (a .1 .1 .1 .1 .0) + 90
@@ -102,6 +107,12 @@ each-place-at t = and 5 each-place-kinds.ps (is 5 each-place-kinds.ps μ-each-pl
 
 abbrev pub each-place-below : ℕ → In 5 each-place-kinds.ps
 each-place-below t = and 5 each-place-kinds.ps (falls 5 each-place-kinds.ps _<_ μ-each-place t) each-place.Pre
+
+abbrev pub eval-cells-at : ℕ → In 5 eval-cells-kinds.ps
+eval-cells-at t = and 5 eval-cells-kinds.ps (is 5 eval-cells-kinds.ps μ-eval-cells t) eval-cells.Pre
+
+abbrev pub eval-cells-below : ℕ → In 5 eval-cells-kinds.ps
+eval-cells-below t = and 5 eval-cells-kinds.ps (falls 5 eval-cells-kinds.ps _<_ μ-eval-cells t) eval-cells.Pre
 
 abbrev pub eval-filter-at : ℕ → In 5 eval-filter-kinds.ps
 eval-filter-at t = and 5 eval-filter-kinds.ps (is 5 eval-filter-kinds.ps μ-eval-filter t) eval-filter.Pre
