@@ -1,6 +1,6 @@
 // The shortcuts of evaluation, and the one way by which they enter it. Each function takes a query or a filter that it knows and gives the whole answer, with the
-// contract of what it stands for; else it leaves everything as it was, and says so: false, or the node that it was given. `has_flats` says only which way is the faster
-// one. Evaluation knows no other shortcut, and is proved without them (docs/DECISIONS.md, 271).
+// contract of what it stands for; else it leaves everything as it was, and says so: false, or the node that it was given. `has_flats` and `is_call` say only which way is the
+// faster one, and `fill_cells` tells as much of a test as it can. Evaluation knows no other shortcut, and is proved without them (docs/DECISIONS.md, 271).
 //
 //   flats     nodes with nothing below their children under a descendant segment of one selector
 //   joined    a range of nodes with a filter of several tests
