@@ -6,6 +6,9 @@ use plan_format::kinds::COUNT;
 use plan_format::kinds::TEST;
 use plan_format::kinds::VALUE;
 ghost use mathlib.Core.Path.{_≡_};
+ghost use mathlib.Core.Bool.{true, false};
+ghost use Prim.Native.Nat.{_<_};
+ghost use Rattle.eval_values.specs.Means.{someOf};
 ghost use Rattle.eval_asks.specs.Asks.{isFunction, AskNodes, OfFunction, OfFirst, AskAnswer, DoneAnswer};
 
 // Whether the byte behind a query is that of a function of its nodes.
@@ -75,4 +78,20 @@ pub fn to_registers(
     }
     let y = first_value(table, text, n, first);
     Regs { acc, x, y, q: z }
+}
+
+// Whether nothing stands in the registers, at a place behind p.
+pub fn is_clear(s: Regs, p: usize) -> bool
+    ensures { λ r. ⌜ (r ≡ true → (p < s .q) × ((someOf (s .x) ≡ false) × (someOf (s .y) ≡ false))) ⌝ }
+{
+    let x = s.x;
+    let y = s.y;
+    let q = s.q;
+    if q <= p {
+        return false;
+    }
+    if operands::is_some(x) {
+        return false;
+    }
+    !operands::is_some(y)
 }

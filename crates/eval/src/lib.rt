@@ -7,16 +7,15 @@
 //
 //   answers    what is asked of a query in a filter's code
 //   descents   the next child that a descent goes to
-ghost use Prim.Native.Nat.{_<_, _≤_};
+//   rows       the nodes of a range with a filter that meets match or search
 ghost use lib.ListN.{length};
 ghost use Rattle.definition.specs.Tables.{nodeCount};
 ghost use Rattle.eval_filters.specs.Queries.{Within};
-ghost use Rattle.eval_filters.specs.Kept.{AskTest};
-ghost use Rattle.eval_filters.specs.Tests.{AskRest, DoneRest};
+ghost use Rattle.eval_filters.specs.Tests.{AskRest};
+ghost use Rattle.eval_filters.specs.Turns.{AskTurn};
 ghost use Rattle.eval_asks.specs.Lent.{planOf, poolOf, tableOf, textOf};
 ghost use Rattle.eval_asks.specs.Asks.{Begins, AskSegments, DoneSegments, Asked, Steady, AskSegment, DoneSegment, AskEnter, Entered, AskSelectors, DoneSelectors, AskDescent, DoneDescent, AskSelector, DoneSelector, AskKind, AskEach, DoneEach, AskNext, DoneNext, AskQuery, DoneQuery};
-ghost use Rattle.eval_asks.specs.Rows.{AskRows, DoneKept};
-ghost use Rattle.eval.specs.Loops.{DoneSaid};
+ghost use Rattle.eval.specs.Loops.{DoneSaid, DoneTested};
 use eval_asks::AT;
 use eval_asks::CAP;
 use eval_asks::PLAN;
@@ -24,7 +23,7 @@ use eval_asks::POOL;
 use eval_asks::ROOT;
 use eval_asks::TABLE;
 use eval_asks::TEXT;
-use eval_asks::cells;
+use eval_filters::Told;
 use eval_items::Regs;
 use eval_items::leaves;
 use eval_items::plans;
@@ -44,13 +43,12 @@ use text::bytes;
 
 mod answers;
 mod descents;
+mod rows;
 
-// So many nodes of a filter have cells at a time.
-const CELLS: usize = 256;
-
-// What a filter says of a node; where `call`, it is not told yet, since a call of match or search is met.
+// What a filter says of a node: the answer in front of q. Where `call`, a call of match or search stands there; else it is the filter's.
 struct Said {
     acc: bool,
+    q: usize,
     call: bool,
 }
 
@@ -400,7 +398,7 @@ fn eval_filter(
     while v.node < e {
         let j = v.node;
         if v.call {
-            eval_cells(lent, state, list, j, e, p + 3, z, rest);
+            rows::keep(lent, state, list, j, e, p + 3, z, rest);
             return;
         }
         evaluate_segment(lent, state, list, j, rest);
@@ -411,49 +409,6 @@ fn eval_filter(
     }
 }
 
-// The nodes from i up to e for which the test from p up to z holds, each with the segments at rest. A cell for each of them, 256 at a time, says how far the test is
-// told; so an expression of match or search is read once for so many.
-fn eval_cells(
-    lent: &[&[u8]; 4],
-    state: &mut [usize; 3],
-    list: &mut &mut [u32],
-    i: usize,
-    e: usize,
-    p: usize,
-    z: usize,
-    rest: usize,
-)
-    requires { ⌜ Asked (now lent) (now state) (now (now list)) ⌝ }
-    requires { ⌜ AskRows (now lent) i e p z rest × ((p ≤ rest) × (i < e)) ⌝ }
-    ensures { λ r. ⌜ Steady (now (state .entry)) (now (list .entry)) (now (state .exit)) (now (list .exit)) ⌝ }
-    ensures { λ r. ⌜ DoneKept (now (lent .entry)) i e p z rest (now (state .entry)) (now (now (list .entry))) (now (state .exit)) (now (now (list .exit))) ⌝ }
-{
-    let mut j = eval_shortcuts::keep_rows(lent, state, list, i, e, p, z, rest);
-    if e <= j {
-        return;
-    }
-    let mut column = [0u32; CELLS];
-    let mut b = j;
-    let mut k = eval_shortcuts::fill_cells(lent, state[ROOT], j, e, p, z, &mut column);
-    while j < e {
-        if state[CAP] < state[AT] {
-            return;
-        }
-        if k <= j {
-            k = eval_shortcuts::fill_cells(lent, state[ROOT], j, e, p, z, &mut column);
-            b = j;
-        } else {
-            let c = column[j - b];
-            if eval_rest(lent, state[ROOT], j, cells::answer(c), cells::place(c), z) {
-                evaluate_segment(lent, state, list, j, rest);
-                j += 1;
-            } else {
-                j += 1;
-            }
-        }
-    }
-}
-
 // The first node from i on for which the test from p up to z holds, or that meets a call of match or search, or e.
 fn next_kept(lent: &[&[u8]; 4], root: usize, i: usize, e: usize, p: usize, z: usize) -> Next
     requires { ⌜ AskNext (now lent) root i e p z ⌝ }
@@ -461,11 +416,17 @@ fn next_kept(lent: &[&[u8]; 4], root: usize, i: usize, e: usize, p: usize, z: us
 {
     let mut j = i;
     while j < e {
-        let s = eval_filter_expr(lent, root, j, p, z);
+        let s = eval_filter_expr(lent, root, j, false, p, z, true);
+        if s.call {
+            return Next {
+                node: j,
+                call: true,
+            };
+        }
         if s.acc {
             return Next {
                 node: j,
-                call: s.call,
+                call: false,
             };
         }
         j += 1;
@@ -476,58 +437,65 @@ fn next_kept(lent: &[&[u8]; 4], root: usize, i: usize, e: usize, p: usize, z: us
     }
 }
 
-// Whether the test from p up to e holds of a node. What is left of its code goes by registers from the first part on that is not told without them, but for a call of
-// match or search, which is left.
-fn eval_filter_expr(lent: &[&[u8]; 4], root: usize, node: usize, p: usize, e: usize) -> Said
+// What a test's code from p up to e, with an answer before it, says of a node. A part that is not told without registers goes by them, but for a call of match or search,
+// at which it ends where `stop`.
+fn eval_filter_expr(
+    lent: &[&[u8]; 4],
+    root: usize,
+    node: usize,
+    acc: bool,
+    p: usize,
+    e: usize,
+    stop: bool,
+) -> Said
     requires { ⌜ Within (planOf (now lent)) (poolOf (now lent)) (tableOf (now lent)) (textOf (now lent)) root node ⌝ }
-    requires { ⌜ AskTest (planOf (now lent)) (poolOf (now lent)) p e ⌝ }
-    ensures { λ r. ⌜ DoneSaid (planOf (now (lent .entry))) (poolOf (now (lent .entry))) (tableOf (now (lent .entry))) (textOf (now (lent .entry))) root node p e r ⌝ }
+    requires { ⌜ AskRest (planOf (now lent)) (poolOf (now lent)) (tableOf (now lent)) (textOf (now lent)) root node «acc» p e ⌝ }
+    ensures { λ r. ⌜ DoneSaid (planOf (now (lent .entry))) (poolOf (now (lent .entry))) (tableOf (now (lent .entry))) (textOf (now (lent .entry))) root node «acc» p e «stop» r ⌝ }
 {
-    let mut acc = false;
+    let mut b = acc;
     let mut q = p;
     while q < e {
-        let plan = lent[PLAN];
-        let k = plan[q];
-        if eval_filters::is_logic(k) {
-            let t = eval_filters::logic_expr(plan, acc, q);
-            acc = t.acc;
+        let t = eval_filters::plain_turn(
+            lent[PLAN],
+            lent[POOL],
+            lent[TABLE],
+            lent[TEXT],
+            root,
+            node,
+            b,
+            q,
+            e,
+        );
+        if t.some {
+            b = t.acc;
             q = t.q;
         } else {
-            let t = eval_filters::plain_test(
-                plan,
-                lent[POOL],
-                lent[TABLE],
-                lent[TEXT],
-                root,
-                node,
-                q,
-                e,
-            );
-            if !t.some {
+            if stop {
                 if eval_shortcuts::is_call(lent, root, node, q, e) {
                     return Said {
-                        acc: true,
+                        acc: b,
+                        q,
                         call: true,
                     };
                 }
-                let r = eval_rest(lent, root, node, acc, q, e);
-                return Said {
-                    acc: r,
-                    call: false,
-                };
             }
-            acc = t.acc;
-            q = t.q;
+            let r = eval_test(lent, root, node, b, q, e);
+            b = r.acc;
+            q = r.q;
         }
     }
-    Said { acc, call: false }
+    Said {
+        acc: b,
+        q: e,
+        call: false,
+    }
 }
 
-// The answer of a test's code from p up to e with an answer before it, by registers.
-fn eval_rest(lent: &[&[u8]; 4], root: usize, node: usize, acc: bool, p: usize, e: usize) -> bool
+// The answer of a test's code from p on, with an answer before it, by registers, up to where nothing stands in them, and the place behind; the code ends at e.
+fn eval_test(lent: &[&[u8]; 4], root: usize, node: usize, acc: bool, p: usize, e: usize) -> Told
     requires { ⌜ Within (planOf (now lent)) (poolOf (now lent)) (tableOf (now lent)) (textOf (now lent)) root node ⌝ }
-    requires { ⌜ AskRest (planOf (now lent)) (poolOf (now lent)) (tableOf (now lent)) (textOf (now lent)) root node «acc» p e ⌝ }
-    ensures { λ r. ⌜ DoneRest (planOf (now (lent .entry))) (poolOf (now (lent .entry))) (tableOf (now (lent .entry))) (textOf (now (lent .entry))) root node «acc» p e r ⌝ }
+    requires { ⌜ AskTurn (planOf (now lent)) (poolOf (now lent)) (tableOf (now lent)) (textOf (now lent)) root node «acc» p e ⌝ }
+    ensures { λ r. ⌜ DoneTested (planOf (now (lent .entry))) (poolOf (now (lent .entry))) (tableOf (now (lent .entry))) (textOf (now (lent .entry))) root node «acc» p e r ⌝ }
 {
     let mut s = Regs {
         acc,
@@ -536,6 +504,13 @@ fn eval_rest(lent: &[&[u8]; 4], root: usize, node: usize, acc: bool, p: usize, e
         q: p,
     };
     while s.q < e {
+        if answers::is_clear(s, p) {
+            return Told {
+                acc: s.acc,
+                q: s.q,
+                some: true,
+            };
+        }
         let q = s.q;
         let plan = lent[PLAN];
         if plan[q] <= CURRENT {
@@ -544,7 +519,11 @@ fn eval_rest(lent: &[&[u8]; 4], root: usize, node: usize, acc: bool, p: usize, e
             s = leaves::plain_expr(plan, lent[POOL], lent[TABLE], lent[TEXT], s);
         }
     }
-    s.acc
+    Told {
+        acc: s.acc,
+        q: e,
+        some: true,
+    }
 }
 
 // The query in a filter's code at s.q, with what is asked of it: "a query inside it is evaluated by the same rules". Where names and indices lead to its end, or

@@ -1,7 +1,7 @@
 -- How far a filter has been told of a node, as one number: the place in its code, and 65,536 more where the answer in front of that place is true. P is the plan, L the
 -- pool, S the table, X the text. Assumes nothing.
 use Prim.Native.Nat.{ℕ, _+_, _-_, _≤_, _<_}
-use mathlib.Core.Path.{_≡_, refl, sym, _∙_, subst}
+use mathlib.Core.Path.{_≡_, refl, sym, ap, _∙_, subst}
 use mathlib.Core.List.{List, []}
 use mathlib.Core.Bool.{Bool as Bits, true, false, cond}
 use lib.Dec.{leb, eqb}
@@ -11,11 +11,12 @@ use native.Mathlib.Omega.{arith}
 use borrow.Author.Tests.{le-leb, lt-leb, eqb-true, eqb-false}
 use Rattle.definition.specs.Values.{Json}
 use Rattle.definition.specs.Forms.{Test}
+use Rattle.definition.specs.Compare.{Value}
 use Rattle.definition.specs.Tables.{nodeAt}
 use Rattle.definition.specs.Evaluation.{evalTest}
 use Rattle.eval_laws.specs.ComesTo.{ComesTo}
 use Rattle.eval_laws.specs.Registers.{Tops}
-use Rattle.eval_laws.specs.Todos.{todo-start, todo-end, todo-to}
+use Rattle.eval_laws.specs.Todos.{Todo, todo-start, todo-end, todo-to}
 use Rattle.eval_filters.specs.Queries.{Within}
 use Rattle.eval_filters.specs.Tests.{Left, AskRest, DoneRest}
 use Rattle.eval_filters.specs.Values.{AskLeft}
@@ -50,7 +51,7 @@ cell-no q h = (lt-leb 65536 q h, sym (place-no q h))
 -- ---- what a node's cell stands for
 
 -- where nothing is left, nothing is left at the end
-pub left-ended : {P L : List ℕ} {q z : ℕ} {R N : Json} {acc want : Bits} → z ≤ q → Left P L q z R N acc want → Left P L z z R N acc want
+pub left-ended : {P L : List ℕ} {q z : ℕ} {R N : Json} {acc : Bits} {x y : Value} {want : Bits} → z ≤ q → Todo P L q z R N acc x y want → Left P L z z R N acc want
 unfolding ComesTo Tops
 left-ended h d = record { K = []; k = 0; st = []; tops = tt; comes = (refl, todo-end _ _ _ _ _ _ _ _ _ _ d h) }
 
@@ -100,8 +101,19 @@ pub record Column (P L S X : List ℕ) (root i e p z : ℕ) (l : List ℕ) : Typ
   pub long : e - i ≤ length l
   pub all : (j : ℕ) → i ≤ j → j < e → InCell P L S X root j p z (getD l (j - i) 0)
 
+-- all of the first n cells are p
+abbrev pub Laid : ℕ → ℕ → List ℕ → Type 0
+Laid n p l = (k : ℕ) → k < n → getD l k 0 ≡ p
+
+pub laid-more : {k p : ℕ} (l : List ℕ) → Laid k p l → k < length l → Laid (k + 1) p (set l k p)
+laid-more {k} {p} l h n m b = go (eqb m k) refl
+  where
+    go : (y : Bits) → eqb m k ≡ y → getD (set l k p) m 0 ≡ p
+    go true y = ap (λ (x : ℕ). getD (set l k p) x 0) (eqb-true m k y) ∙ getD-set-same l k p 0 n
+    go false y = let o : m ≡ k → ⊥ = eqb-false m k y in getD-set-other l k m p 0 o ∙ h m (omega (arith, o, b))
+
 -- nothing is told of any
-pub column-start : {P L S X : List ℕ} {root i e p z : ℕ} {l : List ℕ} → AskTest P L p z → p < 65536 → e - i ≤ length l → ((k : ℕ) → k < e - i → getD l k 0 ≡ p) → Column P L S X root i e p z l
+pub column-start : {P L S X : List ℕ} {root i e p z : ℕ} {l : List ℕ} → AskTest P L p z → p < 65536 → e - i ≤ length l → Laid (e - i) p l → Column P L S X root i e p z l
 column-start {P} {L} {S} {X} {root} {i} {e} {p} {z} {l} a h n g =
     record { long = n; all = λ j b c. subst (InCell P L S X root j p z) (sym (g (j - i) (omega arith))) (cell-start a h) }
 

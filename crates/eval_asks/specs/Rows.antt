@@ -45,9 +45,9 @@ module _ {v : List (RefT (List ℕ))} {i e p z rest : ℕ} {s s′ : List ℕ} {
   pub rows-then : {s″ l″ : List ℕ} → Gives (Keeps (planOf v) (poolOf v) p z rest) (keeping v p z rest k e) s′ (l′ .now) s″ l″ → Gives (Keeps (planOf v) (poolOf v) p z rest) (keeping v p z rest i e) s (l .now) s″ l″
   rows-then g = record { emits = λ x R C r c. g .emits x R C (u .0 .root ∙ r) (u .0 .cap ∙ c) ∙ u .1 .goes x R C r c }
 
--- ---- the cells of the first of them
+-- ---- the cells of those from i up to e
 
-pub record DoneCells (v : List (RefT (List ℕ))) (root i e p z : ℕ) (l : List ℕ) (r : ℕ) : Type 0 where
-  pub low : i < r
-  pub high : r ≤ e
-  pub column : Column (planOf v) (poolOf v) (tableOf v) (textOf v) root i r p z l
+pub record AskCells (v : List (RefT (List ℕ))) (root i e p z : ℕ) (l : List ℕ) : Type 0 where
+  pub next : AskNext v root i e p z
+  pub upto : i ≤ e
+  pub column : Column (planOf v) (poolOf v) (tableOf v) (textOf v) root i e p z l

@@ -5,6 +5,7 @@ pub mod Children
 pub mod Kinds
 pub mod Pairs
 pub mod Values
+pub mod Turns
 pub mod Kept
 pub mod Atoms
 pub mod Keeps

@@ -42,6 +42,7 @@ ghost use Rattle.eval_front.specs.Visits.{AskReach};
 ghost use Rattle.eval_filters.specs.Numbers.{saysOf};
 ghost use Rattle.eval_filters.specs.Values.{AskLeft};
 ghost use Rattle.eval_filters.specs.Tests.{literalKind, logicKind, AskNode, DoneNode, AskAgainst, DoneAgainst, DonePlain, AskShort, DoneShort, AskLogic, DoneLogic};
+ghost use Rattle.eval_filters.specs.Turns.{AskTurn, DoneTurn};
 
 pub mod atoms;
 pub mod children;
@@ -391,4 +392,25 @@ pub fn logic_expr(plan: &[u8], acc: bool, q: usize) -> Told
         q: inside,
         some: true,
     }
+}
+
+// The operator or test at q, with an answer before it, where it is told without registers.
+pub fn plain_turn(
+    plan: &[u8],
+    pool: &[u8],
+    table: &[u8],
+    text: &[u8],
+    root: usize,
+    node: usize,
+    acc: bool,
+    q: usize,
+    e: usize,
+) -> Told
+    requires { ⌜ AskTurn (now plan) (now pool) (now table) (now text) root node «acc» q e ⌝ }
+    ensures { λ r. ⌜ DoneTurn (now (plan .entry)) (now (pool .entry)) (now (table .entry)) (now (text .entry)) root node «acc» q e r ⌝ }
+{
+    if is_logic(plan[q]) {
+        return logic_expr(plan, acc, q);
+    }
+    plain_test(plan, pool, table, text, root, node, q, e)
 }

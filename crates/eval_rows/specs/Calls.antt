@@ -24,15 +24,13 @@ use Rattle.eval_laws.specs.Todos.{Todo, todo-in, todo-inside, todo-to, QueryAt,
 use Rattle.eval_items.specs.EndLaws.{past-text}
 use Rattle.eval_items.specs.LeafLaws.{done-text}
 use Rattle.eval_items.specs.Leaves.{beginsAt}
+use Rattle.eval_front.specs.Fronts.{never}
 use Rattle.eval_front.specs.Visits.{Query, Given, AskReach}
 use Rattle.eval_filters.specs.Queries.{Within, begins-in}
 use Rattle.eval_filters.specs.Tests.{Left, AskShort, query-at, short-query}
 use Rattle.eval_filters.specs.Values.{AskLeft, test-short}
 use Rattle.eval_rows.specs.declared.calls.Call.{Call}
 use Rattle.eval_rows.specs.Paths.{AskPath, Leads, leads-low, leads-past}
-
-never : false ≡ true → ⊥
-never e = let n : _≡_ {A = ℕ} 0 1 = cc in omega arith
 
 unfoldable pub regexKind : ℕ → Bits
 regexKind k = leb 0x1C k && leb k 0x1D

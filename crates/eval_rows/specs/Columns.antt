@@ -5,27 +5,24 @@ use mathlib.Core.Path.{_≡_, refl, sym, ap, _∙_, subst}
 use mathlib.Core.Logic.{_⊎_, inl, inr}
 use mathlib.Core.List.{List}
 use mathlib.Core.Bool.{Bool as Bits, true, false, not}
-use lib.Dec.{eqb}
+use lib.Dec.{ltb}
 use lib.ListN.{length, getD, set, length-set}
-use lib.Seq.{getD-set-same, getD-set-other}
 use native.Mathlib.Omega.{arith}
-use borrow.Author.Tests.{eqb-true, eqb-false}
+use borrow.Author.Tests.{ltb-true, ltb-false}
 use Rattle.definition.specs.Limits.{maxPlan}
 use Rattle.definition.specs.Tables.{nodeCount, nodeAt}
+use Rattle.eval_front.specs.Fronts.{never}
 use Rattle.eval_front.specs.Visits.{Given}
 use Rattle.eval_filters.specs.Queries.{Within}
 use Rattle.eval_filters.specs.Kept.{AskTest, DoneTest, InKept, kept-passed, kept-step}
 use Rattle.eval_filters.specs.Keeps.{DonePushed, test-code}
 use Rattle.eval_filters.specs.Values.{AskLeft}
 use Rattle.eval_laws.specs.Todos.{todo-end}
-use Rattle.eval_asks.specs.Cells.{answerOf, placeOf, InCell, Column, cell-no, cell-start, cell-next, cell-left, column-start, column-set}
+use Rattle.eval_asks.specs.Cells.{answerOf, placeOf, InCell, Column, cell-no, cell-start, cell-next, cell-left, column-set}
 use Rattle.eval_rows.specs.declared.rows.Filter.{Filter}
 use Rattle.eval_rows.specs.declared.rows.Answer.{Answer}
 use Rattle.eval_rows.specs.declared.rows.Passed.{Passed}
 use Rattle.eval_rows.specs.Rows.{DoneAnswer, AskRows, DoneRows, rows-full, rows-end, rows-stuck, rows-later, rows-then}
-
-never : false ≡ true → ⊥
-never e = let n : _≡_ {A = ℕ} 0 1 = cc in omega arith
 
 -- ---- what is asked and given
 
@@ -61,9 +58,6 @@ stands-there b e = record { there = λ u. refl; none = λ u. absurd (never (sym 
 
 pub stands-none : {p : ℕ} {l : List ℕ} {k : ℕ} (b : Bits) → b ≡ false → DoneStands b p l k p
 stands-none b e = record { there = λ u. absurd (never (sym e ∙ u)); none = λ u. refl }
-
-pub cells-some : {x y : ℕ} (b : Bits) → b ≡ false → not b ≡ false → x ≡ y
-cells-some b e n = absurd (never (sym n ∙ ap not e))
 
 -- ---- the loop over them
 
@@ -162,17 +156,6 @@ module _ {P L S X : List ℕ} {f : Filter} {i : ℕ} {l : List ℕ} {at : ℕ} (
 
 -- ---- from one place of the code to the next
 
--- all of the first n cells are p
-abbrev pub Laid : ℕ → ℕ → List ℕ → Type 0
-Laid n p l = (k : ℕ) → k < n → getD l k 0 ≡ p
-
-pub laid-more : {k p : ℕ} (l : List ℕ) → Laid k p l → k < length l → Laid (k + 1) p (set l k p)
-laid-more {k} {p} l h n m b = go (eqb m k) refl
-  where
-    go : (y : Bits) → eqb m k ≡ y → getD (set l k p) m 0 ≡ p
-    go true y = ap (λ (x : ℕ). getD (set l k p) x 0) (eqb-true m k y) ∙ getD-set-same l k p 0 n
-    go false y = let o : m ≡ k → ⊥ = eqb-false m k y in getD-set-other l k m p 0 o ∙ h m (omega (arith, o, b))
-
 -- one of the first n nodes of a column stands at q
 pub record Standing (l : List ℕ) (n q : ℕ) : Type 0 where
   pub k : ℕ
@@ -189,23 +172,27 @@ pub least-lower : {l : List ℕ} {n from z q k c r : ℕ} → DoneLeast l n from
 least-lower {l} {n} {from} {z} d h e (inl u) = subst (DoneLeast l n from z) (sym u) d
 least-lower {l} {n} {from} {z} {k = k} d h e (inr (u, v)) = λ g. (omega arith, record { k = k; inside = h; here = sym (u ∙ e) })
 
-pub record AskFill (P L S X : List ℕ) (root i e p z n : ℕ) : Type 0 where
+-- from a place to a later one
+pub least-less : {l : List ℕ} {n q z r : ℕ} → DoneLeast l n (q + 1) z r → q < z → z - r < z - q
+least-less {q = q} {z = z} {r = r} d h = go (ltb r z) refl
+  where
+    go : (b : Bits) → ltb r z ≡ b → z - r < z - q
+    go true e = let m = d (ltb-true r z e) .0 in omega arith
+    go false e = let m = ltb-false r z e in omega arith
+
+pub record AskFill (P L S X : List ℕ) (root i e p z : ℕ) : Type 0 where
   pub given : Given P L S X
   pub root-in : root < nodeCount S
   pub upto : i ≤ e
   pub range : i < e → e ≤ nodeCount S
   pub test : AskTest P L p z
-  pub long : e - i ≤ n
 
-module _ {P L S X : List ℕ} {root i e p z n : ℕ} (a : AskFill P L S X root i e p z n) where
+module _ {P L S X : List ℕ} {root i e p z : ℕ} (a : AskFill P L S X root i e p z) where
   pub fill-code : (p ≤ z) × (z ≤ maxPlan)
   fill-code =
       let c = test-code (a .given .fewP) (a .test) in
       let q = a .test .stands .place in
       (omega arith, omega (arith, c .inside, a .given .fewP))
-
-  pub fill-start : {l : List ℕ} → n ≡ length l → Laid (e - i) p l → Column P L S X root i e p z l
-  fill-start m h = let c = fill-code in column-start (a .test) (omega (arith, c .0, c .1)) (omega (arith, a .long)) h
 
   pub fill-asked : {l : List ℕ} → Column P L S X root i e p z l → AskPass P L S X (record { root = root; e = e; p = p; z = z; tail = 0; rest = 0; cap = 0; cells = true }) i l 0
   fill-asked c = record { given = a .given; root-in = a .root-in; range = a .range; test = a .test; rows = λ u. absurd (never (sym u)); cells = λ u. c }

@@ -7,20 +7,18 @@ use lib.ListN.{length}
 use native.Mathlib.Omega.{arith}
 use Rattle.definition.specs.Tables.{nodeCount, nodeAt}
 use Rattle.eval_laws.specs.Todos.{todo-to}
+use Rattle.eval_front.specs.Fronts.{never}
 use Rattle.eval_asks.specs.Cells.{answerOf, placeOf, left-ended}
 use Rattle.eval_filters.specs.Queries.{Within}
 use Rattle.eval_filters.specs.Kept.{AskTest, AskKept, InKept, kept-full, kept-end}
 use Rattle.eval_filters.specs.Keeps.{TailAt, DoneRange, range-done}
 use Rattle.eval_filters.specs.Tests.{Left, AskRest}
+use Rattle.eval_filters.specs.Turns.{AskTurn, DoneTurn}
 use Rattle.eval_filters.specs.Values.{AskLeft}
 use Rattle.eval_filters.specs.declared.Told.{Told}
 use Rattle.eval_rows.specs.declared.rows.Filter.{Filter}
 use Rattle.eval_rows.specs.declared.rows.Answer.{Answer}
 use Rattle.eval_rows.specs.declared.rows.Passed.{Passed}
-use Rattle.eval_rows.specs.Turns.{AskTurn, DoneTurn}
-
-never : false ≡ true → ⊥
-never e = let n : _≡_ {A = ℕ} 0 1 = cc in omega arith
 
 -- ---- how far the filter is told of a node with a cell
 

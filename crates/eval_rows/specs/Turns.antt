@@ -1,4 +1,4 @@
--- One test of a filter's code on a node: the text that a call's query finds, what the call says by it, and what is left of the code behind a test or an operator.
+-- A call of match or search on a node: the text that its query finds, what the call says by it, and what is left of the code behind it.
 -- P is the plan, L the pool, S the table, X the text. Assumes nothing.
 use Prim.Native.Nat.{ℕ, _+_, _-_, _≤_, _<_}
 use mathlib.Core.Path.{_≡_, refl, sym, ap, _∙_, subst}
@@ -22,11 +22,12 @@ use Rattle.eval_laws.specs.Founds.{found-first, found-none}
 use Rattle.eval_values.specs.Values.{of-null, of-false, of-true, of-integer, of-float, of-text, value-list, value-map}
 use Rattle.eval_items.specs.Leaves.{beginsAt}
 use Rattle.eval_items.specs.Regexes.{cut, cut-test}
+use Rattle.eval_front.specs.Fronts.{never}
 use Rattle.eval_front.specs.declared.Reached.{Reached}
 use Rattle.eval_filters.specs.Queries.{Within, found-lost, found-one}
-use Rattle.eval_filters.specs.Tests.{Left, DoneShort, DoneLogic, AskLogic, logicKind, logic-kind}
+use Rattle.eval_filters.specs.Tests.{Left}
+use Rattle.eval_filters.specs.Turns.{AskTurn, DoneTurn, turn-left}
 use Rattle.eval_filters.specs.Values.{AskLeft}
-use Rattle.eval_filters.specs.declared.Told.{Told}
 use Rattle.regex.specs.Tested.{Tested}
 use Rattle.regex_rooms.specs.Rooms.{scopeFor, scope-for}
 use Rattle.eval_rows.specs.declared.calls.Call.{Call}
@@ -34,9 +35,6 @@ use Rattle.eval_rows.specs.declared.turns.Spot.{Spot}
 use Rattle.eval_rows.specs.Paths.{DoneFollow, leads-end, leads-low}
 use Rattle.eval_rows.specs.Calls.{CallAt, Spelled, AskText, DoneCall, call-told, left-near}
 use Rattle.eval_rows.specs.Known.{Ready, Knows}
-
-never : false ≡ true → ⊥
-never e = let n : _≡_ {A = ℕ} 0 1 = cc in omega arith
 
 -- ---- the text of a node
 
@@ -142,41 +140,15 @@ module _ {P L S X : List ℕ} {root node z : ℕ} {g : Call} (a : AskLeft P L S 
 pub spelled-utf8 : (L : List ℕ) (g : Call) → Spelled L g → isUtf8 (take (g .start + g .size - g .start) (drop (g .start) L)) ≡ true
 spelled-utf8 L g s = ap isUtf8 (cut L (g .start) (g .size)) ∙ s .1
 
--- ---- a test or an operator
-
-pub record AskTurn (P L S X : List ℕ) (root node : ℕ) (acc : Bits) (q z : ℕ) : Type 0 where
-  pub within : Within P L S X root node
-  pub want : Bits
-  pub todo : Left P L q z (nodeAt S X root) (nodeAt S X node) acc want
-  pub more : q < z
-
-pub record DoneTurn (P L S X : List ℕ) (root node : ℕ) (acc : Bits) (q z : ℕ) (r : Told) : Type 0 where
-  pub further : r .some ≡ true → q < r .q
-  pub goes : r .some ≡ true → (want : Bits) → Left P L q z (nodeAt S X root) (nodeAt S X node) acc want → Left P L (r .q) z (nodeAt S X root) (nodeAt S X node) (r .acc) want
-
-pub turn-none : {P L S X : List ℕ} {root node : ℕ} {acc : Bits} {q z : ℕ} {r : Told} → r .some ≡ false → DoneTurn P L S X root node acc q z r
-turn-none o = record { further = λ t. absurd (never (sym o ∙ t)); goes = λ t. absurd (never (sym o ∙ t)) }
+-- ---- the call that is known, where a node stands
 
 module _ {P L S X : List ℕ} {root node : ℕ} {acc : Bits} {q z : ℕ} (a : AskTurn P L S X root node acc q z) where
-  pub turn-left : AskLeft P L S X root node q z
-  turn-left = record { within = a .within; acc = acc; want = a .want; todo = a .todo; more = a .more }
-
-  pub turn-asks : logicKind (getD P q 0) ≡ true → AskLogic P acc q
-  turn-asks k = let w = logic-kind _ k in record { few = a .within .fewP; L = L; e = z; R = _; N = _; want = _; todo = a .todo; more = a .more; low = w .0; high = w .1 }
-
-  pub turn-logic : {r : Told} → DoneLogic P acc q r → DoneTurn P L S X root node acc q z r
-  turn-logic d = record { further = λ t. d .further; goes = λ t want l. d .goes L z _ _ want l (a .more) }
-
-  pub turn-plain : {r : Told} → DoneShort P L S X root node q z r → DoneTurn P L S X root node acc q z r
-  turn-plain d = record { further = d .further; goes = λ t want l. d .goes t acc want l }
-
-  -- the call that is known stands there
   pub turn-call : {code : List ℕ} {g : Call} {known : ℕ} → Knows P L code z g known → q ≡ g .at → CallAt P z g × (known ≡ 0 → ⊥)
-  turn-call k e = let h = left-near turn-left in let m = a .more in (k .call (omega arith), k .some (omega arith))
+  turn-call k e = let h = left-near (turn-left a) in let m = a .more in (k .call (omega arith), k .some (omega arith))
 
   module _ {g : Call} (c : CallAt P z g) (i : g .at ≡ q) where
     pub turn-at : AskLeft P L S X root node (g .at) z
-    turn-at = subst (λ (x : ℕ). AskLeft P L S X root node x z) (sym i) turn-left
+    turn-at = subst (λ (x : ℕ). AskLeft P L S X root node x z) (sym i) (turn-left a)
 
     pub turn-called : {b : Bits} → DoneCall P L S X root node z g b → DoneTurn P L S X root node acc q z (record { acc = b; q = g .end + 7; some = true })
     turn-called d =

@@ -1,20 +1,8 @@
-// The cells of the nodes of a range, in a column: laid, and looked through for the next place at which some node stands.
+// The cells of the nodes of a range, in a column, looked through for the next place at which some node stands.
 use eval_asks::cells;
-ghost use Prim.Native.Nat.{_≤_, _<_};
+ghost use Prim.Native.Nat.{_≤_};
 ghost use lib.ListN.{length};
-ghost use Rattle.eval_rows.specs.Columns.{Laid, DoneLower, DoneLeast};
-
-// The first n cells for nodes of which nothing is told.
-pub fn lay(column: &mut [u32], n: usize, p: usize)
-    requires { ⌜ (n ≤ length (now column)) × (p < 65536) ⌝ }
-    ensures { λ r. ⌜ Laid n p (now (column .exit)) ⌝ }
-{
-    let mut k = 0;
-    while k < n {
-        column[k] = p as u32;
-        k += 1;
-    }
-}
+ghost use Rattle.eval_rows.specs.Columns.{DoneLower, DoneLeast};
 
 // The lesser of q and a place from `from` on.
 fn lower(from: usize, q: usize, c: usize) -> usize

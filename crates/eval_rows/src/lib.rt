@@ -1,6 +1,6 @@
 // The nodes of a range that a filter keeps, where its tests need no walk. An expression of match or search that is a text of the plan is read once for all of them, at
-// the first node that asks for it. Where there are more calls than one, or more follows than a name, each node has a cell that says how far it is told, and every call
-// is asked of all nodes that stand at it (`fill`).
+// the first node that asks for it. Where there are more calls than one, or a test in front of one needs a walk, or more follows than a name, each node has a cell that says
+// how far it is told, and every call is asked of all nodes that stand at it (`fill`).
 //
 // The rooms for it stand in frames of their own. LLVM would join the functions that hold them into evaluation, which calls itself, and every call of that would have
 // the rooms; a function that calls itself it leaves alone. `again` says how often one does, which changes nothing of the answer. There are two sizes of each room,
@@ -26,11 +26,11 @@ use rows::Filter;
 use rows::Passed;
 use turns::UNREAD;
 ghost use mathlib.Core.Path.{_≡_};
-ghost use mathlib.Core.Bool.{true, false};
-ghost use Prim.Native.Nat.{_+_, _-_, _*_, _≤_, _<_};
+ghost use mathlib.Core.Bool.{false};
+ghost use Prim.Native.Nat.{_+_, _*_, _≤_, _<_};
 ghost use lib.ListN.{length};
 ghost use Rattle.eval_rows.specs.Calls.{CallAt, Spelled};
-ghost use Rattle.eval_rows.specs.Columns.{AskPass, DonePass, Standing, AskFill};
+ghost use Rattle.eval_rows.specs.Columns.{AskPass, DonePass, AskFill};
 ghost use Rattle.eval_asks.specs.Cells.{Column};
 
 // An expression of the part has at most so many bytes.
@@ -177,7 +177,7 @@ fn by_size(
     coded::outside(plan, pool, table, text, f, i, g, list, at)
 }
 
-// The nodes from i on that the filter keeps, with what follows, up to the first that needs an expression or a walk; or their cells, each up to there.
+// The nodes from i on that the filter keeps, with what follows, up to the first that needs an expression or a walk.
 fn unread(
     plan: &[u8],
     pool: &[u8],
@@ -242,34 +242,8 @@ pub fn keep_rows(
     by_size(plan, pool, table, text, f, v.i, g, list, v.at)
 }
 
-// The cells of the nodes from i on, one of which stands at q: those that stand there go through the call; or, where nothing is told of any, each goes to the first test
-// that needs an expression or a walk.
-fn through(
-    plan: &[u8],
-    pool: &[u8],
-    table: &[u8],
-    text: &[u8],
-    f: Filter,
-    i: usize,
-    q: usize,
-    column: &mut [u32],
-)
-    requires { ⌜ AskPass (now plan) (now pool) (now table) (now text) f i (now column) 0 × (f .cells ≡ true) ⌝ }
-    requires { ⌜ Standing (now column) (f .e - i) q × (q < f .z) ⌝ }
-    ensures { λ r. ⌜ Column (now (plan .entry)) (now (pool .entry)) (now (table .entry)) (now (text .entry)) (f .root) i (f .e) (f .p) (f .z) (now (column .exit)) ⌝ }
-{
-    let g = calls::read_call(plan, q, f.z);
-    if g.some {
-        by_size(plan, pool, table, text, f, i, g, column, 0);
-        return;
-    }
-    if q == f.p {
-        unread(plan, pool, table, text, f, i, column, 0);
-    }
-}
-
-// The cells of the nodes from i up to e with the filter from p up to z: each call of match or search with a text of the plan is asked of all that stand at it, from one
-// place of the code to the next. What stands at something else is left.
+// The cells of the nodes from i up to e with the filter from p up to z: from the place `from` of the code on, each call of match or search with a text of the plan is asked
+// of all that stand at it. It ends at the first place where something else stands in front of a call, or at z.
 pub fn fill(
     plan: &[u8],
     pool: &[u8],
@@ -280,10 +254,13 @@ pub fn fill(
     e: usize,
     p: usize,
     z: usize,
+    from: usize,
     column: &mut [u32],
-)
-    requires { ⌜ AskFill (now plan) (now pool) (now table) (now text) root i e p z (length (now column)) ⌝ }
+) -> usize
+    requires { ⌜ AskFill (now plan) (now pool) (now table) (now text) root i e p z ⌝ }
+    requires { ⌜ Column (now plan) (now pool) (now table) (now text) root i e p z (now column) ⌝ }
     ensures { λ r. ⌜ Column (now (plan .entry)) (now (pool .entry)) (now (table .entry)) (now (text .entry)) root i e p z (now (column .exit)) ⌝ }
+    ensures { λ r. ⌜ (r < z → from ≤ r) ⌝ }
 {
     let f = Filter {
         root,
@@ -295,14 +272,17 @@ pub fn fill(
         cap: 0,
         cells: true,
     };
-    columns::lay(column, e - i, p);
-    let mut from = p;
-    while from < z {
-        let q = columns::least(column, e - i, from, z);
-        if z <= q {
-            return;
+    let mut q = columns::least(column, e - i, from, z);
+    while q < z {
+        let g = calls::read_call(plan, q, z);
+        if !g.some {
+            if calls::mentions(plan, q, z) {
+                return q;
+            }
+            return z;
         }
-        from = q + 1;
-        through(plan, pool, table, text, f, i, q, column);
+        by_size(plan, pool, table, text, f, i, g, column, 0);
+        q = columns::least(column, e - i, q + 1, z);
     }
+    z
 }

@@ -1,7 +1,6 @@
 // One node of a range with a whole filter, and all of them in turn.
 use crate::calls::Call;
 use crate::turns;
-use crate::turns::UNREAD;
 use eval_asks::cells;
 use eval_filters::kept;
 ghost use mathlib.Core.Path.{_≡_};
@@ -95,7 +94,7 @@ fn asked(
             );
             q = g.end + 7;
         } else {
-            let t = turns::told(plan, pool, table, text, root, node, acc, q, z);
+            let t = eval_filters::plain_turn(plan, pool, table, text, root, node, acc, q, z);
             if !t.some {
                 return Answer {
                     acc,
@@ -125,21 +124,18 @@ fn stands(in_cells: bool, p: usize, list: &[u32], k: usize) -> u32
     p as u32
 }
 
-// The place of the nodes that are asked: where there are cells and a call is known, that of the call.
-fn asks_from(in_cells: bool, known: u8, p: usize, at: usize) -> usize
+// The place of the nodes that are asked: where there are cells, that of the call.
+fn asks_from(in_cells: bool, p: usize, at: usize) -> usize
     ensures { λ r. ⌜ (in_cells ≡ false → r ≡ p) ⌝ }
 {
-    if !in_cells {
-        return p;
+    if in_cells {
+        return at;
     }
-    if known == UNREAD {
-        return p;
-    }
-    at
+    p
 }
 
 // The nodes from i on that the filter keeps, with what follows, up to the first of which a test is not told. Where the filter has cells, nothing is pushed: each that
-// stands at the call, or where nothing is told if no call is known, goes on as far as it is told.
+// stands at the call goes on as far as it is told.
 pub fn keep(
     plan: &[u8],
     pool: &[u8],
@@ -168,7 +164,7 @@ pub fn keep(
     let tail = f.tail;
     let rest = f.rest;
     let in_cells = f.cells;
-    let first = asks_from(in_cells, known, p, g.at);
+    let first = asks_from(in_cells, p, g.at);
     let mut a = at;
     let mut j = i;
     let mut near = 0;

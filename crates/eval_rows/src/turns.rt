@@ -1,7 +1,6 @@
-// One test of a filter's code on a node, or an operator between tests, told without registers; and a call by what is known of its expression.
+// What a call of match or search says of a node, by what is known of its expression.
 use crate::calls::Call;
 use crate::paths;
-use eval_filters::Told;
 use eval_items::leaves;
 use regex::test;
 use regex_rooms::marks::test_within;
@@ -15,7 +14,7 @@ ghost use Rattle.regex.specs.Tested.{Tested};
 ghost use Rattle.regex_rooms.specs.Rooms.{scopeFor};
 ghost use Rattle.eval_rows.specs.Calls.{CallAt, AskText, DoneCall};
 ghost use Rattle.eval_rows.specs.Known.{Ready, Held};
-ghost use Rattle.eval_rows.specs.Turns.{TextOf, AskTurn, DoneTurn};
+ghost use Rattle.eval_rows.specs.Turns.{TextOf};
 
 // What is known of the expression: nothing yet, that it is outside the part, its code, or the code with rooms that are ready for its states.
 pub const UNREAD: u8 = 0;
@@ -121,25 +120,4 @@ pub fn called(
     let a = s.start;
     let n = s.size;
     tested(g.kind, known, code, &text[a..a + n], edges, sets, marks)
-}
-
-// The test or operator at q, with an answer before it, where no call stands that is known.
-pub fn told(
-    plan: &[u8],
-    pool: &[u8],
-    table: &[u8],
-    text: &[u8],
-    root: usize,
-    node: usize,
-    acc: bool,
-    q: usize,
-    z: usize,
-) -> Told
-    requires { ⌜ AskTurn (now plan) (now pool) (now table) (now text) root node «acc» q z ⌝ }
-    ensures { λ r. ⌜ DoneTurn (now (plan .entry)) (now (pool .entry)) (now (table .entry)) (now (text .entry)) root node «acc» q z r ⌝ }
-{
-    if eval_filters::is_logic(plan[q]) {
-        return eval_filters::logic_expr(plan, acc, q);
-    }
-    eval_filters::plain_test(plan, pool, table, text, root, node, q, z)
 }

@@ -8,16 +8,14 @@ use Rattle.definition.specs.Forms.{Test}
 use Rattle.definition.specs.Tables.{nodeAt}
 use Rattle.definition.specs.Evaluation.{evalTest}
 use Rattle.eval_laws.specs.Todos.{todo-start, todo-end}
+use Rattle.eval_front.specs.Fronts.{never}
 use Rattle.eval_filters.specs.Queries.{Within}
 use Rattle.eval_filters.specs.Kept.{Tested, AskTest, DoneTest}
 use Rattle.eval_filters.specs.Tests.{Left}
 use Rattle.eval_filters.specs.Values.{AskLeft}
 use Rattle.eval_filters.specs.declared.Told.{Told}
 use Rattle.eval_rows.specs.declared.rows.Answer.{Answer}
-use Rattle.eval_rows.specs.Turns.{AskTurn, DoneTurn}
-
-never : false ≡ true → ⊥
-never e = let n : _≡_ {A = ℕ} 0 1 = cc in omega arith
+use Rattle.eval_filters.specs.Turns.{AskTurn, DoneTurn}
 
 -- the test's answer, or the place of a test that is not told
 pub record DoneJoined (P L S X : List ℕ) (root node p z : ℕ) (r : Answer) : Type 0 where

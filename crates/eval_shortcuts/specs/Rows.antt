@@ -8,24 +8,21 @@ use native.Mathlib.Omega.{arith}
 use denote.Ref.{RefT}
 use Rattle.eval_laws.specs.States.{st}
 use Rattle.eval_laws.specs.Steps.{kept}
+use Rattle.eval_front.specs.Fronts.{never}
 use Rattle.eval_front.specs.Overs.{over-end}
 use Rattle.eval_filters.specs.Keeps.{AskTail, TailAt, tail-asked}
 use Rattle.eval_filters.specs.Queries.{Within}
 use Rattle.eval_rows.specs.Calls.{AskCall, left-asked}
-use Rattle.eval_rows.specs.Turns.{turn-left}
+use Rattle.eval_filters.specs.Turns.{turn-left}
 use Rattle.eval_rows.specs.Rows.{AskRows as AskFilter, DoneRows as DoneFilter}
 use Rattle.eval_rows.specs.Columns.{AskPass, AskFill}
 use Rattle.eval_shortcuts.specs.Joined.{joined-start, joined-turn}
 use Rattle.eval_rows.specs.declared.rows.Passed.{Passed}
 use Rattle.eval_asks.specs.Lent.{planOf, poolOf, tableOf, textOf, rootOf, capOf, atOf}
-use Rattle.eval_asks.specs.Asks.{Asked, AskNext}
+use Rattle.eval_asks.specs.Asks.{Asked}
 use Rattle.eval_asks.specs.Steady.{wrote-at}
 use Rattle.eval_asks.specs.Kinds.{Keeps, keeping}
-use Rattle.eval_asks.specs.Cells.{Column}
-use Rattle.eval_asks.specs.Rows.{AskRows, DoneRows, DoneCells}
-
-never : false ≡ true → ⊥
-never e = let n : _≡_ {A = ℕ} 0 1 = cc in omega arith
+use Rattle.eval_asks.specs.Rows.{AskRows, DoneRows, AskCells}
 
 module _ {v : List (RefT (List ℕ))} {i e p z rest : ℕ} {s l : List ℕ} (a : Asked v s l) where
   pub rows-none : DoneRows v i e p z rest s l s l i
@@ -82,14 +79,7 @@ module _ {v : List (RefT (List ℕ))} {i e p z rest : ℕ} {s l : List ℕ} (a :
             goes = at-root e (λ x. over-end (x .q) _ (kept (x .t) _) (tableOf v) (textOf v) e e _ (omega arith) ∙ d .whole m .ended (x .t) (x .k) (x .q) (x .k′) (x .tested) (x .after));
           }
 
--- ---- the cells of the first of them
+-- ---- the cells of those from i up to e
 
-module _ {v : List (RefT (List ℕ))} {root i e p z : ℕ} (a : AskNext v root i e p z) {r n : ℕ} (d : (i < r) × ((r ≤ e) × (r - i ≤ n))) where
-  pub cells-asked : AskFill (planOf v) (poolOf v) (tableOf v) (textOf v) root i r p z n
-  cells-asked =
-      let d0 = d .0 in
-      let d1 = d .1 .0 in
-      record { given = a .given; root-in = a .root-in; upto = omega arith; range = λ h. omega (arith, a .range (omega arith)); test = a .test; long = d .1 .1 }
-
-  pub cells-done : {l : List ℕ} → Column (planOf v) (poolOf v) (tableOf v) (textOf v) root i r p z l → DoneCells v root i e p z l r
-  cells-done c = record { low = d .0; high = d .1 .0; column = c }
+pub cells-asked : {v : List (RefT (List ℕ))} {root i e p z : ℕ} {l : List ℕ} → AskCells v root i e p z l → AskFill (planOf v) (poolOf v) (tableOf v) (textOf v) root i e p z
+cells-asked a = let n = a .next in record { given = n .given; root-in = n .root-in; upto = a .upto; range = n .range; test = n .test }

@@ -9,11 +9,11 @@
 // Filters that are read once stand in `eval_filters`, those with match or search of a text of the plan in `eval_rows`.
 ghost use Rattle.eval_front.specs.Visits.{Given};
 ghost use Rattle.eval_asks.specs.Lent.{planOf, poolOf, tableOf, textOf};
-ghost use Rattle.eval_asks.specs.Asks.{Asked, Steady, AskEach, DoneAhead, Descends, AskFlats, DoneFlats, AskSelector, AskKind, DoneKeep, AskNext};
-ghost use Rattle.eval_asks.specs.Rows.{AskRows, DoneRows, DoneCells};
+ghost use Rattle.eval_asks.specs.Asks.{Asked, Steady, AskEach, DoneAhead, Descends, AskFlats, DoneFlats, AskSelector, AskKind, DoneKeep};
+ghost use Rattle.eval_asks.specs.Rows.{AskRows, DoneRows, AskCells};
+ghost use Rattle.eval_asks.specs.Cells.{Column};
 ghost use Rattle.eval_filters.specs.Values.{AskLeft};
-ghost use Prim.Native.Nat.{_-_, _≤_, _<_};
-ghost use lib.ListN.{length};
+ghost use Prim.Native.Nat.{_≤_, _<_};
 use eval_asks::AT;
 use eval_asks::CAP;
 use eval_asks::PLAN;
@@ -271,18 +271,8 @@ pub fn keep_rows(
     e
 }
 
-// The end of the range from i up to e, or of its first n nodes.
-fn chunk_end(i: usize, e: usize, n: usize) -> usize
-    requires { ⌜ (i < e) × ((e ≤ 4294967295) × (0 < n)) ⌝ }
-    ensures { λ r. ⌜ (i < r) × ((r ≤ e) × (r - i ≤ n)) ⌝ }
-{
-    if e - i <= n {
-        return e;
-    }
-    i + n
-}
-
-// How far the test from p up to z is told of the nodes from i on, in a cell for each, as many as there are cells: the node behind the last of them.
+// The cells of the nodes from i up to e with the test from p up to z: calls of match or search with a text of the plan, from the place `from` of the code on, are asked of
+// those that stand at them. It ends at the first place where something else stands in front of such a call, or at z.
 pub fn fill_cells(
     lent: &[&[u8]; 4],
     root: usize,
@@ -290,12 +280,13 @@ pub fn fill_cells(
     e: usize,
     p: usize,
     z: usize,
+    from: usize,
     column: &mut [u32],
 ) -> usize
-    requires { ⌜ AskNext (now lent) root i e p z × ((i < e) × (0 < length (now column))) ⌝ }
-    ensures { λ r. ⌜ DoneCells (now (lent .entry)) root i e p z (now (column .exit)) r ⌝ }
+    requires { ⌜ AskCells (now lent) root i e p z (now column) ⌝ }
+    ensures { λ r. ⌜ Column (planOf (now (lent .entry))) (poolOf (now (lent .entry))) (tableOf (now (lent .entry))) (textOf (now (lent .entry))) root i e p z (now (column .exit)) ⌝ }
+    ensures { λ r. ⌜ (r < z → from ≤ r) ⌝ }
 {
-    let k = chunk_end(i, e, column.len());
     eval_rows::fill(
         lent[PLAN],
         lent[POOL],
@@ -303,10 +294,10 @@ pub fn fill_cells(
         lent[TEXT],
         root,
         i,
-        k,
+        e,
         p,
         z,
+        from,
         column,
-    );
-    k
+    )
 }

@@ -6,7 +6,8 @@ use native.Mathlib.Omega.{arith}
 use borrow.Author.Tests.{not-true, not-false}
 use Rattle.eval_rows.specs.Calls.{left-near}
 use Rattle.eval_rows.specs.Known.{Held}
-use Rattle.eval_rows.specs.Turns.{turn-left, turn-call, turn-at, turn-called}
+use Rattle.eval_filters.specs.Turns.{turn-left}
+use Rattle.eval_rows.specs.Turns.{turn-call, turn-at, turn-called}
 use Rattle.eval_rows.specs.Rows.{InAsked, asked-start, asked-turn, asked-further, answer-left, answer-none, answer-told}
 use borrow.Author.Needs.{needs}
 use Rattle.eval_rows.proofs.rows.asked.Statement.{statement}
@@ -16,7 +17,7 @@ use Rattle.eval_rows.proofs.rows.asked.Lts as lts
 use Rattle.eval_asks.proofs.cells.answer.Reads as answer-reads
 use Rattle.eval_asks.proofs.cells.place.Reads as place-reads
 use Rattle.eval_rows.proofs.turns.called.Reads as called-reads
-use Rattle.eval_rows.proofs.turns.told.Reads as told-reads
+use Rattle.eval_filters.proofs.plain_turn.Reads as plain-turn-reads
 
 abbrev Inv-loop : tie.InvT-loop
 Inv-loop plan pool table text root node c first z g known code edges₀ sets₀ marks₀ acc₀ q₀ edges sets marks acc q = InAsked plan pool table text root node z c acc q × ((length edges ≡ length edges₀) × ((length sets ≡ length sets₀) × ((length marks ≡ length marks₀) × Held code edges sets known)))
@@ -48,8 +49,8 @@ loop-less c = let s = c .before .before .before .before .before .before .before 
 loop-again : tie.Need-loop-again Inv-loop μ-loop
 loop-again c = let s = c .before .before .before .before .before .before .before .before .before .before .before .before .before .before .before .before .before .before .before .before .before .before .before .before .before .before .pre in let i = c .before .before .before .before .before .before .before .before .before .before .before .before .before .before .loop .inv in let k = c .before .before .before .before .before .before .before .called .kept .1 .1 .1 .1 .1 .1 .1 .1 .1 .1 in let t = asked-turn (s .0 .0) (s .0 .1) (i .0) (c .before .before .before .before .before .before .before .before .before .before .before .before .before .loop-test .taken) in let h = turn-call t (s .1 .0) (c .before .before .before .before .before .before .before .before .before .before .before .if2 .taken) in (asked-further (s .0 .0) (s .0 .1) (i .0) (c .before .before .before .before .before .before .before .before .before .before .before .before .before .loop-test .taken) (turn-called t (h .0) (sym (c .before .before .before .before .before .before .before .before .before .before .before .if2 .taken)) (c .before .before .before .before .before .before .before .called .ensures .0)) refl, (k .0 ∙ i .1 .0, (k .1 .0 ∙ i .1 .1 .0, (k .1 .1 .0 ∙ i .1 .1 .1 .0, c .before .before .before .before .before .before .before .called .ensures .1))))
 
-told-requires : tie.Need-told-requires Inv-loop μ-loop
-told-requires c κs = let s = c .before .before .before .before .before .before .before .before .before .before .before .before .before .before .before .pre in let i = c .before .before .before .loop .inv in asked-turn (s .0 .0) (s .0 .1) (i .0) (c .before .before .loop-test .taken)
+plain-turn-requires : tie.Need-plain-turn-requires Inv-loop μ-loop
+plain-turn-requires c κs = let s = c .before .before .before .before .before .before .before .before .before .before .before .before .before .before .before .pre in let i = c .before .before .before .loop .inv in asked-turn (s .0 .0) (s .0 .1) (i .0) (c .before .before .loop-test .taken)
 
 same-length : tie.Need-same-length Inv-loop μ-loop
 same-length c = c .before .before .before .before .before .before .loop .inv .1 .0
@@ -64,10 +65,10 @@ returns-2 : tie.Need-returns-2 Inv-loop μ-loop
 returns-2 c = let s = c .before .before .before .before .before .before .before .before .before .before .before .before .before .before .before .before .before .before .pre in let i = c .before .before .before .before .before .before .loop .inv in (answer-none (s .0 .0) (s .0 .1) (i .0) (c .before .before .before .before .before .loop-test .taken), i .1 .1 .1 .1)
 
 loop-less-2 : tie.Need-loop-less-2 Inv-loop μ-loop
-loop-less-2 c = omega (arith, c .before .before .told .ensures .further (not-false _ (c .if3 .left)), c .before .before .before .before .before .loop-test .taken)
+loop-less-2 c = omega (arith, c .before .before .plain-turn .ensures .further (not-false _ (c .if3 .left)), c .before .before .before .before .before .loop-test .taken)
 
 loop-again-2 : tie.Need-loop-again-2 Inv-loop μ-loop
-loop-again-2 c = let s = c .before .before .before .before .before .before .before .before .before .before .before .before .before .before .before .before .before .before .pre in let i = c .before .before .before .before .before .before .loop .inv in (asked-further (s .0 .0) (s .0 .1) (i .0) (c .before .before .before .before .before .loop-test .taken) (c .before .before .told .ensures) (not-false _ (c .if3 .left)), i .1)
+loop-again-2 c = let s = c .before .before .before .before .before .before .before .before .before .before .before .before .before .before .before .before .before .before .pre in let i = c .before .before .before .before .before .before .loop .inv in (asked-further (s .0 .0) (s .0 .1) (i .0) (c .before .before .before .before .before .loop-test .taken) (c .before .before .plain-turn .ensures) (not-false _ (c .if3 .left)), i .1)
 
 same-length-4 : tie.Need-same-length-4 Inv-loop μ-loop
 same-length-4 c = c .before .loop .inv .1 .0
@@ -95,7 +96,7 @@ asked-spec =
     add-q
     loop-less
     loop-again
-    told-requires
+    plain-turn-requires
     same-length
     same-length-2
     same-length-3

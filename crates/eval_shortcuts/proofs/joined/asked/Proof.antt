@@ -4,7 +4,7 @@ use mathlib.Core.Path.{sym, _∙_}
 use native.Mathlib.Omega.{arith}
 use borrow.Author.Tests.{not-false}
 use Rattle.eval_rows.specs.Calls.{left-in}
-use Rattle.eval_rows.specs.Turns.{turn-left, turn-asks, turn-plain}
+use Rattle.eval_filters.specs.Turns.{turn-left, turn-asks, turn-plain}
 use Rattle.eval_shortcuts.specs.Joined.{InJoined, joined-start, joined-turn, joined-further, joined-none, joined-told}
 use borrow.Author.Needs.{needs}
 use Rattle.eval_shortcuts.proofs.joined.asked.Statement.{statement}

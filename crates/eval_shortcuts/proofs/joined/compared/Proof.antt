@@ -1,5 +1,5 @@
 -- `joined::compared` meets its contract. Assumes nothing.
-use Rattle.eval_rows.specs.Turns.{turn-left, turn-plain}
+use Rattle.eval_filters.specs.Turns.{turn-left, turn-plain}
 use Rattle.eval_shortcuts.specs.Joined.{joined-start, joined-turn, joined-further, joined-none, joined-told}
 use borrow.Author.Needs.{needs}
 use Rattle.eval_shortcuts.proofs.joined.compared.Statement.{statement}

@@ -1,7 +1,7 @@
 -- The answers of `eval_filter` in evaluation's cycle of calls. The loop keeps the nodes that are left, from the next one on for which the test holds or that meets a call. Assumes nothing.
-use Rattle.eval.proofs.+apply_selector+apply_selectors+descend_flats+each_child+each_place+eval_cells+eval_filter+eval_filter_expr+eval_query+eval_rest+evaluate_segment+next_kept+recursive_descent.Lts-eval_filter as lts
+use Rattle.eval.proofs.+apply_selector+apply_selectors+descend_flats+each_child+each_place+eval_filter+eval_filter_expr+eval_query+eval_test+evaluate_segment+next_kept+recursive_descent+rows-keep+rows-tell+rows-turn.Lts-eval_filter as lts
 use Prim.Native.Nat.{ℕ}
-use Rattle.eval.proofs.eval_cells.Reads as eval-cells
+use Rattle.eval.proofs.rows.keep.Reads as rows·keep
 use Rattle.eval.proofs.eval_filter.Reads as eval-filter
 use Rattle.eval.proofs.evaluate_segment.Reads as evaluate-segment
 use Rattle.eval_shortcuts.proofs.keep_joined.Reads as keep-joined-reads
@@ -9,7 +9,7 @@ use Rattle.eval.proofs.next_kept.Reads as next-kept
 use Rattle.table.proofs.records.child_count.Reads as child-count-reads
 use Rattle.table.proofs.records.first_child.Reads as first-child-reads
 use Rattle.text.proofs.bytes.word16.Reads as word16-reads
-use Rattle.eval.proofs.+apply_selector+apply_selectors+descend_flats+each_child+each_place+eval_cells+eval_filter+eval_filter_expr+eval_query+eval_rest+evaluate_segment+next_kept+recursive_descent.Proof.Base.{eval-cells-below, eval-filter-at, evaluate-segment-below, next-kept-below}
+use Rattle.eval.proofs.+apply_selector+apply_selectors+descend_flats+each_child+each_place+eval_filter+eval_filter_expr+eval_query+eval_test+evaluate_segment+next_kept+recursive_descent+rows-keep+rows-tell+rows-turn.Proof.Base.{eval-filter-at, evaluate-segment-below, next-kept-below, rows·keep-below}
 use borrow.Author.Needs.{needs}
 use Prim.Native.Nat.{_+_, _-_}
 use native.Mathlib.Omega.{arith}
@@ -19,7 +19,7 @@ use Rattle.eval.specs.Calls.{segment-room}
 use Rattle.eval_asks.specs.Kinds.{rest-in, filter-bound, filter-inside, rest-asked, next-asked, test-asked, kept-in-table, filter-done, InFilter, filter-start, filter-end-all, filter-left, filter-full, filter-again, next-later}
 
 abbrev pub calls : ℕ → lts.Claims
-calls t = (word16-reads.Asked, word16-reads.Learnt, first-child-reads.Asked, first-child-reads.Learnt, child-count-reads.Asked, child-count-reads.Learnt, keep-joined-reads.Asked, keep-joined-reads.Learnt, next-kept-below t, next-kept.Post, eval-cells-below t, eval-cells.Post, evaluate-segment-below t, evaluate-segment.Post)
+calls t = (word16-reads.Asked, word16-reads.Learnt, first-child-reads.Asked, first-child-reads.Learnt, child-count-reads.Asked, child-count-reads.Learnt, keep-joined-reads.Asked, keep-joined-reads.Learnt, next-kept-below t, next-kept.Post, rows·keep-below t, rows·keep.Post, evaluate-segment-below t, evaluate-segment.Post)
 
 abbrev pub Inv-loop : lts.InvT-loop
 Inv-loop lent state₀ list₀ node p rest z i n e k v₀ state list v = InFilter lent k e (p + 3) z rest state₀ list₀ state list (v .node) (v .call)
@@ -82,14 +82,14 @@ module _ (t : ℕ) where
   pub loop-holds : lts.Need-loop-holds (calls t) (eval-filter-at t) eval-filter.Post Inv-loop μ-loop
   loop-holds c = let u = c .before .before .keep-joined .ensures in filter-start _ _ _ (rows-given u (c .before .before .before .before .before .before .before .before .before .before .pre .1 .0)) (u .1 .high (omega arith)) (c .next-kept .ensures)
 
-  pub add-eval-cells : lts.Need-add-eval-cells (calls t) (eval-filter-at t) eval-filter.Post Inv-loop μ-loop
-  add-eval-cells c = let p = c .before .before .before .before .before .before .before .before .before .before .before .before .before .before .before .before .pre .1 in omega (arith, filter-bound (p .0) (p .1 .0) (p .1 .1), p .0 .given .fewP)
+  pub add-keep : lts.Need-add-keep (calls t) (eval-filter-at t) eval-filter.Post Inv-loop μ-loop
+  add-keep c = let p = c .before .before .before .before .before .before .before .before .before .before .before .before .before .before .before .before .pre .1 in omega (arith, filter-bound (p .0) (p .1 .0) (p .1 .1), p .0 .given .fewP)
 
-  pub eval-cells-requires : lts.Need-eval-cells-requires (calls t) (eval-filter-at t) eval-filter.Post Inv-loop μ-loop
-  eval-cells-requires c κs = let p = c .before .before .before .before .before .before .before .before .before .before .before .before .before .before .before .before .pre .1 in let i = c .before .before .before .before .before .loop .inv in let t = kept-in-table (p .0) (p .1 .0) (p .1 .1) (c .before .before .before .before .before .before .before .before .before .before .before .before .before .before .word16 .ensures) (c .before .before .before .before .before .before .before .before .before .before .before .before .first-child .ensures) (c .before .before .before .before .before .before .before .before .before .before .before .child-count .ensures) (omega (arith, i .low, c .before .before .before .before .before .before .before .before .keep-joined .ensures .1 .low, c .before .before .before .if1 .taken)) in (omega (arith, c .before .before .before .before .before .before .before .before .before .before .before .before .before .before .before .before .pre .0), (going-asked (i .going) (rows-given (c .before .before .before .before .before .before .before .before .keep-joined .ensures) (p .0)), (record { near = omega (arith, p .0 .given .tab .size .few, c .before .before .before .if1 .taken); range = λ h. t; test = test-asked (p .0) (p .1 .0) (p .1 .1) (c .before .before .before .before .before .before .before .before .before .before .before .before .before .before .word16 .ensures); query = (rest-asked (p .0) (p .1 .0) (p .1 .1) (c .before .before .before .before .before .before .before .before .before .before .before .before .before .before .word16 .ensures)) }, (omega (arith, filter-inside (p .0) (p .1 .0) (p .1 .1) (c .before .before .before .before .before .before .before .before .before .before .before .before .before .before .word16 .ensures)), c .before .before .before .if1 .taken))))
+  pub keep-requires : lts.Need-keep-requires (calls t) (eval-filter-at t) eval-filter.Post Inv-loop μ-loop
+  keep-requires c κs = let p = c .before .before .before .before .before .before .before .before .before .before .before .before .before .before .before .before .pre .1 in let i = c .before .before .before .before .before .loop .inv in let t = kept-in-table (p .0) (p .1 .0) (p .1 .1) (c .before .before .before .before .before .before .before .before .before .before .before .before .before .before .word16 .ensures) (c .before .before .before .before .before .before .before .before .before .before .before .before .first-child .ensures) (c .before .before .before .before .before .before .before .before .before .before .before .child-count .ensures) (omega (arith, i .low, c .before .before .before .before .before .before .before .before .keep-joined .ensures .1 .low, c .before .before .before .if1 .taken)) in (omega (arith, c .before .before .before .before .before .before .before .before .before .before .before .before .before .before .before .before .pre .0), (going-asked (i .going) (rows-given (c .before .before .before .before .before .before .before .before .keep-joined .ensures) (p .0)), (record { near = omega (arith, p .0 .given .tab .size .few, c .before .before .before .if1 .taken); range = λ h. t; test = test-asked (p .0) (p .1 .0) (p .1 .1) (c .before .before .before .before .before .before .before .before .before .before .before .before .before .before .word16 .ensures); query = (rest-asked (p .0) (p .1 .0) (p .1 .1) (c .before .before .before .before .before .before .before .before .before .before .before .before .before .before .word16 .ensures)) }, (omega (arith, filter-inside (p .0) (p .1 .0) (p .1 .1) (c .before .before .before .before .before .before .before .before .before .before .before .before .before .before .word16 .ensures)), c .before .before .before .if1 .taken))))
 
   pub returns : lts.Need-returns (calls t) (eval-filter-at t) eval-filter.Post Inv-loop μ-loop
-  returns c = let p = c .before .before .before .before .before .before .before .before .before .before .before .before .before .before .before .before .before .pre .1 in let i = c .before .before .before .before .before .before .loop .inv in let d = c .eval-cells .ensures in (steady-then (c .before .before .before .before .before .before .before .before .before .keep-joined .ensures .0) (steady-then (i .going .kept) (d .0)), filter-done (p .0) (p .1 .0) (p .1 .1) (c .before .before .before .before .before .before .before .before .before .before .before .before .before .before .before .word16 .ensures) (c .before .before .before .before .before .before .before .before .before .before .before .before .before .first-child .ensures) (c .before .before .before .before .before .before .before .before .before .before .before .before .child-count .ensures) (rows-then (c .before .before .before .before .before .before .before .before .before .keep-joined .ensures) (filter-left i (d .1))))
+  returns c = let p = c .before .before .before .before .before .before .before .before .before .before .before .before .before .before .before .before .before .pre .1 in let i = c .before .before .before .before .before .before .loop .inv in let d = c .keep .ensures in (steady-then (c .before .before .before .before .before .before .before .before .before .keep-joined .ensures .0) (steady-then (i .going .kept) (d .0)), filter-done (p .0) (p .1 .0) (p .1 .1) (c .before .before .before .before .before .before .before .before .before .before .before .before .before .before .before .word16 .ensures) (c .before .before .before .before .before .before .before .before .before .before .before .before .before .first-child .ensures) (c .before .before .before .before .before .before .before .before .before .before .before .before .child-count .ensures) (rows-then (c .before .before .before .before .before .before .before .before .before .keep-joined .ensures) (filter-left i (d .1))))
 
   pub evaluate-segment-requires : lts.Need-evaluate-segment-requires (calls t) (eval-filter-at t) eval-filter.Post Inv-loop μ-loop
   evaluate-segment-requires c κs = let p = c .before .before .before .before .before .before .before .before .before .before .before .before .before .before .before .before .pre .1 in let i = c .before .before .before .before .before .loop .inv in let t = kept-in-table (p .0) (p .1 .0) (p .1 .1) (c .before .before .before .before .before .before .before .before .before .before .before .before .before .before .word16 .ensures) (c .before .before .before .before .before .before .before .before .before .before .before .before .first-child .ensures) (c .before .before .before .before .before .before .before .before .before .before .before .child-count .ensures) (omega (arith, i .low, c .before .before .before .before .before .before .before .before .keep-joined .ensures .1 .low, c .before .before .before .if1 .taken)) in let w = rest-in (p .0) (p .1 .0) in (omega (arith, w .0, c .before .before .before .before .before .before .before .before .before .before .before .before .before .before .before .before .pre .0), (going-asked (i .going) (rows-given (c .before .before .before .before .before .before .before .before .keep-joined .ensures) (p .0)), record { node-in = omega (arith, c .before .before .before .if1 .taken); query = (rest-asked (p .0) (p .1 .0) (p .1 .1) (c .before .before .before .before .before .before .before .before .before .before .before .before .before .before .word16 .ensures)) }))

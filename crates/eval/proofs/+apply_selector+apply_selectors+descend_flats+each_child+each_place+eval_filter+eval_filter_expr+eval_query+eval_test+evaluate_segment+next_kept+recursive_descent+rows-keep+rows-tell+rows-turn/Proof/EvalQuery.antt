@@ -1,5 +1,5 @@
 -- The answers of `eval_query` in evaluation's cycle of calls. Names and indices lead to the end of the query or to nothing; else evaluation with one place goes on from there, and what is asked is read off its count and that place. Assumes nothing.
-use Rattle.eval.proofs.+apply_selector+apply_selectors+descend_flats+each_child+each_place+eval_cells+eval_filter+eval_filter_expr+eval_query+eval_rest+evaluate_segment+next_kept+recursive_descent.Lts-eval_query as lts
+use Rattle.eval.proofs.+apply_selector+apply_selectors+descend_flats+each_child+each_place+eval_filter+eval_filter_expr+eval_query+eval_test+evaluate_segment+next_kept+recursive_descent+rows-keep+rows-tell+rows-turn.Lts-eval_query as lts
 use Prim.Native.Nat.{ℕ}
 use Rattle.eval.proofs.eval_query.Reads as eval-query
 use Rattle.eval.proofs.evaluate_segment.Reads as evaluate-segment
@@ -8,7 +8,7 @@ use Rattle.eval_items.proofs.leaves.begins.Reads as begins-reads
 use Rattle.eval_items.proofs.leaves.cap_of.Reads as cap-of-reads
 use Rattle.eval_items.proofs.plans.past_query.Reads as past-query-reads
 use Rattle.eval_front.proofs.reach.Reads as reach-reads
-use Rattle.eval.proofs.+apply_selector+apply_selectors+descend_flats+each_child+each_place+eval_cells+eval_filter+eval_filter_expr+eval_query+eval_rest+evaluate_segment+next_kept+recursive_descent.Proof.Base.{eval-query-at, evaluate-segment-below}
+use Rattle.eval.proofs.+apply_selector+apply_selectors+descend_flats+each_child+each_place+eval_filter+eval_filter_expr+eval_query+eval_test+evaluate_segment+next_kept+recursive_descent+rows-keep+rows-tell+rows-turn.Proof.Base.{eval-query-at, evaluate-segment-below}
 use borrow.Author.Needs.{needs}
 use mathlib.Core.Path.{refl}
 use native.Mathlib.Omega.{arith}

@@ -1,13 +1,13 @@
--- `columns::lay` meets its contract. The loop keeps the cells that are laid. Assumes nothing.
+-- `cells::lay` meets its contract. The loop keeps the cells that are laid. Assumes nothing.
 use Prim.Native.Nat.{_-_}
 use mathlib.Core.Path.{_≡_, refl, _∙_}
 use lib.ListN.{length, length-set}
 use native.Mathlib.Omega.{arith}
-use Rattle.eval_rows.specs.Columns.{Laid, laid-more}
-use Rattle.eval_rows.proofs.columns.lay.Statement.{statement}
-use Rattle.eval_rows.proofs.columns.lay.Tie as tie
-use Rattle.eval_rows.proofs.columns.lay.Reads as reads
-use Rattle.eval_rows.proofs.columns.lay.Lts as lts
+use Rattle.eval_asks.specs.Cells.{Laid, laid-more}
+use Rattle.eval_asks.proofs.cells.lay.Statement.{statement}
+use Rattle.eval_asks.proofs.cells.lay.Tie as tie
+use Rattle.eval_asks.proofs.cells.lay.Reads as reads
+use Rattle.eval_asks.proofs.cells.lay.Lts as lts
 
 abbrev Inv-loop : tie.InvT-loop
 Inv-loop column₀ n p k₀ column k = Laid k p column × (length column ≡ length column₀)

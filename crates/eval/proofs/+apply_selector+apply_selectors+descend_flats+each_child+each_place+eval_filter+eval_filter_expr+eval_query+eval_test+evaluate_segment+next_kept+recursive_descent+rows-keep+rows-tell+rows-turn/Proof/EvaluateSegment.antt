@@ -1,5 +1,5 @@
 -- The answers of `evaluate_segment` in evaluation's cycle of calls. Names and indices lead nowhere, to the end of the query, or to a segment. Assumes nothing.
-use Rattle.eval.proofs.+apply_selector+apply_selectors+descend_flats+each_child+each_place+eval_cells+eval_filter+eval_filter_expr+eval_query+eval_rest+evaluate_segment+next_kept+recursive_descent.Lts-evaluate_segment as lts
+use Rattle.eval.proofs.+apply_selector+apply_selectors+descend_flats+each_child+each_place+eval_filter+eval_filter_expr+eval_query+eval_test+evaluate_segment+next_kept+recursive_descent+rows-keep+rows-tell+rows-turn.Lts-evaluate_segment as lts
 use Prim.Native.Nat.{ℕ}
 use Rattle.eval.proofs.apply_selectors.Reads as apply-selectors
 use Rattle.eval.proofs.evaluate_segment.Reads as evaluate-segment
@@ -8,7 +8,7 @@ use Rattle.eval.proofs.recursive_descent.Reads as recursive-descent
 use Rattle.eval_shortcuts.proofs.has_flats.Reads as has-flats-reads
 use Rattle.eval_front.proofs.push.Reads as push-reads
 use Rattle.eval_front.proofs.reach.Reads as reach-reads
-use Rattle.eval.proofs.+apply_selector+apply_selectors+descend_flats+each_child+each_place+eval_cells+eval_filter+eval_filter_expr+eval_query+eval_rest+evaluate_segment+next_kept+recursive_descent.Proof.Base.{apply-selectors-below, descend-flats-below, evaluate-segment-at, recursive-descent-below}
+use Rattle.eval.proofs.+apply_selector+apply_selectors+descend_flats+each_child+each_place+eval_filter+eval_filter_expr+eval_query+eval_test+evaluate_segment+next_kept+recursive_descent+rows-keep+rows-tell+rows-turn.Proof.Base.{apply-selectors-below, descend-flats-below, evaluate-segment-at, recursive-descent-below}
 use borrow.Author.Needs.{needs}
 use mathlib.Core.Path.{refl}
 use native.Mathlib.Omega.{arith}

@@ -1,5 +1,5 @@
 -- The answers of `each_child` in evaluation's cycle of calls. The loop keeps the nodes that are left; a wildcard alone behind them is done by a call of itself with the children of each. Assumes nothing.
-use Rattle.eval.proofs.+apply_selector+apply_selectors+descend_flats+each_child+each_place+eval_cells+eval_filter+eval_filter_expr+eval_query+eval_rest+evaluate_segment+next_kept+recursive_descent.Lts-each_child as lts
+use Rattle.eval.proofs.+apply_selector+apply_selectors+descend_flats+each_child+each_place+eval_filter+eval_filter_expr+eval_query+eval_test+evaluate_segment+next_kept+recursive_descent+rows-keep+rows-tell+rows-turn.Lts-each_child as lts
 use Prim.Native.Nat.{ℕ}
 use Rattle.eval.proofs.each_child.Reads as each-child
 use Rattle.eval.proofs.evaluate_segment.Reads as evaluate-segment
@@ -7,7 +7,7 @@ use Rattle.table.proofs.records.child_count.Reads as child-count-reads
 use Rattle.table.proofs.records.first_child.Reads as first-child-reads
 use Rattle.text.proofs.bytes.word32.Reads as word32-reads
 use Rattle.eval_front.proofs.push_each.Reads as push-each-reads
-use Rattle.eval.proofs.+apply_selector+apply_selectors+descend_flats+each_child+each_place+eval_cells+eval_filter+eval_filter_expr+eval_query+eval_rest+evaluate_segment+next_kept+recursive_descent.Proof.Base.{each-child-at, each-child-below, evaluate-segment-below}
+use Rattle.eval.proofs.+apply_selector+apply_selectors+descend_flats+each_child+each_place+eval_filter+eval_filter_expr+eval_query+eval_test+evaluate_segment+next_kept+recursive_descent+rows-keep+rows-tell+rows-turn.Proof.Base.{each-child-at, each-child-below, evaluate-segment-below}
 use borrow.Author.Needs.{needs}
 use Prim.Native.Nat.{_<_, _-_}
 use mathlib.Core.Path.{refl}

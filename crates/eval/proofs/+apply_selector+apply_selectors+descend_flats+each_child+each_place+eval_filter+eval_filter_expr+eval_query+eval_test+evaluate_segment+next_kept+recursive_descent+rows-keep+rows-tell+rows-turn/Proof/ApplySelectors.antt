@@ -1,12 +1,12 @@
 -- The answers of `apply_selectors` in evaluation's cycle of calls. The loop keeps the selectors that are left of each segment that stands there. Assumes nothing.
-use Rattle.eval.proofs.+apply_selector+apply_selectors+descend_flats+each_child+each_place+eval_cells+eval_filter+eval_filter_expr+eval_query+eval_rest+evaluate_segment+next_kept+recursive_descent.Lts-apply_selectors as lts
+use Rattle.eval.proofs.+apply_selector+apply_selectors+descend_flats+each_child+each_place+eval_filter+eval_filter_expr+eval_query+eval_test+evaluate_segment+next_kept+recursive_descent+rows-keep+rows-tell+rows-turn.Lts-apply_selectors as lts
 use Prim.Native.Nat.{ℕ}
 use Rattle.eval.proofs.apply_selector.Reads as apply-selector
 use Rattle.eval.proofs.apply_selectors.Reads as apply-selectors
 use Rattle.eval_items.proofs.plans.next_selector.Reads as next-selector-reads
 use Rattle.eval_items.proofs.plans.skip_selectors.Reads as skip-selectors-reads
 use Rattle.text.proofs.bytes.word16.Reads as word16-reads
-use Rattle.eval.proofs.+apply_selector+apply_selectors+descend_flats+each_child+each_place+eval_cells+eval_filter+eval_filter_expr+eval_query+eval_rest+evaluate_segment+next_kept+recursive_descent.Proof.Base.{apply-selector-below, apply-selectors-at}
+use Rattle.eval.proofs.+apply_selector+apply_selectors+descend_flats+each_child+each_place+eval_filter+eval_filter_expr+eval_query+eval_test+evaluate_segment+next_kept+recursive_descent+rows-keep+rows-tell+rows-turn.Proof.Base.{apply-selector-below, apply-selectors-at}
 use borrow.Author.Needs.{needs}
 use native.Mathlib.Omega.{arith}
 use Rattle.eval_asks.specs.Steady.{steady-then, going-asked}

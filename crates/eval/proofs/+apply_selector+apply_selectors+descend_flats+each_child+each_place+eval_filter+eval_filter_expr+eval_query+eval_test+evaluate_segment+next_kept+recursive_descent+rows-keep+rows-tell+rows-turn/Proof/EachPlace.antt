@@ -1,5 +1,5 @@
 -- The answers of `each_place` in evaluation's cycle of calls. The loop keeps the places that are left. Assumes nothing.
-use Rattle.eval.proofs.+apply_selector+apply_selectors+descend_flats+each_child+each_place+eval_cells+eval_filter+eval_filter_expr+eval_query+eval_rest+evaluate_segment+next_kept+recursive_descent.Lts-each_place as lts
+use Rattle.eval.proofs.+apply_selector+apply_selectors+descend_flats+each_child+each_place+eval_filter+eval_filter_expr+eval_query+eval_test+evaluate_segment+next_kept+recursive_descent+rows-keep+rows-tell+rows-turn.Lts-each_place as lts
 use Prim.Native.Nat.{ℕ}
 use Rattle.eval.proofs.each_place.Reads as each-place
 use Rattle.eval.proofs.evaluate_segment.Reads as evaluate-segment
@@ -8,7 +8,7 @@ use Rattle.table.proofs.records.first_child.Reads as first-child-reads
 use Rattle.eval_front.proofs.further.Reads as further-reads
 use Rattle.eval_front.proofs.placed.Reads as placed-reads
 use Rattle.eval_front.proofs.push_places.Reads as push-places-reads
-use Rattle.eval.proofs.+apply_selector+apply_selectors+descend_flats+each_child+each_place+eval_cells+eval_filter+eval_filter_expr+eval_query+eval_rest+evaluate_segment+next_kept+recursive_descent.Proof.Base.{each-place-at, evaluate-segment-below}
+use Rattle.eval.proofs.+apply_selector+apply_selectors+descend_flats+each_child+each_place+eval_filter+eval_filter_expr+eval_query+eval_test+evaluate_segment+next_kept+recursive_descent+rows-keep+rows-tell+rows-turn.Proof.Base.{each-place-at, evaluate-segment-below}
 use borrow.Author.Needs.{needs}
 use mathlib.Core.Path.{refl}
 use native.Mathlib.Omega.{arith}

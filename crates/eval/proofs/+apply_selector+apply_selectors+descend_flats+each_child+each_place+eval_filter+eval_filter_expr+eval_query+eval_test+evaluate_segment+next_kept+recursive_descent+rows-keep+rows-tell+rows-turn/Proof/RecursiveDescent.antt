@@ -1,12 +1,12 @@
 -- The answers of `recursive_descent` in evaluation's cycle of calls. The loop keeps the children that are left; the depth of a child is one more, so that the measure falls. Assumes nothing.
-use Rattle.eval.proofs.+apply_selector+apply_selectors+descend_flats+each_child+each_place+eval_cells+eval_filter+eval_filter_expr+eval_query+eval_rest+evaluate_segment+next_kept+recursive_descent.Lts-recursive_descent as lts
+use Rattle.eval.proofs.+apply_selector+apply_selectors+descend_flats+each_child+each_place+eval_filter+eval_filter_expr+eval_query+eval_test+evaluate_segment+next_kept+recursive_descent+rows-keep+rows-tell+rows-turn.Lts-recursive_descent as lts
 use Prim.Native.Nat.{ℕ}
 use Rattle.eval.proofs.apply_selectors.Reads as apply-selectors
 use Rattle.eval.proofs.recursive_descent.Reads as recursive-descent
 use Rattle.eval.proofs.descents.skip_scalars.Reads as skip-scalars-reads
 use Rattle.table.proofs.records.child_count.Reads as child-count-reads
 use Rattle.table.proofs.records.first_child.Reads as first-child-reads
-use Rattle.eval.proofs.+apply_selector+apply_selectors+descend_flats+each_child+each_place+eval_cells+eval_filter+eval_filter_expr+eval_query+eval_rest+evaluate_segment+next_kept+recursive_descent.Proof.Base.{apply-selectors-below, recursive-descent-at, recursive-descent-below}
+use Rattle.eval.proofs.+apply_selector+apply_selectors+descend_flats+each_child+each_place+eval_filter+eval_filter_expr+eval_query+eval_test+evaluate_segment+next_kept+recursive_descent+rows-keep+rows-tell+rows-turn.Proof.Base.{apply-selectors-below, recursive-descent-at, recursive-descent-below}
 use borrow.Author.Needs.{needs}
 use Prim.Native.Nat.{_-_}
 use native.Mathlib.Omega.{arith}

@@ -1,5 +1,5 @@
 -- The answers of `apply_selector` in evaluation's cycle of calls. Each kind of selector has a law from what the function that is called gives to what the selector selects. Assumes nothing.
-use Rattle.eval.proofs.+apply_selector+apply_selectors+descend_flats+each_child+each_place+eval_cells+eval_filter+eval_filter_expr+eval_query+eval_rest+evaluate_segment+next_kept+recursive_descent.Lts-apply_selector as lts
+use Rattle.eval.proofs.+apply_selector+apply_selectors+descend_flats+each_child+each_place+eval_filter+eval_filter_expr+eval_query+eval_test+evaluate_segment+next_kept+recursive_descent+rows-keep+rows-tell+rows-turn.Lts-apply_selector as lts
 use Prim.Native.Nat.{ℕ}
 use Rattle.eval.proofs.apply_selector.Reads as apply-selector
 use Rattle.eval.proofs.each_child.Reads as each-child
@@ -11,7 +11,7 @@ use Rattle.eval_items.proofs.leaves.select_one.Reads as select-one-reads
 use Rattle.eval_front.proofs.push.Reads as push-reads
 use Rattle.table.proofs.records.child_count.Reads as child-count-reads
 use Rattle.table.proofs.records.first_child.Reads as first-child-reads
-use Rattle.eval.proofs.+apply_selector+apply_selectors+descend_flats+each_child+each_place+eval_cells+eval_filter+eval_filter_expr+eval_query+eval_rest+evaluate_segment+next_kept+recursive_descent.Proof.Base.{apply-selector-at, each-child-below, each-place-below, eval-filter-below, evaluate-segment-below}
+use Rattle.eval.proofs.+apply_selector+apply_selectors+descend_flats+each_child+each_place+eval_filter+eval_filter_expr+eval_query+eval_test+evaluate_segment+next_kept+recursive_descent+rows-keep+rows-tell+rows-turn.Proof.Base.{apply-selector-at, each-child-below, each-place-below, eval-filter-below, evaluate-segment-below}
 use borrow.Author.Needs.{needs}
 use mathlib.Core.Path.{refl}
 use native.Mathlib.Omega.{arith}
