@@ -7,14 +7,13 @@
 //
 //   answers    what is asked of a query in a filter's code
 //   descents   the next child that a descent goes to
+//   entrance   where evaluation begins
 //   rows       the nodes of a range with a filter that meets match or search
-ghost use lib.ListN.{length};
-ghost use Rattle.definition.specs.Tables.{nodeCount};
 ghost use Rattle.eval_filters.specs.Queries.{Within};
 ghost use Rattle.eval_filters.specs.Tests.{AskRest};
 ghost use Rattle.eval_filters.specs.Turns.{AskTurn};
 ghost use Rattle.eval_asks.specs.Lent.{planOf, poolOf, tableOf, textOf};
-ghost use Rattle.eval_asks.specs.Asks.{Begins, AskSegments, DoneSegments, Asked, Steady, AskSegment, DoneSegment, AskEnter, Entered, AskSelectors, DoneSelectors, AskDescent, DoneDescent, AskSelector, DoneSelector, AskKind, AskEach, DoneEach, AskNext, DoneNext, AskQuery, DoneQuery};
+ghost use Rattle.eval_asks.specs.Asks.{Asked, Steady, AskSegment, DoneSegment, AskSelectors, DoneSelectors, AskDescent, DoneDescent, AskSelector, DoneSelector, AskKind, AskEach, DoneEach, AskNext, DoneNext, AskQuery, DoneQuery};
 ghost use Rattle.eval.specs.Loops.{DoneSaid, DoneTested};
 use eval_asks::AT;
 use eval_asks::CAP;
@@ -29,8 +28,6 @@ use eval_items::leaves;
 use eval_items::plans;
 use eval_values::Operand;
 use eval_values::members::Member;
-use plan_format::heads::FILTER_HEAD;
-use plan_format::heads::SLICE_HEAD;
 use plan_format::heads::WILDCARD_HEAD;
 use plan_format::kinds::CHILD;
 use plan_format::kinds::CURRENT;
@@ -43,6 +40,7 @@ use text::bytes;
 
 mod answers;
 mod descents;
+pub mod entrance;
 mod rows;
 
 // What a filter says of a node: the answer in front of q. Where `call`, a call of match or search stands there; else it is the filter's.
@@ -56,81 +54,6 @@ struct Said {
 struct Next {
     node: usize,
     call: bool,
-}
-
-// From one node, what the segments at pc select: the next place of the list. Where names and indices lead to the end of the query, no further call is needed.
-pub fn evaluate<'a>(
-    plan: &'a [u8],
-    pool: &'a [u8],
-    table: &'a [u8],
-    text: &'a [u8],
-    root: usize,
-    node: usize,
-    pc: usize,
-    list: &mut [u32],
-    at: usize,
-    cap: usize,
-) -> usize
-    requires { ⌜ Begins (now plan) (now pool) (now table) (now text) root node (length (now list)) at cap ⌝ }
-    requires { ⌜ AskSegments (now plan) (now pool) pc ⌝ }
-    ensures { λ r. ⌜ DoneSegments cap (now (plan .entry)) (now (pool .entry)) (now (table .entry)) (now (text .entry)) root node pc (now (list .entry)) at (now (list .exit)) r ⌝ }
-{
-    let r = eval_front::front(plan, pool, table, text, node, pc);
-    if !r.some {
-        return at;
-    }
-    let m = r.node;
-    let q = r.pc;
-    if plan[q] == END {
-        return eval_front::push(list, at, m, cap);
-    }
-    let lent = [plan, pool, table, text];
-    let mut state = [root, cap, at];
-    enter(&lent, &mut state, list, m, q);
-    state[AT]
-}
-
-// The entrance: the list becomes one word.
-fn enter(lent: &[&[u8]; 4], state: &mut [usize; 3], list: &mut [u32], node: usize, pc: usize)
-    requires { ⌜ AskEnter (now lent) node pc (now state) (now list) ⌝ }
-    ensures { λ r. ⌜ Entered (now (lent .entry)) node pc (now (state .entry)) (list .entry) (now (state .exit)) (list .exit) ⌝ }
-{
-    let mut places = list;
-    first(lent, state, &mut places, node, pc);
-}
-
-// The same with the list as one word. A child segment of one filter, slice or wildcard is applied at once.
-fn first(lent: &[&[u8]; 4], state: &mut [usize; 3], list: &mut &mut [u32], node: usize, pc: usize)
-    requires { ⌜ AskEnter (now lent) node pc (now state) (now (now list)) ⌝ }
-    ensures { λ r. ⌜ Entered (now (lent .entry)) node pc (now (state .entry)) (now (list .entry)) (now (state .exit)) (now (list .exit)) ⌝ }
-{
-    let plan = lent[PLAN];
-    if plan[pc] != CHILD {
-        evaluate_segment(lent, state, list, node, pc);
-        return;
-    }
-    let head = bytes::word32(plan, pc);
-    let p = pc + 3;
-    if head == FILTER_HEAD {
-        let rest = p + 3 + bytes::word16(plan, p + 1);
-        if !eval_shortcuts::keep_children(lent, state, list, node, p, rest) {
-            eval_filter(lent, state, list, node, p, rest);
-        }
-        return;
-    }
-    if head == SLICE_HEAD {
-        each_place(lent, state, list, node, p, pc + 29);
-        return;
-    }
-    if head == WILDCARD_HEAD {
-        let table = lent[TABLE];
-        let i = records::first_child(table, node) as usize;
-        let n = records::child_count(table, node) as usize;
-        let j = eval_shortcuts::ahead(lent, state, list, i, i + n, pc + 4);
-        each_child(lent, state, list, j, i + n, pc + 4);
-        return;
-    }
-    evaluate_segment(lent, state, list, node, pc);
 }
 
 // One node with the segments at pc.

@@ -1,6 +1,5 @@
 // The nodes of a range with a filter that meets match or search. A cell for each of them, some at a time, says how far the filter is told; a call is asked of all that
 // stand at it, so that its expression is read once for so many.
-use crate::Said;
 use crate::eval_filter_expr;
 use crate::evaluate_segment;
 use eval_asks::AT;

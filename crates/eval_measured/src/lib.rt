@@ -17,5 +17,5 @@ pub extern "C" fn stewpebble_walk<'a>(
     requires { ⌜ AskSegments (now plan) (now pool) 1 ⌝ }
     ensures { λ r. ⌜ DoneSegments cap (now (plan .entry)) (now (pool .entry)) (now (table .entry)) (now (text .entry)) 0 0 1 (now (list .entry)) 0 (now (list .exit)) r ⌝ }
 {
-    eval::evaluate(plan, pool, table, text, 0, 0, 1, list, 0, cap)
+    eval::entrance::evaluate(plan, pool, table, text, 0, 0, 1, list, 0, cap)
 }

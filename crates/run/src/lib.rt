@@ -37,7 +37,7 @@ fn place_nodes<'a>(
         return Ran::WrongStart;
     }
     let room = list.len() - start;
-    let n = eval::evaluate(
+    let n = eval::entrance::evaluate(
         plan,
         pool,
         table,

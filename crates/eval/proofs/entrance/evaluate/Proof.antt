@@ -1,10 +1,10 @@
--- `eval::evaluate` meets its contract: nothing is found, or a node is pushed, or evaluation goes on behind its entrance. Assumes nothing.
+-- `entrance::evaluate` meets its contract: nothing is found, or a node is pushed, or evaluation goes on behind its entrance. Assumes nothing.
 use borrow.Author.Needs.{needs}
-use Rattle.eval.proofs.evaluate.Statement.{statement}
-use Rattle.eval.proofs.evaluate.Tie as tie
-use Rattle.eval.proofs.evaluate.Reads as reads
-use Rattle.eval.proofs.evaluate.Lts as lts
-use Rattle.eval.proofs.enter.Reads as enter-reads
+use Rattle.eval.proofs.entrance.evaluate.Statement.{statement}
+use Rattle.eval.proofs.entrance.evaluate.Tie as tie
+use Rattle.eval.proofs.entrance.evaluate.Reads as reads
+use Rattle.eval.proofs.entrance.evaluate.Lts as lts
+use Rattle.eval.proofs.entrance.enter.Reads as enter-reads
 use Rattle.eval_front.proofs.front.Reads as front-reads
 use Rattle.eval_front.proofs.push.Reads as push-reads
 use mathlib.Core.Path.{refl}

@@ -1,9 +1,9 @@
--- `eval::first` meets its contract: a child segment of one filter, slice or wildcard is its selector, and every other segment is evaluated. Assumes nothing.
+-- `entrance::first` meets its contract: a child segment of one filter, slice or wildcard is its selector, and every other segment is evaluated. Assumes nothing.
 use borrow.Author.Needs.{needs}
-use Rattle.eval.proofs.first.Statement.{statement}
-use Rattle.eval.proofs.first.Tie as tie
-use Rattle.eval.proofs.first.Reads as reads
-use Rattle.eval.proofs.first.Lts as lts
+use Rattle.eval.proofs.entrance.first.Statement.{statement}
+use Rattle.eval.proofs.entrance.first.Tie as tie
+use Rattle.eval.proofs.entrance.first.Reads as reads
+use Rattle.eval.proofs.entrance.first.Lts as lts
 use Rattle.eval_shortcuts.proofs.ahead.Reads as ahead-reads
 use Rattle.eval.proofs.each_child.Reads as each-child-reads
 use Rattle.eval.proofs.each_place.Reads as each-place-reads

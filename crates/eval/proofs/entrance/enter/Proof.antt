@@ -1,4 +1,4 @@
--- `eval::enter` meets its contract: a walk of its MIR, by hand. The local that holds the parameter is lent for a lifetime that is made within the parameter's, and comes back at the reference that `first`'s contract names: the same pointer and ghost name, at the last list.
+-- `entrance::enter` meets its contract: a walk of its MIR, by hand. The local that holds the parameter is lent for a lifetime that is made within the parameter's, and comes back at the reference that `first`'s contract names: the same pointer and ghost name, at the last list.
 -- All that the proof knows of `first` is that it meets its contract. Assumes nothing.
 use mathlib.Core.Path.{_≡_, refl, sym, ap, subst}
 use Prim.Native.Nat.{ℕ, _<_, _^_}
@@ -46,14 +46,14 @@ use denote.Triple.Walked.{says, needs, Stays, stay-slice, stay-none, stay-droppe
 use denote.Exit.{yes}
 use denote.Signature.{Slot, plain}
 use Rattle.eval_asks.specs.Asks.{AskEnter, Entered}
-use Rattle.eval.proofs.first as first
-use Rattle.eval.proofs.first.Symbol as first-def
-use Rattle.eval.proofs.first.Symbol.{name as #eval·first}
-use Rattle.eval.proofs.first.Met as first-thm
-use Rattle.eval.proofs.enter.Key.{name as #eval·enter}
-use Rattle.eval.proofs.enter as enter
-use Rattle.eval.proofs.enter.Statement as stated
-use Rattle.eval.proofs.enter.Code as code
+use Rattle.eval.proofs.entrance.first as first
+use Rattle.eval.proofs.entrance.first.Symbol as first-def
+use Rattle.eval.proofs.entrance.first.Symbol.{name as #eval·first}
+use Rattle.eval.proofs.entrance.first.Met as first-thm
+use Rattle.eval.proofs.entrance.enter.Key.{name as #eval·enter}
+use Rattle.eval.proofs.entrance.enter as enter
+use Rattle.eval.proofs.entrance.enter.Statement as stated
+use Rattle.eval.proofs.entrance.enter.Code as code
 
 abbrev Lent : Slot 4
 Lent = RefOf (0 ∷ []) tt (ArrayOf (SliceRefOf (1 ∷ []) tt (plain (λ κs. u8)) (λ κs. tt)) (λ κs. tt) 4) (λ κs. tt)
@@ -237,4 +237,4 @@ enter-spec 𝓤 H 𝓜 𝓖 𝓡 =
     entered 𝓤 H (tripleOf 𝓤 H (𝓖 .A) enter.signature (enter.spec 𝓤 H (𝓖 .A) (𝓜 .mem) (𝓡 .run)))
     (tables 𝓤 H 𝓜 𝓡 code.env .C) (tables 𝓤 H 𝓜 𝓡 code.env .Λ) #eval·enter code.function (code.unfolded 𝓤 H 𝓜 𝓡)
     (enter-meets 𝓤 H (𝓖 .A) (givenOf 𝓤 H 𝓜 𝓖) (𝓜 .mem) (𝓡 .run) (tablesOf 𝓤 H 𝓜 (tables 𝓤 H 𝓜 𝓡 code.env))
-    (cited 𝓤 H (First 𝓤 H (𝓖 .A) (𝓜 .mem) (𝓡 .run)) 𝓜 𝓡 code.env #eval·first first-def.routine code.calls-eval·first (first-thm.met 𝓤 H 𝓜 𝓖 𝓡)))
+    (cited 𝓤 H (First 𝓤 H (𝓖 .A) (𝓜 .mem) (𝓡 .run)) 𝓜 𝓡 code.env #eval·first first-def.routine code.calls-eval·entrance·first (first-thm.met 𝓤 H 𝓜 𝓖 𝓡)))
