@@ -1,5 +1,5 @@
 -- What a node of a list is found to be, and texts that are passed. Assumes nothing.
-use Prim.Native.Nat.{ℕ, suc, _+_, _*_, _/_, _≤_, _<_}
+use Prim.Native.Nat.{ℕ, _+_, _*_, _/_, _≤_, _<_}
 use mathlib.Core.Path.{_≡_, refl, sym, _∙_}
 use mathlib.Core.List.{List}
 use mathlib.Core.Bool.{Bool, true, false}
@@ -7,7 +7,7 @@ use native.Mathlib.Omega.{arith}
 use lib.Dec.{eqb}
 use borrow.Author.Tests.{eqb-true, eqb-false}
 use Rattle.definition.specs.Limits.{maxDepth}
-use Rattle.definition.specs.Tables.{nodeCount, kindAt, depthAt, kindMap, noKey, lowWord, highWord, parentAt, goodPart, childCount, firstChild}
+use Rattle.definition.specs.Tables.{kindAt, kindMap, noKey, lowWord, highWord, parentAt, goodPart, childCount, firstChild}
 use Rattle.table_laws.specs.Joined.{nodeRight}
 use Rattle.table_laws.specs.Least.{RightBelow}
 use Rattle.table_laws.specs.Parents.{InRange}

@@ -14,7 +14,6 @@ use crate::buckets;
 use crate::records;
 use crate::records::KIND_LIST;
 use crate::records::KIND_MAP;
-use crate::records::KIND_TEXT;
 use crate::records::RECORD;
 use crate::rules;
 use crate::scan;
@@ -28,7 +27,7 @@ const SOME: usize = 2;
 // In a list of so many children texts are passed by a call.
 const MANY: usize = 32;
 
-// How many children a node has, its kind and its bytes 20-23 both being read.
+// How many children a node has. Bytes 20-23 are read whatever its kind is, so that the walk to a parent has no branch for the kind.
 fn count(table: &[u8], node: usize) -> u32
     requires { ⌜ node < nodeCount (now table) ⌝ }
     ensures { λ r. ⌜ r ≡ childCount (now (table .entry)) node ⌝ }
@@ -85,7 +84,7 @@ fn texts(table: &[u8], text: &[u8], start: usize, end: usize, parent: usize, dep
     node
 }
 
-// The same as a call.
+// The same as a call, with registers of its own (docs/DECISIONS.md, 311).
 fn many_texts(
     table: &[u8],
     text: &[u8],
