@@ -2,7 +2,7 @@
 // The bare pass is made twice and timed the second time, so that each is timed with the table in the caches.
 // Tables: many small maps; 63 maps of 1,024 members, with any keys, with keys of one bucket and with keys of one hash; one list of numbers; lists in lists,
 // 60 levels deep; one list of texts, of 20 bytes each and of 2,000, in ASCII, in characters of two to four bytes, in Hangul, whose first bytes have bounds for the
-// next one, and in mixed lengths; small maps with keys beyond ASCII.
+// next one, and in mixed lengths; the texts of 20 bytes also in one list below the root and in lists of four; small maps with keys beyond ASCII.
 // With -DBEFORE_W2 the tables are those of the library before W2: a record names no parent, and each byte behind the words of a key is hashed by itself.
 #include "../include/stewpebble.h"
 #include <stdio.h>
@@ -132,6 +132,16 @@ static void list_of_texts(size_t count, size_t length, const char *character, si
     nodes = 1 + count;
 }
 
+// A list of `lists` lists with `width` texts of `length` bytes each.
+static void lists_of_texts(size_t lists, size_t width, size_t length, const char *character, size_t times) {
+    size_t count = lists * width;
+    fill(count, length, character, times);
+    list_at_root(lists);
+    for (size_t m = 0; m < lists; m++) table[1 + m] = container(STEWPEBBLE_LIST, 1, 0, 1 + lists + width * m, width);
+    for (size_t k = 0; k < count; k++) table[1 + lists + k] = (struct stewpebble_record){.kind = STEWPEBBLE_TEXT, .depth = 2, .parent = 1 + k / width, .value.part = {length * k, length}};
+    nodes = 1 + lists + count;
+}
+
 static double now(void) {
     struct timespec t;
     clock_gettime(CLOCK_PROCESS_CPUTIME_ID, &t);
@@ -178,6 +188,16 @@ static void measure(const char *name) {
     printf("%-36s %6zu nodes  check %8.2f ns/node  bare pass %6.2f ns/node  ratio %7.1f\n", name, nodes, checked / nodes, summed / nodes, checked / summed);
 }
 
+static const char *const names[] = {"ASCII", "two bytes", "three bytes", "four bytes", "Hangul", "one to three", "three and four"};
+
+enum { FILLINGS = sizeof fillings / sizeof *fillings };
+
+static const char *indented(size_t k) {
+    static char name[40];
+    snprintf(name, sizeof name, "  %s", names[k]);
+    return name;
+}
+
 int main(void) {
     keys(1024, 0);
     list_of_maps(1999, 4);
@@ -202,15 +222,19 @@ int main(void) {
         size_t count = 1000000 / length;
         printf("texts of %zu bytes\n", length);
         list_of_texts(count, length, fillings[0], 0);
-        measure("  ASCII");
+        measure(indented(0));
         list_of_texts(count, length, fillings[1], 1);
         measure("  one accent each");
-        for (size_t k = 1; k < sizeof fillings / sizeof *fillings; k++) {
-            static const char *const names[] = {"", "two bytes", "three bytes", "four bytes", "Hangul", "one to three", "three and four"};
-            char name[40];
-            snprintf(name, sizeof name, "  %s", names[k]);
+        for (size_t k = 1; k < FILLINGS; k++) {
             list_of_texts(count, length, fillings[k], length);
-            measure(name);
+            measure(indented(k));
+        }
+    }
+    for (size_t width = 4; width <= 50000; width += 49996) {
+        printf("texts of 20 bytes, %zu in each list below the root\n", width);
+        for (size_t k = 0; k < FILLINGS; k++) {
+            lists_of_texts(50000 / width, width, 20, fillings[k], 20);
+            measure(indented(k));
         }
     }
     keys_beyond_ascii(1024);

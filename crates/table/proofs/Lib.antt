@@ -7,6 +7,7 @@ pub mod Folds
 pub mod Front
 pub mod Inside
 pub mod Kept
+pub mod Next
 pub mod Sorts
 pub mod Under
 pub mod Walks

@@ -4,9 +4,9 @@ use mathlib.Core.Path.{_≡_}
 use mathlib.Core.List.{List}
 use mathlib.Core.Bool.{Bool, true, false}
 use lib.ListN.{length}
-use Rattle.definition.specs.Limits.{maxNodes, maxMembers}
-use Rattle.definition.specs.Tables.{nodeCount, field, kindAt, depthAt, parentAt, kindMap, highWord, firstChild, keyStart, keyLength, keyDiffers, headRight, textRight}
-use Rattle.table_laws.specs.Joined.{nodeRight}
+use Rattle.definition.specs.Limits.{maxNodes, maxMembers, maxDepth}
+use Rattle.definition.specs.Tables.{nodeCount, field, kindAt, depthAt, parentAt, kindMap, highWord, childCount, firstChild, rangeRight, keyStart, keyLength, keyDiffers, headRight, textRight}
+use Rattle.table_laws.specs.Joined.{payloadRight, nodeRight}
 use Rattle.table_laws.specs.Least.{RightBelow}
 use Rattle.table.specs.Buckets.{bucketAt}
 use Rattle.table.specs.Chains.{HeadsBelow, Chained, Roomy}
@@ -145,3 +145,37 @@ pub record Front (T X : List ℕ) (n : ℕ) : Type 0 where
   pub right : RightBelow T X n
   pub first-is : firstChild T n ≡ firstChild T 1
   pub plain : kindAt T 0 ≡ kindMap → n ≡ 1
+
+-- a node of the table is a child of the list p, whose depth is d and may have children
+pub record Listed (T : List ℕ) (p d i : ℕ) : Type 0 where
+  pub node-in : i < nodeCount T
+  pub earlier : p < i
+  pub above : firstChild T p ≤ i
+  pub within : i < firstChild T (suc p)
+  pub plain : kindAt T p ≡ kindMap → ⊥
+  pub depth-is : d ≡ depthAt T p
+  pub shallow : d < maxDepth
+
+-- the nodes from one up to an end are such children, and all before them are right
+pub record ListedFrom (T X : List ℕ) (p d from end : ℕ) : Type 0 where
+  pub begins : from ≤ end
+  pub listed : (i : ℕ) → from ≤ i → i < end → Listed T p d i
+  pub right : RightBelow T X from
+
+-- a node from one on up to an end, before which all nodes are right, and up to which from the first one on none has children
+pub record Behind (T X : List ℕ) (from end n : ℕ) : Type 0 where
+  pub later : from ≤ n
+  pub reach : n ≤ end
+  pub right : RightBelow T X n
+  pub first-is : firstChild T n ≡ firstChild T from
+
+-- whether a list or a map is right by its range, or has too many children
+pub record Bounded (T : List ℕ) (i : ℕ) (b : Bool) : Type 0 where
+  pub range : b ≡ true → (X : List ℕ) → payloadRight T X i ≡ rangeRight T i
+  pub many : b ≡ false → (X : List ℕ) → payloadRight T X i ≡ false
+
+-- what a node is found to be by a rule: 0 if the rule fails, and else where the children of the next node must begin
+pub record NextBy (T : List ℕ) (i : ℕ) (b : Bool) (r : ℕ) : Type 0 where
+  pub fails : r ≡ 0 → b ≡ false
+  pub holds : (r ≡ 0 → ⊥) → b ≡ true
+  pub next-is : (r ≡ 0 → ⊥) → r ≡ firstChild T i + childCount T i

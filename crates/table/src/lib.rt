@@ -6,6 +6,7 @@
 //   keys       whether a key is unlike those before it in its map
 //   rules      the rules for a node
 //   scan       the pass over the nodes, by all rules
+//   utf8       the same where the text is known to be UTF-8
 //   structure  the pass over the records alone
 //   texts      the pass over the texts and keys alone, on any records
 //   pair       what the passes come to together
@@ -27,6 +28,7 @@ mod rules;
 mod scan;
 mod structure;
 mod texts;
+mod utf8;
 
 use crate::records::RECORD;
 use structure::Pass;

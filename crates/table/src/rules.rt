@@ -3,10 +3,10 @@ ghost use mathlib.Core.Path.{_≡_};
 ghost use mathlib.Core.Bool.{true};
 ghost use Prim.Native.Nat.{_<_, _+_};
 ghost use lib.Dec.{ltb};
-ghost use Rattle.definition.specs.Tables.{nodeCount, kindAt, kindMap, childCount, firstChild, goodPart, headRight, isFinite, rangeRight, noKey};
+ghost use Rattle.definition.specs.Tables.{nodeCount, kindAt, kindText, kindList, kindMap, highWord, childCount, firstChild, goodPart, headRight, isFinite, rangeRight, noKey};
 ghost use Rattle.table_laws.specs.Joined.{payloadRight, memberRight, nodeRight};
 ghost use Rattle.text.specs.Known.{Known};
-ghost use Rattle.table.specs.Words.{Under, Child, MembersBefore, Kept, RootList};
+ghost use Rattle.table.specs.Words.{Under, Child, MembersBefore, Kept, RootList, Listed, Bounded, NextBy};
 use crate::keys;
 use crate::records;
 use crate::records::KIND_FLOAT;
@@ -18,7 +18,7 @@ use crate::records::RECORD;
 use crate::scan::Cursor;
 use text::encoding;
 
-const MAX_DEPTH: u8 = 63;
+pub const MAX_DEPTH: u8 = 63;
 
 // The kinds are the numbers below this one, and the depth stands in bytes 0-3 as so many.
 const KINDS: usize = 8;
@@ -178,6 +178,115 @@ pub fn item_right(
         return false;
     }
     payload_right(table, text, node, first, known)
+}
+
+// Bytes 16-23 of a node that is neither a list nor a map, where the text is known to be UTF-8.
+fn value_right(table: &[u8], text: &[u8], node: usize) -> bool
+    requires { ⌜ (node < nodeCount (now table)) × (kindAt (now table) node < kindList) ⌝ }
+    requires { ⌜ Known 1 (now text) ⌝ }
+    ensures { λ r. ⌜ r ≡ payloadRight (now (table .entry)) (now (text .entry)) node ⌝ }
+{
+    let k = records::kind(table, node);
+    if k < KIND_INTEGER {
+        return records::payload(table, node) == 0;
+    }
+    if k < KIND_FLOAT {
+        return true;
+    }
+    if k < KIND_TEXT {
+        return finite(records::payload(table, node));
+    }
+    good_part(
+        text,
+        records::low_word(table, node),
+        records::high_word(table, node),
+        encoding::KNOWN_UTF8,
+    )
+}
+
+// Whether a list or a map has no more children than it may have.
+fn few_enough(table: &[u8], node: usize) -> bool
+    requires { ⌜ (node < nodeCount (now table)) × (kindText < kindAt (now table) node) ⌝ }
+    ensures { λ r. ⌜ Bounded (now (table .entry)) node r ⌝ }
+{
+    if KIND_LIST < records::kind(table, node) {
+        return records::high_word(table, node) <= MAX_MEMBERS;
+    }
+    true
+}
+
+// The range of a container's children: 0 if it is wrong, and else where that of the next node must begin.
+fn range_next(table: &[u8], node: usize, first: usize) -> usize
+    requires { ⌜ (node < nodeCount (now table)) × (first ≡ firstChild (now table) node) ⌝ }
+    requires { ⌜ childCount (now table) node ≡ highWord (now table) node ⌝ }
+    ensures { λ r. ⌜ NextBy (now (table .entry)) node (rangeRight (now (table .entry)) node) r ⌝ }
+{
+    let low = records::low_word(table, node) as usize;
+    let high = records::high_word(table, node) as usize;
+    if high == 0 {
+        if low != 0 {
+            return 0;
+        }
+        return first;
+    }
+    if low != first {
+        return 0;
+    }
+    let next = low + high;
+    if table.len() / RECORD < next {
+        return 0;
+    }
+    next
+}
+
+// All that is asked of a child of the list above, where the text is known to be UTF-8: 0 if it is wrong, and else where the range of the next node's children must
+// begin. Lists and maps are told from the others first.
+pub fn item_next(table: &[u8], text: &[u8], node: usize, first: usize, above: Cursor) -> usize
+    requires { ⌜ Child (now table) node above × (first ≡ firstChild (now table) node) ⌝ }
+    requires { ⌜ (kindAt (now table) (above .parent) ≡ kindMap → ⊥) ⌝ }
+    requires { ⌜ Known 1 (now text) ⌝ }
+    ensures { λ r. ⌜ NextBy (now (table .entry)) node (nodeRight (now (table .entry)) (now (text .entry)) node) r ⌝ }
+{
+    if !stands_under(table, node, above) {
+        return 0;
+    }
+    if !no_key(table, node) {
+        return 0;
+    }
+    if KIND_TEXT < records::kind(table, node) {
+        if !few_enough(table, node) {
+            return 0;
+        }
+        return range_next(table, node, first);
+    }
+    if !value_right(table, text, node) {
+        return 0;
+    }
+    first
+}
+
+// Whether a child of a list is found to be a right text, where the text is known to be UTF-8.
+pub fn text_item_right(table: &[u8], text: &[u8], node: usize, parent: usize, depth: u8) -> bool
+    requires { ⌜ Listed (now table) parent depth node × Known 1 (now text) ⌝ }
+    ensures { λ r. ⌜ (r ≡ true → nodeRight (now (table .entry)) (now (text .entry)) node ≡ true) ⌝ }
+    ensures { λ r. ⌜ (r ≡ true → childCount (now (table .entry)) node ≡ 0) ⌝ }
+{
+    let head = (depth as usize + 1) * DEPTH_UNIT + KIND_TEXT as usize;
+    if records::head(table, node) != head {
+        return false;
+    }
+    if !no_key(table, node) {
+        return false;
+    }
+    if records::parent(table, node) as usize != parent {
+        return false;
+    }
+    good_part(
+        text,
+        records::low_word(table, node),
+        records::high_word(table, node),
+        encoding::KNOWN_UTF8,
+    )
 }
 
 // 1 for yes, 0 for no.

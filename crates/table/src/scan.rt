@@ -16,9 +16,10 @@ use crate::records;
 use crate::records::KIND_MAP;
 use crate::records::RECORD;
 use crate::rules;
+use crate::utf8;
 use text::encoding;
 
-const MAX_MEMBERS: usize = 1024;
+pub const MAX_MEMBERS: usize = 1024;
 
 const FEW_NODES: usize = 128;
 
@@ -36,11 +37,11 @@ pub struct Cursor {
 }
 
 // What the check of a node's children came to.
-const WRONG: u8 = 0;
+pub const WRONG: u8 = 0;
 
-const NEXT: u8 = 1;
+pub const NEXT: u8 = 1;
 
-const LONG: u8 = 2;
+pub const LONG: u8 = 2;
 
 // How far the check of a node's children came: to a node that is wrong; or to one before which all nodes are right, with the place where its children
 // must begin. There it may have stopped behind a node whose chain came to be long.
@@ -80,7 +81,7 @@ fn to_parent(table: &[u8], node: usize, cursor: Cursor) -> Cursor
 }
 
 // Where all keys under a cursor are found to differ, the cursor says so.
-fn surely(table: &[u8], text: &[u8], cursor: Cursor) -> Cursor
+pub fn surely(table: &[u8], text: &[u8], cursor: Cursor) -> Cursor
     requires { ⌜ cursor .from ≤ cursor .end ⌝ }
     ensures { λ r. ⌜ Surely (now (table .entry)) (now (text .entry)) cursor r ⌝ }
 {
@@ -131,7 +132,7 @@ fn items(table: &[u8], text: &[u8], start: usize, begin: usize, above: Cursor, k
 }
 
 // The members of a map from a node on, up to one whose chain comes to be long.
-fn members(
+pub fn members(
     table: &[u8],
     text: &[u8],
     start: usize,
@@ -350,6 +351,9 @@ pub fn scan(table: &[u8], text: &[u8]) -> TableChecked
     let from = front(table, text, end, kind, known);
     if table.len() / RECORD <= FEW_NODES {
         return with_few(table, text, end, root, known, from);
+    }
+    if known == encoding::KNOWN_UTF8 {
+        return utf8::with_chains(table, text, end, root, from);
     }
     with_chains(table, text, end, root, known, from)
 }

@@ -66,15 +66,27 @@ returns-2 c = search needs
 
 with-chains-requires : tie.Need-with-chains-requires
 with-chains-requires c κs =
-    let s = c .before .before .before .before .before .before .before .before .before .before in
+    let s = c .before .before .before .before .before .before .before .before .before .before .before in
     let a = s .args in
-    let n = c .before .before .before .before .before .child-count in
-    let k = c .before .before .before .before .kind in
-    let d = c .before .before .before .depth in
-    ((root-first (a .table .now) (n .result) (n .ensures), root-cursor (a .table .now) (n .result) (k .result) (d .result) (n .ensures) (k .ensures) (d .ensures), refl), ((s .pre .0, s .pre .1, c .before .front .ensures), c .before .before .short-known .ensures))
+    let n = c .before .before .before .before .before .before .child-count in
+    let k = c .before .before .before .before .before .kind in
+    let d = c .before .before .before .before .depth in
+    ((root-first (a .table .now) (n .result) (n .ensures), root-cursor (a .table .now) (n .result) (k .result) (d .result) (n .ensures) (k .ensures) (d .ensures), refl), ((s .pre .0, s .pre .1, c .before .before .front .ensures), record { ascii = λ z. absurd (omega arith); utf8 = λ _. c .before .before .before .short-known .ensures .utf8 (c .if3 .taken) }))
 
 returns-3 : tie.Need-returns-3
 returns-3 c = search needs
+
+with-chains-requires-2 : tie.Need-with-chains-requires-2
+with-chains-requires-2 c κs =
+    let s = c .before .before .before .before .before .before .before .before .before .before .before in
+    let a = s .args in
+    let n = c .before .before .before .before .before .before .child-count in
+    let k = c .before .before .before .before .before .kind in
+    let d = c .before .before .before .before .depth in
+    ((root-first (a .table .now) (n .result) (n .ensures), root-cursor (a .table .now) (n .result) (k .result) (d .result) (n .ensures) (k .ensures) (d .ensures), refl), ((s .pre .0, s .pre .1, c .before .before .front .ensures), c .before .before .before .short-known .ensures))
+
+returns-4 : tie.Need-returns-4
+returns-4 c = search needs
 
 pub scan-spec : {M : Type 1} → statement M
 scan-spec =
@@ -92,4 +104,6 @@ scan-spec =
     with-few-requires
     returns-2
     with-chains-requires
-    returns-3)
+    returns-3
+    with-chains-requires-2
+    returns-4)
