@@ -1,6 +1,6 @@
 -- A class, one level of the definition at a time. Assumes nothing.
 use mathlib.Core.Path.{_≡_, refl, ap, sym, _∙_}
-use mathlib.Core.Bool.{Bool, true, false, cond}
+use mathlib.Core.Bool.{Bool, true, false, false≢true}
 use mathlib.Core.List.{List, [], _∷_, _++_, append-assoc, append-nil}
 use mathlib.Core.Option.{Option, none, some}
 use Prim.Native.Nat.{ℕ, zero, suc, _+_, _-_, _*_, _≤_, _<_}
@@ -34,7 +34,7 @@ item-none (item-stop o) = o
 -- ---- "-]"
 
 pub end-none : (s : List ℕ) (at : ℕ) → begins 0x2D (drop at s) ≡ false → IsEnd s at false
-end-none s at e = record { told = rw e refl; inside = λ f. absurd (let n : _≡_ {A = ℕ} 0 1 = ap (λ b. cond b 1 0) f in omega arith) }
+end-none s at e = record { told = rw e refl; inside = λ f. absurd (false≢true f) }
 
 pub end-some : (s : List ℕ) (at : ℕ) → begins 0x2D (drop at s) ≡ true → {r : Bool} → Is s (at + 1) 0x5D r → IsEnd s at r
 end-some s at e {r} i = record { told = rw (behind s at 0x2D e, e) (i .told); inside = i .inside }
