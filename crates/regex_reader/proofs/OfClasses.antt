@@ -7,6 +7,7 @@ use Prim.Native.Nat.{ℕ, zero, suc, _+_, _-_, _*_, _≤_, _<_}
 use native.Mathlib.Omega.{arith}
 use lib.ListN.{length, drop, set, length-append}
 use Rattle.basics.specs.Reads.{Wrote}
+use Rattle.basics.specs.Stores.{wrote-then}
 use Rattle.regex_definition.specs.Regexp.{Range, class}
 use Rattle.regex_definition.specs.Grammar.{only}
 use Rattle.regex_definition.specs.Read.{begins, rest, readItem, readFirst, readItems, readRanges, readClass}
@@ -21,7 +22,7 @@ use Rattle.regex_reader.specs.Reads.Post.{next, stop}
 use Rattle.regex_reader.specs.declared.classes.More.the-variants as more
 use Rattle.regex_reader.specs.declared.steps.Step.{Step}
 use Rattle.regex_reader.specs.declared.steps.Step.the-variants as step
-use Rattle.regex_reader.proofs.Parts.{ranges-behind, length-ranges, wrote-then, third, same-post}
+use Rattle.regex_reader.proofs.Parts.{ranges-behind, length-ranges, third, same-post}
 
 -- what an answer that is given says
 pub item-is : {out : Option (Range × List ℕ)} {s : List ℕ} {from b lo hi : ℕ} → ReadItem out s from (item.Next b lo hi)

@@ -26,9 +26,10 @@ use Rattle.regex_reader.specs.declared.steps.Cursor.{Cursor}
 use Rattle.regex_reader.specs.declared.steps.Step.{Step}
 use Rattle.regex_reader.specs.declared.steps.Step.the-variants as step
 use Rattle.regex_reader.specs.declared.nested.Reading.the-variants as reading
-use Rattle.regex_reader.proofs.Parts.{flat-behind, wrote-then, wrote-length}
+use Rattle.regex_reader.proofs.Parts.{flat-behind}
 use Rattle.regex_reader.proofs.OfAtoms.{stops-end}
 use Rattle.basics.specs.Lists.{drop-at}
+use Rattle.basics.specs.Stores.{wrote-then, wrote-length}
 
 -- what an answer that is given says
 pub read-is : {out : ℕ → Option (Regexp × List ℕ)} {j k : ℕ} {s p q : List ℕ} {a b : Cursor} → Post out j k s p q a (step.Next b) → Read out j k s p q a b

@@ -1,7 +1,7 @@
 -- The answers of `alts` in the cycle of calls {alts, atom, branch, piece}.
+use Rattle.basics.specs.Stores.{wrote-length}
 use borrow.Author.Tests.{not-true, not-false}
 use Rattle.regex_reader.proofs.OfNested.{read-is, Alternating, alternating-none, alts-none, alts-last, alts-more, room-alts, room-insert}
-use Rattle.regex_reader.proofs.Parts.{wrote-length}
 use lib.ListN.{length}
 use Prim.Native.Nat.{_-_}
 use borrow.Author.Needs.{fits-under}
