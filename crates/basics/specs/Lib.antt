@@ -1,3 +1,4 @@
 pub mod Reads
 pub mod Bools
 pub mod Lists
+pub mod Stores

@@ -41,7 +41,7 @@ use Rattle.parser_items.specs.declared.Step.{Step}
 use Rattle.parser_items.specs.declared.Step.the-variants as step
 use Rattle.compile_unique.specs.Readings.{OneReading, OneCompile, none-only, tree-only, early-only, compiles-only}
 use Rattle.compile.specs.Outcomes.{outcome, numberOf}
-use Rattle.compile.specs.Steps.{Rooms, Parsed, ParsePost, whole, none, refusalOf, verdictOf}
+use Rattle.compile.specs.Steps.{Enough, Rooms, Parsed, ParsePost, whole, none, refusalOf, verdictOf}
 use Rattle.compile.specs.declared.Compiled.the-variants as compiled
 use Rattle.compile.specs.declared.Refusal.{Refusal}
 use Rattle.compile.specs.declared.Refusal.the-variants.{Malformed}
@@ -135,10 +135,10 @@ module _ {s P L : List ℕ} (h : Rooms s P L) where
   pub root-start : Is s 0 0x24 true → Asks 2 s P L first
   root-start i = record {
     text = i .0;
-    plan = omega (arith, h .plan, i .0);
-    pool = omega (arith, h .pool, i .0);
-    small = h .small;
-    smallPool = h .smallPool;
+    plan = omega (arith, h .enough .plan, i .0);
+    pool = omega (arith, h .enough .pool, i .0);
+    small = h .enough .small;
+    smallPool = h .enough .smallPool;
     utf8 = sym (utf8-ascii 0x24 (drop 1 s) (omega arith)) ∙ ap isUtf8 (sym (i .1)) ∙ h .utf8;
   }
 
@@ -173,8 +173,8 @@ module _ {s P L : List ℕ} (h : Rooms s P L) where
         let e : drop (b .at) s ≡ [] = no-more (drop (b .at) s) (omega (arith, length-drop (b .at) s)) in
         let g : spell t ≡ s = sym (i .1 ∙ ap (λ (z : List ℕ). 0x24 ∷ z) (rd .reads .eq ∙ ap (spellSegments (rd .tree)) e)) in
         let x = writeQuery t 0 in
-        let n : length (x .plan) ≤ length P = omega (arith, query-plan-fits t 0, ap length g, h .plan) in
-        let m : length (x .pool) ≤ length L = omega (arith, query-pool-fits t 0, ap length g, h .pool) in
+        let n : length (x .plan) ≤ length P = omega (arith, query-plan-fits t 0, ap length g, h .enough .plan) in
+        let m : length (x .pool) ≤ length L = omega (arith, query-pool-fits t 0, ap length g, h .enough .pool) in
         let q = length-sets P 0 (x .plan) in
         let r = length-sets L 0 (x .pool) in
         whole {b = b} {f = f} (record {
@@ -320,20 +320,9 @@ module _ (n : ℕ) where
 
 -- ---- rooms
 
-pub rooms-long : {s P L : List ℕ} → early s ≡ 0 → length P ≡ 61440 → length L ≡ 4096 → Rooms s P L
-rooms-long {s} h p l = let n = passed-short s h in record { plan = omega arith; pool = omega arith; small = omega arith; smallPool = omega arith; utf8 = passed-utf8 s h }
+pub rooms-of : {s P L : List ℕ} → Enough s P L → early s ≡ 0 → Rooms s P L
+rooms-of {s} e h = record { enough = e; utf8 = passed-utf8 s h }
 
-pub rooms-middle : {s P L : List ℕ} → early s ≡ 0 → length s ≤ 1024 → length P ≡ 15360 → length L ≡ 1024 → Rooms s P L
-rooms-middle {s} h n p l = record { plan = omega arith; pool = omega arith; small = omega arith; smallPool = omega arith; utf8 = passed-utf8 s h }
-
-pub rooms-short : {s P L : List ℕ} → early s ≡ 0 → length s ≤ 256 → length P ≡ 3840 → length L ≡ 256 → Rooms s P L
-rooms-short {s} h n p l = record { plan = omega arith; pool = omega arith; small = omega arith; smallPool = omega arith; utf8 = passed-utf8 s h }
-
-pub rooms-brief : {s P L : List ℕ} → early s ≡ 0 → length s ≤ 64 → length P ≡ 960 → length L ≡ 64 → Rooms s P L
-rooms-brief {s} h n p l = record { plan = omega arith; pool = omega arith; small = omega arith; smallPool = omega arith; utf8 = passed-utf8 s h }
-
-pub rooms-small : {s P L : List ℕ} → early s ≡ 0 → length s ≤ 32 → length P ≡ 480 → length L ≡ 32 → Rooms s P L
-rooms-small {s} h n p l = record { plan = omega arith; pool = omega arith; small = omega arith; smallPool = omega arith; utf8 = passed-utf8 s h }
-
-pub rooms-tiny : {s P L : List ℕ} → early s ≡ 0 → length s ≤ 16 → length P ≡ 240 → length L ≡ 16 → Rooms s P L
-rooms-tiny {s} h n p l = record { plan = omega arith; pool = omega arith; small = omega arith; smallPool = omega arith; utf8 = passed-utf8 s h }
+-- The largest rooms take every query. Of the smaller ones the search tells by their sizes alone that they take the queries that they are for.
+pub enough-for-all : {s P L : List ℕ} → early s ≡ 0 → length P ≡ 61440 → length L ≡ 4096 → Enough s P L
+enough-for-all {s} h p l = let n = passed-short s h in record { plan = omega arith; pool = omega arith; small = omega arith; smallPool = omega arith }

@@ -17,11 +17,15 @@ use Rattle.parser_items.specs.declared.Step.{Step}
 use Rattle.parser_items.specs.declared.Step.the-variants as step
 
 -- room enough for a query: 15 bytes of plan and one of pool for each byte
-pub record Rooms (s P L : List ℕ) : Type 0 where
+pub record Enough (s P L : List ℕ) : Type 0 where
   pub plan : 15 * length s ≤ length P
   pub pool : length s ≤ length L
   pub small : length P < 65536
   pub smallPool : length L < 65536
+
+-- room enough for a query that is UTF-8
+pub record Rooms (s P L : List ℕ) : Type 0 where
+  pub enough : Enough s P L
   pub utf8 : isUtf8 s ≡ true
 
 -- a tree spells the whole query; P' and L' begin with what is written for it, the cursor b tells how much and the marks; and the same is written for every tree that spells it

@@ -17,7 +17,7 @@ ghost use lib.ListN.{length};
 ghost use Rattle.definition.specs.Outcomes.{early};
 ghost use Rattle.compile_unique.specs.Readings.{OneCompile};
 ghost use Rattle.compile.specs.Outcomes.{outcome};
-ghost use Rattle.compile.specs.Steps.{Rooms, ParsePost, verdictOf, Delivers};
+ghost use Rattle.compile.specs.Steps.{Enough, Rooms, ParsePost, verdictOf, Delivers};
 
 const MAX_QUERY: usize = 4096;
 
@@ -151,7 +151,7 @@ fn compile_in(
     plan: &mut [u8],
     pool: &mut [u8],
 ) -> Compiled
-    requires { ⌜ Rooms (now query) (now room) (now texts) × (early (now query) ≡ 0) ⌝ }
+    requires { ⌜ Enough (now query) (now room) (now texts) × (early (now query) ≡ 0) ⌝ }
     ensures { λ r. ⌜ OneCompile (now (query .entry)) (now (plan .entry)) (now (pool .entry)) (outcome r (now (plan .exit)) (now (pool .exit))) ⌝ }
 {
     match parse(&query[0..], room, texts) {

@@ -232,7 +232,7 @@ sizedSingular (absSingular xs) r = loosen 1 (from-sized 0x01 (sizedSingularSegme
 -- ---- the trees that nest
 
 -- the tails are short
-test-tail : (s : Sort) → length (testTail s) ≤ 3
+pub test-tail : (s : Sort) → length (testTail s) ≤ 3
 unfolding testTail
 test-tail literalSort = omega arith
 test-tail singularSort = omega arith

@@ -2,7 +2,7 @@
 use Prim.Native.Nat.{ℕ, _*_, _≤_}
 use mathlib.Core.Path.{_≡_, refl, ap}
 use mathlib.Core.List.{List}
-use mathlib.Core.Bool.{Bool, true, false, _&&_}
+use mathlib.Core.Bool.{true, false, and-true}
 use native.Mathlib.Omega.{arith}
 use lib.IntN.{pos}
 use lib.ListN.{length}
@@ -32,10 +32,6 @@ unfolding badSize
 text-too-large T X h k = rw (h, k) refl
 
 -- ---- "A map has at most 1,024 members"; a list may have more
-
-and-true : (b : Bool) → (b && true) ≡ b
-and-true true = refl
-and-true false = refl
 
 pub largest-map : (T : List ℕ) (i : ℕ) → kindAt T i ≡ 7 → highWord T i ≡ 1024 → payloadRecord T i ≡ rangeRight T i
 unfolding payloadRecord

@@ -2,7 +2,7 @@
 use Prim.Native.Nat.{ℕ, _+_, _≤_}
 use mathlib.Core.Path.{_≡_, refl, sym, ap, _∙_}
 use mathlib.Core.List.{List, [], _∷_}
-use mathlib.Core.Bool.{true, false}
+use mathlib.Core.Bool.{true, false, true≢false, false≢true}
 use lib.ListN.{length}
 use native.Mathlib.Omega.{arith}
 use Rattle.definition.specs.Limits.{maxPlan}
@@ -21,11 +21,13 @@ use Rattle.eval_values.specs.declared.members.Member.{Member}
 use Rattle.eval_values.specs.declared.members.Member.the-variants.{At, Nothing as Absent}
 use Rattle.eval_items.specs.Ends.{DoneNext}
 use Rattle.eval_items.specs.Leaves.{memberNodes, AskOne, DoneOne}
-use Rattle.eval_front.specs.Visits.{Given, Head, Front}
+use Rattle.eval_front.specs.declared.Reached.{Reached}
+use Rattle.eval_front.specs.Visits.{Given, Head, Front, DoneReach}
+use Rattle.eval_front.specs.Stands.{segments-at}
 use Rattle.eval_front.specs.Loops.{Along, InReach}
 
 pub never : false ≡ true → ⊥
-never e = let n : _≡_ {A = ℕ} 0 1 = cc in omega arith
+never = false≢true
 
 -- the query g at q is a child segment of the selector x alone, and the query behind it
 pub record Single (P L : List ℕ) (q j : ℕ) (g : Segments) : Type 0 where
@@ -36,9 +38,6 @@ pub record Single (P L : List ℕ) (q j : ℕ) (g : Segments) : Type 0 where
   pub here : SelectorAt P L (q + 3) j x
   pub after : SegmentsAt P L (q + 3 + length (codeSelector x j)) j′ behind
   pub long : length (codeSegments g j) ≡ 3 + length (codeSelector x j) + length (codeSegments behind j′)
-
-segments-at : {P L : List ℕ} {p k : ℕ} {f : Segments} (p′ : ℕ) → p′ ≡ p → SegmentsAt P L p k f → SegmentsAt P L p′ k f
-segments-at p′ e a = rw e a
 
 pub single : {P L : List ℕ} {q j : ℕ} {g : Segments} {c : ℕ} → length P ≤ maxPlan → Head P q c → SegmentsAt P L q j g → Single P L q j g
 single {P} {L} {q} {j} {g} few d at =
@@ -101,9 +100,12 @@ module _ {P L S X : List ℕ} {node pc m q c : ℕ} (z : Given P L S X) (i : InR
         j = w .j;
         at = w .at;
         ends = w .ends;
-        found = λ u. absurd (never u);
+        found = λ u. absurd (false≢true u);
         lost = λ u R s. single-none y S X R (nodeAt S X m) s r a (o .selects (y .x) (w .j) R (y .here)) ∙ w .same R s;
       }
+
+  pub done-lost : (r : Member) → DoneOne P L S X (q + 3) m r → r ≡ Absent → {w : Reached} → w ≡ record { node = m; pc = q; some = false } → DoneReach P L S X node pc w
+  done-lost r o a e = rw e (record { node-in = i .node-in; deeper = i .deeper; later = i .later; front = reach-lost r o a })
 
   -- there is one
   module _ (r : Member) (o : DoneOne P L S X (q + 3) m r) (n : ℕ) (a : r ≡ At n) (q′ : ℕ) (v : DoneNext P (q + 3) q′) where
@@ -138,4 +140,7 @@ module _ {P L S X : List ℕ} {node pc m q c : ℕ} (z : Given P L S X) (i : InR
 pub reach-found : {P L S X : List ℕ} {node pc m q : ℕ} → InReach P L S X node pc m q → (f : Segments) (k : ℕ) → SegmentsAt P L pc k f → Front P L S X node pc (record { node = m; pc = q; some = true }) f k
 reach-found i f k at =
     let w = i .front f k at in
-    record { g = w .g; j = w .j; at = w .at; ends = w .ends; found = λ u R s. w .same R s; lost = λ u. absurd (never (sym u)) }
+    record { g = w .g; j = w .j; at = w .at; ends = w .ends; found = λ u R s. w .same R s; lost = λ u. absurd (true≢false u) }
+
+pub done-found : {P L S X : List ℕ} {node pc m q : ℕ} → InReach P L S X node pc m q → {w : Reached} → w ≡ record { node = m; pc = q; some = true } → DoneReach P L S X node pc w
+done-found i e = rw e (record { node-in = i .node-in; deeper = i .deeper; later = i .later; front = reach-found i })

@@ -1,8 +1,8 @@
 -- One node with a query, and the turns of the loops over the nodes of a range and over the places of a slice. Assumes nothing.
 use Prim.Native.Nat.{ℕ, _+_, _≤_, _<_}
-use mathlib.Core.Path.{_≡_, refl, sym, _∙_}
+use mathlib.Core.Path.{_≡_, refl, _∙_}
 use mathlib.Core.List.{List}
-use mathlib.Core.Bool.{true, false}
+use mathlib.Core.Bool.{true, false, true≢false, false≢true}
 use lib.ListN.{length, getD}
 use Rattle.table_laws.specs.Accepted.{Accepted}
 use Rattle.eval_laws.specs.States.{st, push}
@@ -11,7 +11,6 @@ use Rattle.eval_laws.specs.Items.{segments-in, is-end}
 use Rattle.eval_front.specs.declared.Reached.{Reached}
 use Rattle.eval_front.specs.Visits.{Query, over, DoneReach, DoneVisit}
 use Rattle.eval_front.specs.Places.{push-bound}
-use Rattle.eval_front.specs.Fronts.{never}
 
 -- ---- one node
 
@@ -26,16 +25,16 @@ module _ {P L S X : List ℕ} {node rest : ℕ} {r : Reached} (d : DoneReach P L
         record {
           room = h;
           ended = λ u f k a R. d .front f k a .lost e R (st cap l at);
-          places = λ u. absurd (never u);
-          next = λ u. absurd (never u);
-          paused = λ u. absurd (never u);
+          places = λ u. absurd (false≢true u);
+          next = λ u. absurd (false≢true u);
+          paused = λ u. absurd (false≢true u);
         }
 
     pub visit-more : r .some ≡ true → (getD P (r .pc) 0 ≡ 0x0A → ⊥) → at ≤ cap + 1 → DoneVisit P L S X node rest cap l at l (record { at = at; node = r .node; pc = r .pc; more = true })
     visit-more e n h =
         record {
           room = h;
-          ended = λ u. absurd (never (sym u));
+          ended = λ u. absurd (true≢false u);
           places = λ u. refl;
           next = λ u. refl;
           paused = λ u.
@@ -56,9 +55,9 @@ module _ {P L S X : List ℕ} {node rest : ℕ} {r : Reached} (d : DoneReach P L
           ended = λ u f k a R.
               let w = d .front f k a in
               p ∙ segment-end S X tab (w .g) R (r .node) (d .node-in) (st cap l at) (is-end P (r .pc) (w .j) (w .g) (w .at .holds) n) ∙ w .found e R (st cap l at);
-          places = λ u. absurd (never u);
-          next = λ u. absurd (never u);
-          paused = λ u. absurd (never u);
+          places = λ u. absurd (false≢true u);
+          next = λ u. absurd (false≢true u);
+          paused = λ u. absurd (false≢true u);
         }
 
 -- the same list and the same next place

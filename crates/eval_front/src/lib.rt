@@ -70,6 +70,13 @@ pub fn push_each(list: &mut [u32], i: usize, e: usize, at: usize, cap: usize) ->
     a
 }
 
+// A node and the place of what follows, and whether there is such a node.
+fn came_to(node: usize, pc: usize, some: bool) -> Reached
+    ensures { λ r. ⌜ r ≡ record { node = node; pc = pc; some = some } ⌝ }
+{
+    Reached { node, pc, some }
+}
+
 // From a node along the segments of one name or index at pc. The first four bytes of such a segment are read as one number.
 pub fn reach(plan: &[u8], pool: &[u8], table: &[u8], text: &[u8], node: usize, pc: usize) -> Reached
     requires { ⌜ AskReach (now plan) (now pool) (now table) (now text) node pc ⌝ }
@@ -84,39 +91,23 @@ pub fn reach(plan: &[u8], pool: &[u8], table: &[u8], text: &[u8], node: usize, p
             let n = bytes::word16(plan, q + 6);
             let found = leaves::named(plan, pool, table, text, q + 3, a, n, m);
             let Member::At(k) = found else {
-                return Reached {
-                    node: m,
-                    pc: q,
-                    some: false,
-                };
+                return came_to(m, q, false);
             };
             m = k;
             q += 8;
         } else {
             if head != INDEX_HEAD {
-                return Reached {
-                    node: m,
-                    pc: q,
-                    some: true,
-                };
+                return came_to(m, q, true);
             }
             let found = leaves::get_by_index(plan, pool, table, text, q + 3, m);
             let Member::At(k) = found else {
-                return Reached {
-                    node: m,
-                    pc: q,
-                    some: false,
-                };
+                return came_to(m, q, false);
             };
             m = k;
             q += 12;
         }
     }
-    Reached {
-        node: m,
-        pc: q,
-        some: true,
-    }
+    came_to(m, q, true)
 }
 
 // The same where a selection begins, called only there. There are two because a compiler puts a function into its caller where it has one only.
@@ -133,39 +124,23 @@ pub fn front(plan: &[u8], pool: &[u8], table: &[u8], text: &[u8], node: usize, p
             let n = bytes::word16(plan, rest + 6);
             let found = leaves::first_named(plan, pool, table, text, rest + 3, a, n, m);
             let Member::At(k) = found else {
-                return Reached {
-                    node: m,
-                    pc: rest,
-                    some: false,
-                };
+                return came_to(m, rest, false);
             };
             m = k;
             rest += 8;
         } else {
             if head != INDEX_HEAD {
-                return Reached {
-                    node: m,
-                    pc: rest,
-                    some: true,
-                };
+                return came_to(m, rest, true);
             }
             let found = leaves::get_by_index(plan, pool, table, text, rest + 3, m);
             let Member::At(k) = found else {
-                return Reached {
-                    node: m,
-                    pc: rest,
-                    some: false,
-                };
+                return came_to(m, rest, false);
             };
             m = k;
             rest += 12;
         }
     }
-    Reached {
-        node: m,
-        pc: rest,
-        some: true,
-    }
+    came_to(m, rest, true)
 }
 
 // One node with the query at rest: pushed, or nothing, or what is left.

@@ -126,6 +126,6 @@ pub record DoneOp (P L S X : List ℕ) (s r : Regs) : Type 0 where
 abbrev pub beginsAt : ℕ → ℕ → ℕ → ℕ
 beginsAt k root node = cond (eqb k 1) root node
 
--- the cap of a walk by the byte that asks something of the query
+-- the cap of evaluation by the byte that asks something of the query
 abbrev pub capFor : ℕ → ℕ
 capFor m = asked (askOf m) .cap

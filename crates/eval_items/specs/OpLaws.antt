@@ -1,4 +1,5 @@
--- The operations of a filter's code that are no queries: each takes what is left to do further. Assumes nothing.
+-- The operations of a filter's code that are no queries: each takes what is left to do further. One law serves those that give an answer (`answers`), one both kinds of right operand (`enter`, `skip`).
+-- Assumes nothing.
 use Prim.Native.Nat.{ℕ, _+_, _≤_, _<_}
 use mathlib.Core.Path.{_≡_, refl, sym, ap, _∙_}
 use mathlib.Core.List.{List}
@@ -10,12 +11,13 @@ use Rattle.definition.specs.Bytes.{part, number}
 use Rattle.definition.specs.Limits.{maxPlan, maxText}
 use Rattle.definition.specs.Values.{Json}
 use Rattle.definition.specs.Compare.{Value}
+use Rattle.definition.specs.Compare.Value.{nothing}
 use Rattle.definition.specs.Evaluation.{lengthValue}
 use Rattle.definition_bytes.specs.Same.{part-length}
 use Rattle.utf8_laws.specs.Scalars.{scalars-few}
 use Rattle.table_laws.specs.Accepted.{Accepted}
 use Rattle.eval_laws.specs.Operations.{rightKind}
-use Rattle.eval_laws.specs.Todos.{todo-in, todo-to, Compared, at-compare, at-not, at-truth, at-length, Matched, at-regex, LiteralAt, at-literal, Right, at-right, past-queries, last-kind}
+use Rattle.eval_laws.specs.Todos.{Todo, todo-in, todo-to, Compared, at-compare, at-not, at-truth, at-length, Matched, at-regex, LiteralAt, at-literal, Right, at-right, past-queries, last-kind}
 use Rattle.eval_values.specs.Means.{meaning, Fine, textIn, truthIn, lengthIn}
 use Rattle.eval_values.specs.Values.{truth-means, length-means}
 use Rattle.eval_values.specs.Alike.{Compares}
@@ -41,9 +43,20 @@ unfolding rightKind
 rightKind-else true n = absurd (n refl)
 rightKind-else false n = refl
 
+-- the byte of `&&`, and another one
+pub told-and : {k : ℕ} → k ≡ 0x16 → (v : Bits) → rightKind v ≡ k → v ≡ true
+told-and e v r = rightKind-is v (r ∙ e)
+
+pub told-or : {k : ℕ} → (k ≡ 0x16 → ⊥) → (v : Bits) → rightKind v ≡ k → v ≡ false
+told-or n v r = rightKind-else v (λ z. n (sym r ∙ z))
+
 module _ {P L S X : List ℕ} {s : Regs} {lo hi : ℕ} (a : AskOp P L S X s lo hi) where
   pub op-in : s .q < length P
   op-in = todo-in P L (s .q) (a .e) (a .R) (a .N) (s .acc) (meaning S X L (s .x)) (meaning S X L (s .y)) (a .want) (a .todo) (a .more)
+
+  -- An answer is given, and the registers hold nothing any more.
+  answers : (b : Bits) (q′ : ℕ) → s .q < q′ → ((e : ℕ) (R N : Json) (want : Bits) → Doing P L S X s e R N want → s .q < e → Todo P L q′ e R N b nothing nothing want) → DoneOp P L S X s (regs b Nothing Nothing q′)
+  answers b q′ l goes = record { pair = record { first = tt; second = tt }; further = l; goes = goes }
 
   module _ (low : 0x10 ≤ lo) (high : hi ≤ 0x13) where
     literal-here : (e : ℕ) (R N : Json) (want : Bits) → Doing P L S X s e R N want → s .q < e → LiteralAt P L (s .q) e R N (s .acc) (meaning S X L (s .x)) (meaning S X L (s .y)) want
@@ -73,12 +86,7 @@ module _ {P L S X : List ℕ} {s : Regs} {lo hi : ℕ} (a : AskOp P L S X s lo h
     compare-in = compare-here (a .e) (a .R) (a .N) (a .want) (a .todo) (a .more) .bound
 
     pub done-compare : (op : ℕ) (b : Bits) → op ≡ getD P (s .q + 1) 0 → Compares (meaning S X L (s .x)) (meaning S X L (s .y)) op b → DoneOp P L S X s (regs b Nothing Nothing (s .q + 2))
-    done-compare op b e c =
-        record {
-          pair = record { first = tt; second = tt };
-          further = omega arith;
-          goes = λ f R N want t m. let g = compare-here f R N want t m in g .then b (c (g .o) (g .byte ∙ sym e));
-        }
+    done-compare op b e c = answers b (s .q + 2) (omega arith) (λ f R N want t m. let g = compare-here f R N want t m in g .then b (c (g .o) (g .byte ∙ sym e)))
 
   pub done-not : 0x15 ≤ lo → hi ≤ 0x15 → DoneOp P L S X s (regs (not (s .acc)) (s .x) (s .y) (s .q + 1))
   done-not low high =
@@ -92,11 +100,8 @@ module _ {P L S X : List ℕ} {s : Regs} {lo hi : ℕ} (a : AskOp P L S X s lo h
   pub done-truth : 0x18 ≤ lo → hi ≤ 0x18 → (b : Bits) → b ≡ truthIn S (s .y) → DoneOp P L S X s (regs b Nothing Nothing (s .q + 1))
   done-truth low high b e =
       let u = a .kind-low in let v = a .kind-high in
-      record {
-        pair = record { first = tt; second = tt };
-        further = omega arith;
-        goes = λ f R N want t m. at-truth P L (s .q) f R N (s .acc) (meaning S X L (s .x)) (meaning S X L (s .y)) want t m (omega arith) b (e ∙ truth-means S X L (a .tab) (s .y) (a .pair .second));
-      }
+      answers b (s .q + 1) (omega arith)
+      (λ f R N want t m. at-truth P L (s .q) f R N (s .acc) (meaning S X L (s .x)) (meaning S X L (s .y)) want t m (omega arith) b (e ∙ truth-means S X L (a .tab) (s .y) (a .pair .second)))
 
   pub done-length : 0x1A ≤ lo → hi ≤ 0x1A → (n : ℕ) → n ≡ lengthIn S X L (s .y) → (z : ℤ) → z ≡ pos n → DoneOp P L S X s (regs (s .acc) (s .x) (Int z) (s .q + 1))
   unfolding lengthValue
@@ -112,12 +117,9 @@ module _ {P L S X : List ℕ} {s : Regs} {lo hi : ℕ} (a : AskOp P L S X s lo h
   pub done-regex : 0x1C ≤ lo → hi ≤ 0x1D → (b : Bits) → b ≡ regexIn (scopeFor (getD P (s .q) 0)) (textIn X L (s .x)) (textIn X L (s .y)) → DoneOp P L S X s (regs b Nothing Nothing (s .q + 1))
   done-regex low high b c =
       let u = a .kind-low in let v = a .kind-high in
-      record {
-        pair = record { first = tt; second = tt };
-        further = omega arith;
-        goes = λ e R N want t m. let g : Matched P L (s .q) e R N (s .acc) (meaning S X L (s .x)) (meaning S X L (s .y)) want = at-regex P L (s .q) e R N (s .acc) (meaning S X L (s .x)) (meaning S X L (s .y)) want t m (omega arith) (omega arith) in
-            g .then b (c ∙ regex-means S X L (a .tab) (g .scope) (getD P (s .q) 0) (s .x) (s .y) (g .byte) (a .pair));
-      }
+      answers b (s .q + 1) (omega arith)
+      (λ e R N want t m. let g : Matched P L (s .q) e R N (s .acc) (meaning S X L (s .x)) (meaning S X L (s .y)) want = at-regex P L (s .q) e R N (s .acc) (meaning S X L (s .x)) (meaning S X L (s .y)) want t m (omega arith) (omega arith) in
+      g .then b (c ∙ regex-means S X L (a .tab) (g .scope) (getD P (s .q) 0) (s .x) (s .y) (g .byte) (a .pair)))
 
   module _ (low : 0x16 ≤ lo) (high : hi ≤ 0x17) where
     right-here : (e : ℕ) (R N : Json) (want : Bits) → Doing P L S X s e R N want → s .q < e → Right P L (s .q) e R N (s .acc) (meaning S X L (s .x)) (meaning S X L (s .y)) want
@@ -126,38 +128,15 @@ module _ {P L S X : List ℕ} {s : Regs} {lo hi : ℕ} (a : AskOp P L S X s lo h
     pub right-in : s .q + 3 ≤ length P
     right-in = right-here (a .e) (a .R) (a .N) (a .want) (a .todo) (a .more) .bound
 
-    -- `&&` goes on where the left side is true, `||` where it is false; else the right side is skipped
-    pub enter-and : getD P (s .q) 0 ≡ 0x16 → s .acc ≡ true → DoneOp P L S X s (regs (s .acc) (s .x) (s .y) (s .q + 3))
-    enter-and k b = record { pair = a .pair; further = omega arith; goes = λ e R N want t m. let g = right-here e R N want t m in g .enter (b ∙ sym (rightKind-is (g .w) (sym (g .byte) ∙ k))) }
+    -- `&&` goes on where the left side is true, `||` where it is false; else the right side is skipped. w is the answer with which it goes on.
+    module _ (w : Bits) (told : (v : Bits) → rightKind v ≡ getD P (s .q) 0 → v ≡ w) where
+      pub enter : s .acc ≡ w → DoneOp P L S X s (regs (s .acc) (s .x) (s .y) (s .q + 3))
+      enter b = record { pair = a .pair; further = omega arith; goes = λ e R N want t m. let g = right-here e R N want t m in g .enter (b ∙ sym (told (g .w) (sym (g .byte)))) }
 
-    pub skip-and : getD P (s .q) 0 ≡ 0x16 → s .acc ≡ false → (n : ℕ) → n ≡ number (part P (s .q + 1) 2) → DoneOp P L S X s (regs (s .acc) Nothing Nothing (s .q + 3 + n))
-    skip-and k b n e =
-        record {
-          pair = record { first = tt; second = tt };
-          further = omega arith;
-          goes = λ f R N want t m. let g = right-here f R N want t m in
-              let w = rightKind-is (g .w) (sym (g .byte) ∙ k) in
-              todo-to P L _ _ f R N _ _ _ _ _ _ want (ap (λ (z : ℕ). s .q + 3 + z) e) refl refl refl (g .skip (λ z. false-true (sym b ∙ z ∙ w)));
-        }
-      where
-        false-true : false ≡ true → ⊥
-        false-true z = let q : _≡_ {A = ℕ} 0 1 = cc in omega arith
-
-    pub skip-or : (getD P (s .q) 0 ≡ 0x16 → ⊥) → s .acc ≡ true → (n : ℕ) → n ≡ number (part P (s .q + 1) 2) → DoneOp P L S X s (regs (s .acc) Nothing Nothing (s .q + 3 + n))
-    skip-or k b n e =
-        record {
-          pair = record { first = tt; second = tt };
-          further = omega arith;
-          goes = λ f R N want t m. let g = right-here f R N want t m in
-              let w = rightKind-else (g .w) (λ z. k (g .byte ∙ z)) in
-              todo-to P L _ _ f R N _ _ _ _ _ _ want (ap (λ (z : ℕ). s .q + 3 + z) e) refl refl refl (g .skip (λ z. true-false (sym b ∙ z ∙ w)));
-        }
-      where
-        true-false : true ≡ false → ⊥
-        true-false z = let q : _≡_ {A = ℕ} 0 1 = cc in omega arith
-
-    pub enter-or : (getD P (s .q) 0 ≡ 0x16 → ⊥) → s .acc ≡ false → DoneOp P L S X s (regs (s .acc) (s .x) (s .y) (s .q + 3))
-    enter-or k b = record { pair = a .pair; further = omega arith; goes = λ e R N want t m. let g = right-here e R N want t m in g .enter (b ∙ sym (rightKind-else (g .w) (λ z. k (g .byte ∙ z)))) }
+      pub skip : (s .acc ≡ w → ⊥) → (n : ℕ) → n ≡ number (part P (s .q + 1) 2) → DoneOp P L S X s (regs (s .acc) Nothing Nothing (s .q + 3 + n))
+      skip b n e = answers (s .acc) (s .q + 3 + n) (omega arith)
+          (λ f R N want t m. let g = right-here f R N want t m in
+          todo-to P L _ _ f R N _ _ _ _ _ _ want (ap (λ (z : ℕ). s .q + 3 + z) e) refl refl refl (g .skip (λ z. b (z ∙ told (g .w) (sym (g .byte))))))
 
   -- an operation of fewer kinds
   pub narrower : (low high : ℕ) → low ≤ getD P (s .q) 0 → getD P (s .q) 0 ≤ high → AskOp P L S X s low high

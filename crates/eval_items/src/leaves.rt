@@ -1,4 +1,4 @@
-// What an item of a plan says by itself, without a walk: a literal, a name, an index, a slice, and the operations of a filter's code on values.
+// What an item of a plan says by itself, with no query evaluated: a literal, a name, an index, a slice, and the operations of a filter's code on values.
 use crate::Regs;
 use crate::plans;
 use crate::regexes;
@@ -34,7 +34,7 @@ ghost use Rattle.definition.specs.Tables.{nodeCount};
 ghost use Rattle.table_laws.specs.Accepted.{Accepted};
 ghost use Rattle.eval_items.specs.Leaves.{AskValue, DoneValue, constantOf, AskOne, DoneOne, AskSlice, DoneSlice, AskWalk, DoneWalk, AskOp, DoneOp, beginsAt, capFor};
 
-// count stops at 2^53-1, and a walk stops at one more than its cap.
+// count stops at 2^53-1, and evaluation stops at one more than its cap.
 const COUNT_CAP: usize = 9007199254740990;
 
 // ---- literals
@@ -407,7 +407,7 @@ pub fn begins(k: u8, root: usize, node: usize) -> usize
     node
 }
 
-// How many nodes are counted for what is asked of a query: one for a test or a first value, two for `value`, 2^53-1 for `count`. A walk counts one more than its cap.
+// How many nodes are counted for what is asked of a query: one for a test or a first value, two for `value`, 2^53-1 for `count`. Evaluation counts one more than its cap.
 pub fn cap_of(mode: u8) -> usize
     ensures { λ r. ⌜ r ≡ capFor mode ⌝ }
 {

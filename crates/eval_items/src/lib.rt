@@ -1,4 +1,4 @@
-// The leaves of a plan's run: what an item of a plan says by itself, without a walk over the table.
+// The leaves of a plan's run: what an item of a plan says by itself, with no query evaluated.
 //
 //   leaves   literals, names, indices, slices, and the operations of a filter's code on values
 //   plans    where the items of a plan end

@@ -71,7 +71,7 @@ module _ (T X : List ℕ) where
   unfolding go AllIn
   found-at tab i h f cap l r e = found-by (evalSegments f (nodeAt T X i) (nodeAt T X i ∷ [])) (all-segments T X tab f (nodeAt T X i) (nodeAt T X i ∷ []) (node-in T X tab i h, tt)) cap l r e
 
-  -- whether there is one; with a cap of 0 the walk stops at the first
+  -- whether there is one; with a cap of 0 evaluation stops at the first
   pub found-test : (ns : List Json) (cap count first : ℕ) → Found T X ns cap count first → ltb 0 count ≡ isFound ns
   unfolding isFound
   found-test [] cap count first f = let n = f .number in le-ltb 0 count (omega arith)

@@ -73,7 +73,7 @@ pub data Ask : Type 0 where
   forValue : Ask
   forFirst : Ask
 
--- the bytes behind the query, the cap of its walk, which counts one node more than its cap, and what its nodes give
+-- the bytes behind the query, the cap of its evaluation, which counts one node more than that, and what its nodes give
 pub record Asked : Type 0 where
   pub bytes : List ℕ
   pub cap : ℕ

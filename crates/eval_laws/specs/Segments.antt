@@ -1,4 +1,4 @@
--- Evaluation segment by segment is a walk depth first: segments over appended lists of nodes. Assumes nothing.
+-- Evaluation segment by segment goes depth first: segments over appended lists of nodes. Assumes nothing.
 use Prim.Native.Nat.{ℕ}
 use mathlib.Core.Path.{_≡_, refl, sym, ap, _∙_}
 use mathlib.Core.List.{List, [], _∷_, _++_, map, append-nil, append-assoc}

@@ -1,4 +1,4 @@
--- The steps of the walk's loops, over plain variables: what is left to do gives the whole. Assumes nothing.
+-- The steps of evaluation's loops, over plain variables: what is left to do gives the whole. Assumes nothing.
 use Prim.Native.Nat.{ℕ, zero, suc, _+_, _*_, _-_, _≤_, _<_}
 use mathlib.Core.Path.{_≡_, refl, sym, ap, _∙_, subst}
 use mathlib.Core.List.{List, [], _∷_, _++_, append-nil, append-assoc}

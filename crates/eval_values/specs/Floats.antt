@@ -1,33 +1,24 @@
 -- Finite floats by their bits, and numbers in the two ways in which they are put in order. Assumes nothing.
-use Prim.Native.Nat.{ℕ, zero, suc, _+_, _*_, _/_, _%_, _^_, _<_, Ordering, Ordering·lt, Ordering·eq, Ordering·gt, compare·zero-suc}
+use Prim.Native.Nat.{ℕ, zero, suc, _*_, _/_, _%_, _^_, _<_, Ordering, Ordering·lt, Ordering·eq, Ordering·gt, compare·zero-suc}
 use mathlib.Core.Path.{_≡_, refl, ap, _∙_}
 use mathlib.Core.Bool.{Bool, true, false, not}
 use native.Mathlib.Nat.{mul-one, zero-mul}
 use native.Mathlib.Omega.{arith}
-use lib.Dec.{T, eqb, leb, eqb·suc-zero}
+use lib.Dec.{T, eqb, eqb·suc-zero}
 use lib.IntN.{ℤ, pos, negsuc, negℤ, natAbs, _*ℤ_}
-use lib.Ieee.{Float, binary64, odd, ofFields, ofBits, nanBits}
+use lib.Ieee.{Float, binary64, ofBits, nanBits}
 use lib.Ieee.Bits.{nanBits-above}
 use lib.Ieee.Scale.{finite}
-use borrow.Author.Tests.{ne-eqb, ltb-true, le-ltb}
+use borrow.Author.Tests.{ltb-true, le-ltb}
 use Rattle.definition.specs.Tables.{isFinite}
 use Rattle.definition.specs.Compare.{Fraction, orderFractions, wholeFraction, floatFraction}
 use Rattle.definition.specs.Compare as D
+use Rattle.number_order.specs.Finite.{bits-finite as finite-bits}
 use Rattle.number_order.specs.Exact.{ofInteger, ofFloat, orderOf, answer}
 use Rattle.number_order.specs.declared.Order.{Order}
 use Rattle.number_order.specs.declared.Order.the-variants as number
 use Rattle.eval_values.specs.declared.ranks.Rank.{Rank}
 use Rattle.eval_values.specs.Ranks.{ranked, ordered}
-
-odd-finite : (d : ℕ) (s : Bool) (q k l : ℕ) → T (finite (odd d s q k l))
-unfolding odd
-odd-finite d s zero k l = tt
-odd-finite d s (suc q) k l = tt
-
-fields-finite : (s : Bool) (x t : ℕ) → x < 2047 → T (finite (ofFields binary64 s x t))
-unfolding ofFields
-fields-finite s zero t h = odd-finite 53 s t 0 1074
-fields-finite s (suc x) t h = rw (ne-eqb (suc x) 2047 (omega arith)) (odd-finite 53 s (2 ^ 52 + t) x 1074)
 
 -- bits whose exponent's field is not all ones
 small-bits : (b : ℕ) → isFinite b ≡ true → b % 2 ^ 63 < 2047 * 2 ^ 52
@@ -36,8 +27,7 @@ small-bits b h = let l = ltb-true (b % 2 ^ 63 / 2 ^ 52) 2047 h in omega arith
 
 -- are those of a finite float
 pub bits-finite : (b : ℕ) → isFinite b ≡ true → T (finite (ofBits binary64 b))
-unfolding ofBits
-bits-finite b h = let l = small-bits b h in fields-finite (leb (2 ^ 63) b) (b % 2 ^ 63 / 2 ^ 52) (b % 2 ^ 52) (omega arith)
+bits-finite b h = finite-bits b (small-bits b h)
 
 -- and of no NaN
 pub bits-number : (b : ℕ) → isFinite b ≡ true → nanBits binary64 b ≡ false

@@ -1,4 +1,5 @@
 -- A float's value from its bit pattern; an integer and a float, and two floats, in the order of their cross products. Assumes nothing.
+use Rattle.number_order.specs.Finite.{bits-finite}
 use mathlib.Core.Path.{_≡_, refl, sym, ap, _∙_, subst}
 use mathlib.Core.Bool.{Bool, true, false, not, cond}
 use Prim.Native.Nat.{ℕ, zero, suc, _+_, _-_, _*_, _/_, _%_, _^_, _≤_, _<_}
@@ -12,7 +13,7 @@ use lib.Ieee.Bits.{ofBits-toBits, toBits-lt, nanBits-is}
 use lib.Ieee.Exact.{HasValue, odd-sign}
 use lib.Ieee.Fits.{down-pos}
 use lib.Ieee.Scale.{finite}
-use borrow.Author.Tests.{lt-ltb, le-leb, lt-leb, eqb-false, ne-eqb}
+use borrow.Author.Tests.{lt-ltb, le-leb, lt-leb, eqb-false}
 use Rattle.number_integers.specs.Signed.{signed}
 use Rattle.number_order.specs.Exact.{orderZ, ofInteger, ofFloat, orderOf, significand, shift}
 use Rattle.number_order.proofs.Orders.{signed-times, scale-order}
@@ -83,21 +84,6 @@ unfolding isNan
 no-nan nan t = absurd t
 no-nan (inf s) t = tt
 no-nan (fin s m e) t = tt
-
-odd-finite : (d : ℕ) (s : Bool) (q k l : ℕ) → T (finite (odd d s q k l))
-unfolding odd
-odd-finite d s zero k l = tt
-odd-finite d s (suc q) k l = tt
-
-fields-finite : (s : Bool) (x t : ℕ) → x < 2047 → T (finite (ofFields binary64 s x t))
-unfolding ofFields
-fields-finite s zero t h = odd-finite 53 s t 0 1074
-fields-finite s (suc x) t h = rw (ne-eqb (suc x) 2047 (omega arith)) (odd-finite 53 s (2 ^ 52 + t) x 1074)
-
--- A pattern whose exponent's field is not all ones is a finite float's.
-pub bits-finite : (b : ℕ) → b % 2 ^ 63 < 2047 * 2 ^ 52 → T (finite (ofBits binary64 b))
-unfolding ofBits
-bits-finite b h = fields-finite (leb (2 ^ 63) b) (b % 2 ^ 63 / 2 ^ 52) (b % 2 ^ 52) (omega arith)
 
 -- So it is no NaN's.
 pub bits-number : (b : ℕ) → b % 2 ^ 63 < 2047 * 2 ^ 52 → T (not (nanBits binary64 b))

@@ -19,7 +19,7 @@ use Rattle.parser_scan.specs.Text.{Is, Skipped, OperatorAt}
 use Rattle.compile_writes.specs.Effects.{Effect, Writer, join, seq, mark, bytes, first, verdict}
 use Rattle.compile_writes.specs.Sorts.{Sort, sortBasic, sortParen, sortTest, sortComparable, sortFunction, valueVerdict, comparedVerdict}
 use Rattle.compile_writes.specs.Writes.{writeParen, writeTest, writeBasic, writeComparable, notTail}
-use Rattle.parser_follow.specs.Follow.{unblank, After}
+use Rattle.parser_follow.specs.Follow.{unblank, After, after-weaken}
 use Rattle.parser_follow.specs.Numbers.{sortNumber, sortOf, isComparable, operatorNumber}
 use Rattle.parser_follow.specs.Pieces.{Operand, spellOperand, writeOperand, operandFlag, Side, spellSide, writeSide, BehindOf, spellBehindOf, writeBehindOf, behindOfSort, Negation, spellNegation, writeNegation}
 use Rattle.parser_follow.specs.Pieces.Operand.{queryOperand, functionOperand}
@@ -30,7 +30,6 @@ use Rattle.parser_items.specs.Laws.{Moved, done-then, done-seq, done-skip, mark
 use Rattle.parser_items.specs.declared.Cursor.{Cursor}
 use Rattle.parser_items.specs.declared.Step.{Step}
 use Rattle.parser_items.specs.declared.Step.the-variants as step
-use Rattle.parser_laws.specs.Follows.{after-weaken}
 use Rattle.parser_laws.specs.So.{so-reads, so-none}
 use Rattle.parser_laws.specs.Sorted.{sort-of}
 use Rattle.parser_laws.specs.Query.{meOperand}

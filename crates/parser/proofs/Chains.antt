@@ -19,8 +19,8 @@ use Rattle.compile_writes.specs.Effects.{join, seq}
 use Rattle.compile_writes.specs.Sorts.{Sort, sortOr, sortMoreAnd, sortMoreOr, sortArgument}
 use Rattle.compile_writes.specs.Writes.{writeOr, writeMoreAnd, writeMoreOr, writeArgument}
 use Rattle.compile_writes.specs.Sizes.{sizedMoreAnd}
-use Rattle.parser_follow.specs.Follow.{levelOf, After}
-use Rattle.parser_follow.specs.Numbers.{sortNumber, sortOf}
+use Rattle.parser_follow.specs.Follow.{levelOf, After, after-weaken}
+use Rattle.parser_follow.specs.Numbers.{sortNumber, sortOf, sort-small}
 use Rattle.parser_follow.specs.Pieces.{Operand, spellOperand, writeOperand, operandFlag, spellBehindOf, writeBehindOf, behindOfSort, ChainedOf, spellChainedOf, writeChainedOf, chainedOfSort}
 use Rattle.parser_follow.specs.Pieces.Operand.{literalOperand, queryOperand, functionOperand}
 use Rattle.parser_items.specs.Reads.{Asks, Done, Read, Post, Operates, next, stop}
@@ -28,7 +28,6 @@ use Rattle.parser_items.specs.Laws.{done-seq, read-of}
 use Rattle.parser_items.specs.declared.Cursor.{Cursor}
 use Rattle.parser_items.specs.declared.Step.{Step}
 use Rattle.parser_items.specs.declared.Step.the-variants as step
-use Rattle.parser_laws.specs.Follows.{after-weaken}
 use Rattle.parser_laws.specs.So.{so-none}
 use Rattle.parser_laws.specs.Sorted.{sort-of}
 use Rattle.parser_laws.specs.Joins.{join-pool}
@@ -39,7 +38,7 @@ use Rattle.parser_laws.specs.Argument.{argument-logical, chained-reads, chained
 use Rattle.parser.proofs.Steps.{asks-read, done-is, post-so, stay}
 use Rattle.parser.proofs.Basics.{behind-nothing}
 use Rattle.parser.proofs.Logic.{and-loop, and-end, or-loop, or-end}
-use Rattle.parser.proofs.Operands.{sort-small, asks-behind, reads-at, done-at, operand-then}
+use Rattle.parser.proofs.Operands.{asks-behind, reads-at, done-at, operand-then}
 
 -- ---- what is left of a logical expression behind its first operand
 

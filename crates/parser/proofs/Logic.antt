@@ -23,11 +23,10 @@ use Rattle.utf8_laws.specs.Bytes.{by-test}
 use Rattle.utf8_laws.specs.Encode.{utf8-ascii}
 use Rattle.compile_writes.specs.Effects.{Marks, joinMarks, Effect, Writer, join, skip}
 use Rattle.compile_writes.specs.Sorts.{Sort, sortMoreOr, sortMoreAnd, sortOr, sortAnd, sortBasic, sortsOf, comparedVerdict}
-use Rattle.compile_writes.specs.Sorts.Sort.{literalSort, singularSort, nodesSort, valueSort, logicalSort}
 use Rattle.compile_writes.specs.Writes.{writeOr, writeMoreOr, writeAnd, writeMoreAnd, writeBasic, testTail}
-use Rattle.compile_writes.specs.Sizes.{sizedBasic, sizedAnd}
+use Rattle.compile_writes.specs.Sizes.{sizedBasic, sizedAnd, test-tail}
 use Rattle.parser_follow.specs.Follow.{unblank, After}
-use Rattle.parser_follow.specs.Numbers.{argumentsFrom}
+use Rattle.parser_follow.specs.Numbers.{argumentsFrom, sort-small}
 use Rattle.parser_scan.specs.Text.{Skipped, Is, Both}
 use Rattle.parser_items.specs.Reads.{marksOf, Asks, Done, Read, Post, Put, Opens, Room, Known, sortNumber, sortOf, oneMore, next, stop}
 use Rattle.parser_items.specs.Laws.{Moved, done-then, done-plan, asks-less}
@@ -53,14 +52,6 @@ room n h st = omega (arith, st .plan)
 -- a sort's number is a flag that is known
 pub small-known : {f : ℕ} → f ≤ 4 → Known f
 small-known h = record { small = omega arith }
-
--- the number of a sort is at most 4
-pub sort-small : (s : Sort) → sortNumber s ≤ 4
-sort-small literalSort = lit≤ tt
-sort-small singularSort = lit≤ tt
-sort-small nodesSort = lit≤ tt
-sort-small valueSort = lit≤ tt
-sort-small logicalSort = lit≤ tt
 
 module _ {T : Type 0} {sp : T → List ℕ → List ℕ} {w : T → Writer} (g : T → Sort) {k : ℕ} {s P P' L L' : List ℕ} {a b : Cursor} {f : ℕ} where
   -- what is told of a tree by its sort is a sort's number
@@ -134,15 +125,6 @@ asks-wrote {n = n} {P = P} {c = c} st w =
     let l = ap length (w .is) ∙ length-sets P n c in
     record { text = st .text; plan = omega (arith, st .plan); pool = st .pool; small = omega (arith, st .small); smallPool = st .smallPool; utf8 = st .utf8 }
 
--- the tail of a test is at most 3 bytes
-tail-length : (s : Sort) → length (testTail s) ≤ 3
-unfolding testTail
-tail-length literalSort = lit≤ tt
-tail-length singularSort = lit≤ tt
-tail-length nodesSort = lit≤ tt
-tail-length valueSort = lit≤ tt
-tail-length logicalSort = lit≤ tt
-
 -- ---- an operator of two bytes, the tail of the operand before it, and the head of the frame for the operand behind it
 
 -- Between the cursor now, behind an operand, and the cursor head, at the next one, `x x` was passed over and `tail` and the frame's head were written; left is the cursor before the frame.
@@ -163,7 +145,7 @@ asks-operator x {a} {b} {s} h st k i j m =
 
 -- and so behind the tail
 pub asks-tailed : {s P P' L : List ℕ} {a b : Cursor} (σ : Sort) {x : ℕ} → Asks (x + 3) s P L a → Put P P' a b (testTail σ) → Asks x s P' L b
-asks-tailed σ st p = asks-put st p (omega (arith, tail-length σ))
+asks-tailed σ st p = asks-put st p (omega (arith, test-tail σ))
 
 pub ready : (x : ℕ) (σ : Sort) {code a b : ℕ} {s P P₁ P₂ L : List ℕ} {now mv left hd : Cursor} → x < 0x80 → Asks 0 s P L now → Skipped s (now .at) a → Both s a x x true → Skipped s (a + 2) b → Moved now mv b
     → Put P P₁ mv left (testTail σ) → Put P₁ P₂ left hd (code ∷ 0 ∷ 0 ∷ []) → Ready x code (testTail σ) s P P₁ P₂ L now left hd

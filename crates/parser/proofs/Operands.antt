@@ -18,12 +18,11 @@ use Rattle.basics.specs.Reads.{Reads, ReadsNone, StartsNot}
 use Rattle.parser_scan.specs.Text.{Is, Skipped, WordAt, namedNumber}
 use Rattle.compile_writes.specs.Effects.{Effect, Writer, join, seq, mark, bytes, skip}
 use Rattle.compile_writes.specs.Sorts.{Sort, singularSegments, tightSegments, querySort, sortParen, sortFunction}
-use Rattle.compile_writes.specs.Sorts.Sort.{literalSort, singularSort, nodesSort, valueSort, logicalSort}
 use Rattle.compile_writes.specs.Writes.{writeFrom, writeSegments, writeParen, writeComparable}
 use Rattle.compile_writes.specs.Spellings.{operator-spends}
 use Rattle.compile_writes.specs.Sizes.{Sized, sizedLiteral, sizedFilterQuery, sizedFunction, sizedComparable, sizedParen, sizedSegments}
 use Rattle.parser_follow.specs.Follow.{unblank, After}
-use Rattle.parser_follow.specs.Numbers.{sortNumber, sortOf, segmentsFlag, pathNumber, flagOfPath, nameOf, noFlag, Known, operatorNumber}
+use Rattle.parser_follow.specs.Numbers.{sortNumber, sortOf, segmentsFlag, pathNumber, flagOfPath, nameOf, noFlag, Known, operatorNumber, sort-small}
 use Rattle.parser_follow.specs.Leaves.{spellConstant, writeConstant, spellKeyword, writeKeyword}
 use Rattle.parser_follow.specs.Pieces.{Operand, spellOperand, writeOperand, operandFlag, queryFlag, Side, spellSide, writeSide, Behind, spellBehind, writeBehind, BehindOf, spellBehindOf, writeBehindOf, behindOfSort, spellCall, writeCall, callSort}
 use Rattle.parser_follow.specs.Pieces.Operand.{literalOperand, queryOperand, functionOperand}
@@ -39,15 +38,7 @@ use Rattle.parser.proofs.Steps.{asks-moved, asks-read, done-is, post-so
 
 -- ---- numbers that are told
 
--- a sort's number is small
-pub sort-small : (σ : Sort) → sortNumber σ ≤ 4
-sort-small literalSort = omega arith
-sort-small singularSort = omega arith
-sort-small nodesSort = omega arith
-sort-small valueSort = omega arith
-sort-small logicalSort = omega arith
-
--- so is what is told of segments, which the limit 2 leaves as it is
+-- what is told of segments is small, and the limit 2 leaves it as it is
 path-small : (a u : Bool) → (pathNumber a u ≤ 2) × (min 2 (pathNumber a u) ≡ pathNumber a u)
 path-small true true = (omega arith, refl)
 path-small true false = (omega arith, refl)

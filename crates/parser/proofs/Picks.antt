@@ -17,11 +17,10 @@ use Rattle.basics.specs.Reads.{Reads, ReadsNone, StartsNot, Wrote}
 use Rattle.utf8_laws.specs.Encode.{utf8-ascii}
 use Rattle.compile_writes.specs.Effects.{Effect, Writer, join, skip, counted}
 use Rattle.compile_writes.specs.Sorts.{Sort, sortOr, singularSegments, tightSegments}
-use Rattle.compile_writes.specs.Sorts.Sort.{literalSort, singularSort, nodesSort, valueSort, logicalSort}
-use Rattle.compile_writes.specs.Sizes.{sizedSegment, sizedOr}
+use Rattle.compile_writes.specs.Sizes.{sizedSegment, sizedOr, test-tail}
 use Rattle.compile_writes.specs.Writes.{writeOr, testTail, writeSegments, writeSegment, writeSelector}
 use Rattle.parser_follow.specs.Follow.{hd, unblank, After, isSegmentByte}
-use Rattle.parser_follow.specs.Numbers.{sortNumber, sortOf, Known, pathNumber, segmentsFlag, segmentFlag, plainFlag, bracketedFlag, noFlag, writeSelection}
+use Rattle.parser_follow.specs.Numbers.{sortNumber, sortOf, Known, pathNumber, segmentsFlag, segmentFlag, plainFlag, bracketedFlag, noFlag, writeSelection, sort-small}
 use Rattle.parser_follow.specs.Leaves.{spellDotted, writeDotted, dottedFlag, spellPlain, writePlain, isPlain}
 use Rattle.parser_follow.specs.Pieces.{Filter, spellFilter, writeFilter}
 use Rattle.parser_scan.specs.Text.{Is, Both, Has, Skipped}
@@ -195,14 +194,6 @@ segment-by-brackets {a = a} i p = post-at 0 (segment-no-dot (a .pool) i) (omega 
 
 -- ---- one selector
 
--- the number of a sort is one of five
-pub sort-small : (x : Sort) → sortNumber x ≤ 4
-sort-small literalSort = omega arith
-sort-small singularSort = omega arith
-sort-small nodesSort = omega arith
-sort-small valueSort = omega arith
-sort-small logicalSort = omega arith
-
 pub known-sort : {f : ℕ} (x : Sort) → f ≡ sortNumber x → Known f
 known-sort x e = record { small = omega (arith, sort-small x) }
 
@@ -230,15 +221,6 @@ selector-by-plain {s = s} {a = a} i (next {b = c} {f = f} h) =
     })
 
 -- ---- a filter
-
--- what makes a test of an expression is three bytes at most
-pub testTail-short : (x : Sort) → length (testTail x) ≤ 3
-unfolding testTail
-testTail-short literalSort = omega arith
-testTail-short singularSort = omega arith
-testTail-short nodesSort = omega arith
-testTail-short valueSort = omega arith
-testTail-short logicalSort = omega arith
 
 module _ {s P P₁ Q : List ℕ} {a d h : Cursor} {e : ℕ} (st : Asks 3 s P Q a) (sk : Skipped s (a .at) e) (mv : Moved a d e) (op : Put P P₁ d h (0x09 ∷ 0 ∷ 0 ∷ [])) where
   -- the expression may be read
@@ -271,7 +253,7 @@ module _ {s P P₁ Q : List ℕ} {a d h : Cursor} {e : ℕ} (st : Asks 3 s P Q a
       pub filter-length : m .len ≤ length P₃
       filter-length =
           let r = filter-room in
-          let t = testTail-short (sortOf f) in
+          let t = test-tail (sortOf f) in
           let l = ap length (tl .plan) ∙ length-sets P₂ (n .len) (testTail (sortOf f)) in
           omega (arith, r .plan, tl .len)
 

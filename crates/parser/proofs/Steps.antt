@@ -12,10 +12,10 @@ use Rattle.compile_writes.specs.Laws.{effect-assoc, join-none as join-noMarks}
 use Rattle.basics.specs.Reads.{Reads, ReadsNone, Wrote}
 use Rattle.compile_writes.specs.Effects.{Marks, Effect, Writer, noMarks, joinMarks, join, seq, bytes, mark, frame}
 use Rattle.compile_writes.specs.Sizes.{Sized}
-use Rattle.parser_follow.specs.Follow.{unblank, After}
+use Rattle.parser_follow.specs.Follow.{unblank, After, after-weaken}
 use Rattle.parser_scan.specs.Text.{Skipped}
 use Rattle.parser_items.specs.Reads.{marksAt, marksOf, Asks, Done, Read, Post, LooseRead, Put, PutMarked, next, stop}
-use Rattle.parser_items.specs.Laws.{Moved, done-then, done-from, asks-go, after-weaken, join-none, put-done, mark-done, marked-done, done-frame}
+use Rattle.parser_items.specs.Laws.{Moved, done-then, done-from, asks-go, join-none, put-done, mark-done, marked-done, done-frame}
 use Rattle.parser_items.specs.declared.Cursor.{Cursor}
 use Rattle.parser_items.specs.declared.Step.{Step}
 use Rattle.parser_laws.specs.So.{So, so-reads, so-none}
@@ -104,7 +104,7 @@ module _ {T U : Type 0} {spT : T → List ℕ → List ℕ} {wT : T → Writer} 
       let e : _≡_ {A = Effect × ℕ} (wT (so .fill (h .tree)) (a .pool), flT (so .fill (h .tree))) (wU (h .tree) (a .pool), flU (h .tree)) = so .cod (h .tree) in
       record {
         tree = so .fill (h .tree);
-        reads = so-reads (λ x. x) so (λ l x. after-weaken le x) (subst (λ (n : ℕ). Reads {M = Effect × ℕ} spU (λ u. (wU u n, flU u)) (After j) (drop (b .at) s) (h .tree) (drop (c .at) s)) q (h .reads));
+        reads = so-reads (λ x. x) so (λ l x. after-weaken _ _ le x) (subst (λ (n : ℕ). Reads {M = Effect × ℕ} spU (λ u. (wU u n, flU u)) (After j) (drop (b .at) s) (h .tree) (drop (c .at) s)) q (h .reads));
         from = omega (arith, from, h .from);
         to = h .to;
         done = done-is (ap (λ (x : Effect × ℕ). x .0) e) (done-moved m (subst (λ (n : ℕ). Done P P' L L' b c (wU (h .tree) n)) q (h .done)));
@@ -115,7 +115,7 @@ module _ {T U : Type 0} {spT : T → List ℕ → List ℕ} {wT : T → Writer} 
   pub post-so : So {M = Effect × ℕ} spT (λ t. (wT t (a .pool), flT t)) spU (λ u. (wU u (a .pool), flU u)) (After k) (drop (a .at) s) (drop (b .at) s) (λ m. m) → j ≤ k → Moved a b at → a .at ≤ b .at
       → {r : Step} → Post spU wU flU j s P P' L L' b r → Post spT wT flT k s P P' L L' a r
   post-so so le m from (next {b = c} {f = f} h) = next {b = c} {f = f} (read-so so le m from h)
-  post-so so le m from (stop h) = stop (so-none (λ x. x) so (λ l x. after-weaken le x) h)
+  post-so so le m from (stop h) = stop (so-none (λ x. x) so (λ l x. after-weaken _ _ le x) h)
 
 -- a cursor at its own place
 pub stay : (a : Cursor) → Moved a a (a .at)

@@ -1,7 +1,9 @@
--- What may follow a tree of the grammar: the byte after blanks, by what it begins.
+-- What may follow a tree of the grammar: the byte after blanks, by what it begins. Assumes nothing.
 use mathlib.Core.Bool.{Bool, cond, _||_}
 use mathlib.Core.List.{List, [], _∷_}
-use Prim.Native.Nat.{ℕ, _<_}
+use mathlib.Core.Path.{_≡_}
+use Prim.Native.Nat.{ℕ, _≤_, _<_}
+use native.Mathlib.Omega.{arith}
 use lib.Dec.{eqb, leb}
 use Rattle.definition.specs.Lexical.{isBlank, isAlpha, isDigit}
 
@@ -38,3 +40,13 @@ levelOf c =
 
 pub record After (k : ℕ) (r : List ℕ) : Type 0 where
   pub above : k < levelOf (hd (unblank r))
+
+-- what may follow a tree of a level may follow one of a lower level
+pub after-weaken : (j k : ℕ) {r : List ℕ} → j ≤ k → After k r → After j r
+after-weaken j k h a = record { above = omega (arith, a .above) }
+
+-- a byte of no higher level may not follow, with blanks before it or without
+pub after-not : (k : ℕ) {s : List ℕ} (c : ℕ) {r : List ℕ} → unblank s ≡ c ∷ r → levelOf c ≤ k → After k s → ⊥
+after-not k c e h a =
+    let f : k < levelOf c = rw e at (a .above) in
+    omega arith

@@ -2,6 +2,7 @@
 use mathlib.Core.Bool.{Bool, true, false, cond}
 use mathlib.Core.List.{List, [], _∷_}
 use Prim.Native.Nat.{ℕ, _+_, _*_, _-_, _/_, _%_, _≤_}
+use native.Mathlib.Omega.{arith}
 use lib.Dec.{eqb, leb}
 use Rattle.definition.specs.Grammar as G
 use Rattle.definition.specs.Walk.{Named, operatorForm}
@@ -25,6 +26,14 @@ sortNumber singularSort = 1
 sortNumber nodesSort = 2
 sortNumber valueSort = 3
 sortNumber logicalSort = 4
+
+-- a sort's number is one of five
+pub sort-small : (σ : Sort) → sortNumber σ ≤ 4
+sort-small literalSort = omega arith
+sort-small singularSort = omega arith
+sort-small nodesSort = omega arith
+sort-small valueSort = omega arith
+sort-small logicalSort = omega arith
 
 -- 2 for what a singular-query spells, 1 for what is singular as a form alone, 0 for neither
 abbrev pub pathNumber : Bool → Bool → ℕ

@@ -22,6 +22,7 @@ use Rattle.definition.specs.Lexical.Exponent.{noExponent, exponent}
 use Rattle.definition.specs.Literals.{Numeral, numeral, textBytes}
 use Rattle.definition.specs.Utf8.{isUtf8}
 use Rattle.basics.specs.Reads.{ReadsNone, StartsNot}
+use Rattle.parser_follow.specs.Follow.{after-weaken}
 use Rattle.number_literals.specs.Values.{meaning}
 use Rattle.number_literals.specs.declared.Literal.{Literal}
 use Rattle.number_literals.specs.declared.Literal.the-variants as literal
@@ -37,7 +38,7 @@ use Rattle.compile_writes.specs.Effects.{Effect, pooling}
 use Rattle.compile_writes.specs.Writes.{writeNumeral}
 use Rattle.parser_follow.specs.Leaves.{numberConstant, textConstant}
 use Rattle.parser_items.specs.Reads.{levelOf, After, Done, Post, next, stop, noFlag, Put, Constant, spellConstant, writeConstant}
-use Rattle.parser_items.specs.Laws.{Moved, moved-done, put-put, put-done, Marked, marked-put, done-marked, after-starts, after-weaken}
+use Rattle.parser_items.specs.Laws.{Moved, moved-done, put-put, put-done, Marked, marked-put, done-marked, after-starts}
 use Rattle.parser_items.specs.Follow.{inner-digit, isIntStart}
 use Rattle.parser_items.specs.declared.Cursor.{Cursor}
 use Rattle.parser_items.specs.declared.Step.{Step}
@@ -166,7 +167,7 @@ constant-text {s} a x f i (stop h) = stop (record { none = none })
   where
     none : (t : Constant) (r : List ℕ) → After 1 r → drop (a .at) s ≡ spellConstant t r → ⊥
     none (numberConstant n) r m e = number-not n r x (drop (a .at + 1) s) f (i .1) e
-    none (textConstant t) r m e = h .none t r (after-weaken (omega arith) m) e
+    none (textConstant t) r m e = h .none t r (after-weaken _ _ (omega arith) m) e
 constant-text {s} a x f i (next {b = b} h) =
     next {b = b} (record {
       tree = textConstant (h .tree);
@@ -180,4 +181,4 @@ constant-text {s} a x f i (next {b = b} h) =
   where
     only : (t : Constant) (r : List ℕ) → After 1 r → drop (a .at) s ≡ spellConstant t r → _≡_ {A = Effect × ℕ} (writeConstant t (a .pool), 0) (writeConstant (textConstant (h .tree)) (a .pool), 0) × (r ≡ drop (b .at) s)
     only (numberConstant n) r m e = absurd (number-not n r x (drop (a .at + 1) s) f (i .1) e)
-    only (textConstant t) r m e = h .reads .only t r (after-weaken (omega arith) m) e
+    only (textConstant t) r m e = h .reads .only t r (after-weaken _ _ (omega arith) m) e

@@ -1,5 +1,6 @@
 -- The selectors that do not nest, by their first byte: a quote begins a name, and `*` is the wildcard.
 -- Assumes nothing.
+use Rattle.parser_follow.specs.Follow.{after-weaken}
 use mathlib.Core.Path.{_≡_, refl, sym, ap, _∙_}
 use mathlib.Core.Bool.{true, false}
 use mathlib.Core.List.{List, [], _∷_}
@@ -17,7 +18,7 @@ use Rattle.parser_scan.specs.Text.{Is, unblank}
 use Rattle.compile_writes.specs.Effects.{Effect, pooling}
 use Rattle.parser_follow.specs.Leaves.{textPlain, wildPlain, slicePlain, indexPlain}
 use Rattle.parser_items.specs.Reads.{After, Post, LoosePost, next, stop, Put, Plain, spellPlain, writePlain, isPlain}
-use Rattle.parser_items.specs.Laws.{Moved, moved-done, put-done, after-weaken}
+use Rattle.parser_items.specs.Laws.{Moved, moved-done, put-done}
 use Rattle.parser_items.specs.Follow.{isIntStart}
 use Rattle.parser_items.specs.declared.Cursor.{Cursor}
 use Rattle.parser_items.specs.declared.Step.{Step}
@@ -47,7 +48,7 @@ module _ {s P P' L L' : List ℕ} (a : Cursor) (x : ℕ) (f : isIntStart x ≡ f
   selector-text (stop h) = stop (record { none = none })
     where
       none : (t : Plain) (r : List ℕ) → After 4 r → drop (a .at) s ≡ spellPlain t r → ⊥
-      none (textPlain t) r m e = h .none t r (after-weaken (omega arith) m) e
+      none (textPlain t) r m e = h .none t r (after-weaken _ _ (omega arith) m) e
       none wildPlain r m e = wild-not r x (drop (a .at + 1) s) w (i .1) e
       none (slicePlain t) r m e = slice-not t r x (drop (a .at + 1) s) f g (i .1) e
       none (indexPlain j) r m e = int-not j r x (drop (a .at + 1) s) f (i .1) e
@@ -66,7 +67,7 @@ module _ {s P P' L L' : List ℕ} (a : Cursor) (x : ℕ) (f : isIntStart x ≡ f
       })
     where
       alone : (t : Plain) (r : List ℕ) → After 4 r → drop (a .at) s ≡ spellPlain t r → _≡_ {A = Effect × ℕ} (writePlain t (a .pool), isPlain t) (writePlain (textPlain (h .tree)) (a .pool), 1) × (r ≡ drop (b .at) s)
-      alone (textPlain t) r m e = h .reads .only t r (after-weaken (omega arith) m) e
+      alone (textPlain t) r m e = h .reads .only t r (after-weaken _ _ (omega arith) m) e
       alone wildPlain r m e = absurd (wild-not r x (drop (a .at + 1) s) w (i .1) e)
       alone (slicePlain t) r m e = absurd (slice-not t r x (drop (a .at + 1) s) f g (i .1) e)
       alone (indexPlain j) r m e = absurd (int-not j r x (drop (a .at + 1) s) f (i .1) e)

@@ -14,13 +14,14 @@ use Rattle.definition.specs.Lexical.Step.{noStep, colon, step}
 use Rattle.definition.specs.Utf8.{isUtf8}
 use Rattle.parser_follow.specs.Blanks.{split-blanks, unblank-blanks}
 use Rattle.basics.specs.Reads.{StartsNot}
+use Rattle.parser_follow.specs.Follow.{after-not}
 use Rattle.utf8_laws.specs.Encode.{utf8-ascii}
 use Rattle.parser_scan.specs.Text.{Is, Skipped, unblank}
 use Rattle.compile_writes.specs.Effects.{Effect, Writer, bytes, mark, verdict, seq}
 use Rattle.compile_writes.specs.Writes.{writeIndex, writeSlice, boundBit, boundBytes, boundVerdict, stepBit, stepBytes, stepVerdict}
 use Rattle.parser_follow.specs.Leaves.{textPlain, wildPlain, slicePlain, indexPlain}
 use Rattle.parser_items.specs.Reads.{After, Done, LoosePost, next, stop, PutMarked, Plain, spellPlain, writePlain, isPlain}
-use Rattle.parser_items.specs.Laws.{Moved, moved-done, done-marked, unblank-twice, after-not}
+use Rattle.parser_items.specs.Laws.{Moved, moved-done, done-marked, unblank-twice}
 use Rattle.parser_items.specs.Follow.{isIntStart, inner-digit, after-digit, after-int}
 use Rattle.parser_items.specs.Ranges.{Field, intField, noField, boundField, stepField, fieldOf, IntThere, NoInt, IntOrNot, StepThere, NoText, bitOf, sliceBytes, sliceMarks}
 use Rattle.parser_items.specs.declared.ranges.Piece.{Piece}
@@ -31,7 +32,7 @@ use Rattle.parser_items.proofs.Ints.{int-not, int-unblank, int-utf8, af
 
 -- a colon is no blank, and nothing that begins with one may follow a tree
 after-no-colon : {k : ℕ} (l r : List ℕ) → unblank l ≡ 0x3A ∷ r → After k l → ⊥
-after-no-colon l r e a = after-not l 0x3A r e (omega arith) a
+after-no-colon l r e a = after-not _ {s = l} 0x3A {r = r} e (omega arith) a
 
 -- ---- the step
 

@@ -1,17 +1,17 @@
 -- Runs of stores one behind the other. Assumes nothing.
-use mathlib.Core.Path.{_≡_, refl, sym, ap, _∙_}
+use mathlib.Core.Path.{refl, sym, ap, _∙_}
 use mathlib.Core.Bool.{false}
-use mathlib.Core.List.{List, _∷_, _++_}
+use mathlib.Core.List.{List, _∷_}
 use Prim.Native.Nat.{ℕ, _+_}
 use native.Mathlib.Numerals.{add-one}
 use native.Mathlib.Omega.{arith}
-use lib.ListN.{length, set}
+use lib.ListN.{set}
 use lib.Seq.{sets}
 use Rattle.basics.specs.Reads.{Wrote}
 use Rattle.definition.specs.Bytes.{littleEndian}
 use Rattle.definition.specs.Plans.{two}
 use Rattle.definition_bytes.specs.Numbers.{little-endian-length}
-use Rattle.basics.specs.Lists.{sets-append}
+use Rattle.basics.specs.Stores.{wrote-then}
 use Rattle.compile_writes.specs.Effects.{first, joinMarks}
 use Rattle.parser_items.specs.Reads.{Put, Pooled}
 use Rattle.parser_items.specs.Laws.{Marked, marked-then}
@@ -20,10 +20,6 @@ use Rattle.parser_items.specs.declared.Cursor.{Cursor}
 -- a byte and then a run
 pub set-run : {p q : List ℕ} {n x : ℕ} {c : List ℕ} → Wrote (set p n x) (n + 1) c q → Wrote p n (x ∷ c) q
 set-run {p} {n = n} {x = x} {c = c} w = record { is = w .is ∙ ap (λ (k : ℕ). sets (set p n x) k c) (add-one n) }
-
--- a run and then another
-pub run-run : {p q r : List ℕ} {n m : ℕ} {c d : List ℕ} → Wrote p n c q → m ≡ n + length c → Wrote q m d r → Wrote p n (c ++ d) r
-run-run {p} {q} {r} {n} {m} {c} {d} v e w = record { is = w .is ∙ rw (e, v .is) (sets-append p n c d) }
 
 -- a byte and two numbers of two bytes
 pub pooled-put : (P : List ℕ) (a : Cursor) (kind n : ℕ) {Q R : List ℕ} → Wrote (set P (a .len) kind) (a .len + 1) (two (a .pool)) Q → Wrote Q (a .len + 3) (two n) R →
@@ -34,7 +30,7 @@ pooled-put P a kind n g h =
       len = refl;
       pool = refl;
       marks = refl;
-      plan = run-run {p = P} {c = kind ∷ two (a .pool)} (set-run {p = P} g) (omega (arith, little-endian-length 2 (a .pool))) h .is;
+      plan = wrote-then {p = P} {c = kind ∷ two (a .pool)} (a .len + 3) (set-run {p = P} g) (omega (arith, little-endian-length 2 (a .pool))) h .is;
     }
 
 -- eight bytes at the end of the plan

@@ -12,10 +12,11 @@ use Rattle.definition.specs.Lexical.{isBlank, isLcalpha, isDigit, isFunctionCha
 use Rattle.definition.specs.Utf8.{isUtf8, isUtf8From, afterByte}
 use Rattle.parser_follow.specs.Blanks.{unblank-byte}
 use Rattle.basics.specs.Reads.{StartsNot}
+use Rattle.parser_follow.specs.Follow.{after-not}
 use Rattle.utf8_laws.specs.Bytes.{by-test, inside, after-high, stays-bad}
 use Rattle.parser_scan.specs.Text.{isNameByte}
 use Rattle.parser_items.specs.Reads.{levelOf, After}
-use Rattle.parser_items.specs.Laws.{after-not, after-starts}
+use Rattle.parser_items.specs.Laws.{after-starts}
 
 -- ---- bytes that begin nothing that may follow
 
@@ -104,7 +105,7 @@ inner-name c h e =
 
 -- a text that begins with such a byte may not follow
 pub inner-not : {k : ℕ} (c : ℕ) (r : List ℕ) → Inner c → After k (c ∷ r) → ⊥
-inner-not c r i a = after-not (c ∷ r) c r (unblank-byte c r (i .solid)) (rw (i .unlevelled) (omega arith)) a
+inner-not c r i a = after-not _ {s = c ∷ r} c {r = r} (unblank-byte c r (i .solid)) (rw (i .unlevelled) (omega arith)) a
 
 pub after-inner : (p : ℕ → Bool) {k : ℕ} (r : List ℕ) → ((c : ℕ) → p c ≡ true → Inner c) → After k r → StartsNot p r
 after-inner p {k} r f a = after-starts p r (λ c e. (f c e .solid, rw (f c e .unlevelled) (omega arith))) a

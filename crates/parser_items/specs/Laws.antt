@@ -19,6 +19,7 @@ use Rattle.basics.specs.Lists.{set-sets, sets-append}
 use Rattle.compile_writes.specs.Laws.{effect-assoc, join-assoc as joinMarks-assoc, join-none as join-noMarks}
 use Rattle.parser_follow.specs.Blanks.{unblank-blanks, unblank-byte}
 use Rattle.basics.specs.Reads.{ReadsNone, StartsNot, Wrote}
+use Rattle.parser_follow.specs.Follow.{after-not}
 use Rattle.utf8_laws.specs.Bytes.{by-test}
 use Rattle.parser_scan.specs.Text as scanned
 use Rattle.parser_scan.specs.Text.{unblank, isNameByte, NameAt, ReadsName, WordAt, ReadsWord, OperatorAt, ReadsOperator}
@@ -246,10 +247,6 @@ unblank-twice s = unblank-starts (unblank s) (unblank-not s)
 
 -- ---- what may follow
 
--- what may follow a tree of a level may follow one of a lower level
-pub after-weaken : {j k : ℕ} {r : List ℕ} → j ≤ k → After k r → After j r
-after-weaken h a = record { above = omega (arith, a .above) }
-
 -- blanks may stand before what may follow
 pub after-blanks : {k : ℕ} (b : Blanks) {r : List ℕ} → After k r → After k (spellBlanks b r)
 after-blanks b {r} a = record { above = rw (unblank-blanks b r) (a .above) }
@@ -266,19 +263,13 @@ after-byte c r e h = record { above = rw e h }
 pub after-end : {k : ℕ} → k < 6 → After k []
 after-end h = record { above = h }
 
--- a byte of no higher level may not follow, with blanks before it or without
-pub after-not : {k : ℕ} (s : List ℕ) (c : ℕ) (r : List ℕ) → unblank s ≡ c ∷ r → levelOf c ≤ k → After k s → ⊥
-after-not {k} s c r e h a =
-    let f : k < levelOf c = rw e at (a .above) in
-    omega arith
-
 -- where the bytes that pass a test are no blanks and have no higher level, what follows begins with none of them
 pub after-starts : (p : ℕ → Bool) {k : ℕ} (r : List ℕ) → ((c : ℕ) → p c ≡ true → (isBlank c ≡ false) × (levelOf c ≤ k)) → After k r → StartsNot p r
 unfolding StartsNot
 after-starts p [] f a = tt
 after-starts p (c ∷ r) f a =
     by-test (p c)
-    (λ t. let h = f c t in absurd (after-not (c ∷ r) c r (unblank-byte c r (h .0)) (h .1) a))
+    (λ t. let h = f c t in absurd (after-not _ {s = c ∷ r} c {r = r} (unblank-byte c r (h .0)) (h .1) a))
     (λ n. n)
 
 -- ---- what a function tells of its reading

@@ -13,9 +13,9 @@ use native.Mathlib.Nat.{add-zero}
 use Rattle.compile_writes.specs.Effects.{Effect, seq, join, mark}
 use Rattle.compile_writes.specs.Sorts.{Sort, sortBasic, sortAnd, sortMoreAnd, comparedVerdict}
 use Rattle.compile_writes.specs.Writes.{writeBasic, writeAnd, writeMoreAnd}
-use Rattle.parser_follow.specs.Follow.{After}
+use Rattle.parser_follow.specs.Follow.{After, after-weaken}
 use Rattle.parser_follow.specs.Numbers.{sortNumber}
-use Rattle.parser_laws.specs.Follows.{after-weaken, after-blanks}
+use Rattle.parser_laws.specs.Follows.{after-blanks}
 use Rattle.parser_laws.specs.Sorted.{same-sort}
 
 -- what is known of a tree that is read at the pool place p

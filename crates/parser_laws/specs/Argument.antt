@@ -20,12 +20,11 @@ use Rattle.basics.specs.Reads.{Reads, ReadsNone, StartsNot}
 use Rattle.compile_writes.specs.Effects.{Effect, join, joinMarks, seq, skip}
 use Rattle.compile_writes.specs.Sorts.{Sort, sortArgument, sortOr, sortAnd, sortBasic, sortMoreAnd, sortMoreOr, sortFunction, comparedVerdict}
 use Rattle.compile_writes.specs.Writes.{writeArgument, writeOr, writeAnd, writeBasic, writeMoreAnd, writeMoreOr, writeFilterQuery, writeFunction}
-use Rattle.parser_follow.specs.Follow.{hd, unblank, levelOf, After}
+use Rattle.parser_follow.specs.Follow.{hd, unblank, levelOf, After, after-weaken}
 use Rattle.parser_follow.specs.Numbers.{sortOf, sortNumber}
 use Rattle.parser_follow.specs.Pieces.{Operand, spellOperand, writeOperand, operandFlag, Behind, writeBehind, behindSort, Allowed, BehindOf, spellBehindOf, writeBehindOf, behindOfSort, ChainedOf, spellChainedOf, writeChainedOf, chainedOfSort}
 use Rattle.parser_follow.specs.Pieces.Operand.{literalOperand, queryOperand, functionOperand}
 use Rattle.parser_follow.specs.Pieces.Behind.{alone}
-use Rattle.parser_laws.specs.Follows.{after-weaken}
 use Rattle.parser_laws.specs.Joins.{join-pool}
 use Rattle.parser_laws.specs.Begins.{isOperandByte, begins-not, begins-more, literal-operand, lower-literal, literal-begins, query-begins, function-begins}
 use Rattle.parser_laws.specs.Sorted.{sort-of}

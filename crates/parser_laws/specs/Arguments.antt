@@ -20,10 +20,10 @@ use Rattle.basics.specs.Reads.{Reads, ReadsNone}
 use Rattle.compile_writes.specs.Effects.{Effect, join, seq}
 use Rattle.compile_writes.specs.Sorts.{sortArgument, sortsOf, sortsMore, namedSort}
 use Rattle.compile_writes.specs.Writes.{writeArgument, writeArguments, writeMoreArguments, callBytes}
-use Rattle.parser_follow.specs.Follow.{hd, unblank, levelOf, After}
+use Rattle.parser_follow.specs.Follow.{hd, unblank, levelOf, After, after-weaken}
 use Rattle.parser_follow.specs.Numbers.{sortNumber, oneMore, argumentsFrom, nameOf, callMarks}
 use Rattle.parser_follow.specs.Pieces.{Call, spellCall}
-use Rattle.parser_laws.specs.Follows.{after-weaken, after-blanks}
+use Rattle.parser_laws.specs.Follows.{after-blanks}
 use Rattle.parser_laws.specs.Joins.{plain, marked}
 use Rattle.parser_laws.specs.Begins.{begins-not, argument-begins, isBasicByte}
 use Rattle.parser_laws.specs.Starts.{literal-start, function-start, or-start}

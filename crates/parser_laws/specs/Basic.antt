@@ -23,13 +23,13 @@ use Rattle.compile_writes.specs.Effects.{Effect, join, joinMarks, skip, seq, by
 use Rattle.compile_writes.specs.Sorts.{singularSegments, tightSegments, querySort, namedSort, sortFunction, sortBasic, sortTest, sortFilterQuery, sortComparable, valueVerdict}
 use Rattle.compile_writes.specs.Writes.{writeBasic, writeComparable, writeTest, writeFilterQuery, writeFunction}
 use Rattle.compile_writes.specs.Singular.{tight-singular}
-use Rattle.parser_follow.specs.Follow.{After}
+use Rattle.parser_follow.specs.Follow.{After, after-weaken}
 use Rattle.parser_follow.specs.Numbers.{sortOf, sortNumber, isComparable}
 use Rattle.parser_follow.specs.Pieces.{Operand, spellOperand, writeOperand, operandFlag, queryFlag, filterQueryFlag, Side, Behind, spellBehind, writeBehind, behindSort, Allowed, BehindOf, spellBehindOf, Negation, spellNegation, writeNegation}
 use Rattle.parser_follow.specs.Pieces.Operand.{literalOperand, queryOperand, functionOperand}
 use Rattle.parser_follow.specs.Pieces.Behind.{alone, compared}
 use Rattle.parser_follow.specs.Pieces.Negation.{parenNegation, testNegation}
-use Rattle.parser_laws.specs.Follows.{after-weaken, after-blanks}
+use Rattle.parser_laws.specs.Follows.{after-blanks}
 use Rattle.parser_laws.specs.Begins.{begins-not, comparable-begins, test-begins}
 use Rattle.parser_laws.specs.Sorted.{sort-of}
 use Rattle.parser_laws.specs.So.{So}

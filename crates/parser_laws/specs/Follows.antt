@@ -13,19 +13,9 @@ use Rattle.parser_follow.specs.Blanks.{unblank-blanks}
 use Rattle.compile_writes.specs.Sorts.{isEmpty}
 use Rattle.parser_follow.specs.Follow.{hd, unblank, levelOf, After}
 
--- what may follow a tree of a higher level may follow one of a lower level
-pub after-weaken : (j k : ℕ) {r : List ℕ} → j ≤ k → After k r → After j r
-after-weaken j k h a = record { above = omega (arith, a .above) }
-
 -- a tree may be followed by blanks and a byte of a higher level
 pub after-blanks : (k : ℕ) (b : Blanks) (c : ℕ) (r : List ℕ) → isBlank c ≡ false → k < levelOf c → After k (spellBlanks b (c ∷ r))
 after-blanks k b c r e h = record { above = rw (unblank-blanks b (c ∷ r), e) h }
-
--- and by no byte of its own level or a lower one
-pub after-not : (k : ℕ) {s : List ℕ} (c : ℕ) {r : List ℕ} → unblank s ≡ c ∷ r → levelOf c ≤ k → After k s → ⊥
-after-not k c e h a =
-    let a' : k < levelOf c = rw e at (a .above) in
-    omega arith
 
 -- leaving out blanks makes no text longer
 unblank-shorter : (s : List ℕ) → length (unblank s) ≤ length s

@@ -14,12 +14,11 @@ use Rattle.basics.specs.Reads.{Reads, ReadsNone}
 use Rattle.compile_writes.specs.Effects.{Effect, join, seq, mark, bytes}
 use Rattle.compile_writes.specs.Sorts.{Sort, sortParen, sortTest, sortFunction, comparedVerdict}
 use Rattle.compile_writes.specs.Writes.{writeParen, writeTest, notTail}
-use Rattle.parser_follow.specs.Follow.{unblank, After}
+use Rattle.parser_follow.specs.Follow.{unblank, After, after-weaken}
 use Rattle.parser_follow.specs.Numbers.{sortOf}
 use Rattle.parser_follow.specs.Pieces.{Operand, spellOperand, writeOperand, operandFlag, Negation, spellNegation}
 use Rattle.parser_follow.specs.Pieces.Operand.{literalOperand, queryOperand, functionOperand}
 use Rattle.parser_follow.specs.Pieces.Negation.{parenNegation, testNegation}
-use Rattle.parser_laws.specs.Follows.{after-weaken}
 use Rattle.parser_laws.specs.Joins.{plain, marked}
 use Rattle.parser_laws.specs.Begins.{begins-not, test-begins}
 use Rattle.parser_laws.specs.Starts.{test-start}

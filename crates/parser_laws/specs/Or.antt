@@ -12,9 +12,9 @@ use Rattle.basics.specs.Reads.{Reads, ReadsNone}
 use Rattle.compile_writes.specs.Effects.{Effect, seq, join}
 use Rattle.compile_writes.specs.Sorts.{Sort, sortAnd, sortOr, sortMoreOr}
 use Rattle.compile_writes.specs.Writes.{writeAnd, writeOr, writeMoreOr}
-use Rattle.parser_follow.specs.Follow.{After}
+use Rattle.parser_follow.specs.Follow.{After, after-weaken}
 use Rattle.parser_follow.specs.Numbers.{sortNumber}
-use Rattle.parser_laws.specs.Follows.{after-weaken, after-blanks}
+use Rattle.parser_laws.specs.Follows.{after-blanks}
 use Rattle.parser_laws.specs.Sorted.{same-sort}
 use Rattle.parser_laws.specs.And.{meAnd}
 

@@ -10,8 +10,8 @@ use Rattle.definition.specs.Lexical.{Blanks, isBlank, spellBlanks}
 use Rattle.parser_follow.specs.Blanks.{split-blanks, unblank-blanks}
 use Rattle.basics.specs.Reads.{Reads, ReadsNone}
 use Rattle.compile_writes.specs.Effects.{Effect, join}
-use Rattle.parser_follow.specs.Follow.{unblank, levelOf, After}
-use Rattle.parser_laws.specs.Follows.{after-weaken, after-blanks, after-not}
+use Rattle.parser_follow.specs.Follow.{unblank, levelOf, After, after-not, after-weaken}
+use Rattle.parser_laws.specs.Follows.{after-blanks}
 use Rattle.parser_laws.specs.So.{So}
 
 -- A rule of this shape. I are the items, of level j, L the lists, of level k, and K what is known of what stands before: in a context κ an item i read at the pool place p

@@ -17,9 +17,9 @@ use Rattle.compile_writes.specs.Effects.{Effect, join, seq}
 use Rattle.compile_writes.specs.Sorts.{singularSegments, tightSegments, singularSegment, tightSegment, singularBrackets, tightBrackets, isPlainSelector, isAlone, isEmpty}
 use Rattle.compile_writes.specs.Writes.{writeSegments, writeSegment}
 use Rattle.compile_writes.specs.Singular.{tight-singular}
-use Rattle.parser_follow.specs.Follow.{hd, unblank, levelOf, After, isSegmentByte}
+use Rattle.parser_follow.specs.Follow.{hd, unblank, levelOf, After, isSegmentByte, after-weaken}
 use Rattle.parser_follow.specs.Numbers.{pathNumber, segmentsFlag, segmentFlag}
-use Rattle.parser_laws.specs.Follows.{after-weaken, after-blanks}
+use Rattle.parser_laws.specs.Follows.{after-blanks}
 use Rattle.parser_laws.specs.So.{So}
 use Rattle.parser_laws.specs.Rep.{behind}
 use Rattle.parser_laws.specs.Segment.{meSegment}

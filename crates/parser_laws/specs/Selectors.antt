@@ -15,10 +15,10 @@ use Rattle.parser_follow.specs.Blanks.{split-blanks, unblank-blanks}
 use Rattle.basics.specs.Reads.{ReadsNone}
 use Rattle.compile_writes.specs.Effects.{Effect, join, seq}
 use Rattle.compile_writes.specs.Writes.{writeSelector, writeSelectors, countMore}
-use Rattle.parser_follow.specs.Follow.{unblank, After}
+use Rattle.parser_follow.specs.Follow.{unblank, After, after-not, after-weaken}
 use Rattle.parser_follow.specs.Numbers.{plainFlag}
 use Rattle.parser_laws.specs.Starts.{int-start, quote-start}
-use Rattle.parser_laws.specs.Follows.{after-weaken, after-blanks, after-not}
+use Rattle.parser_laws.specs.Follows.{after-blanks}
 use Rattle.parser_laws.specs.Loose.{Loosely, after-same}
 use Rattle.parser_laws.specs.Rep.{behind}
 

@@ -18,11 +18,10 @@ use Rattle.compile_writes.specs.Effects.{Effect, Marks, Writer, join, seq, byte
 use Rattle.compile_writes.specs.Sorts.{Sort, singularSegments, tightSegments, querySort, sortFunction, sortComparable, valueVerdict, namedSort}
 use Rattle.compile_writes.specs.Writes.{writeFrom, writeComparable, writeSingular, writeFilterQuery}
 use Rattle.compile_writes.specs.Singular.{embed, embed-spells, embed-writes, embed-tight, tight-is-singular}
-use Rattle.parser_follow.specs.Follow.{unblank, After}
+use Rattle.parser_follow.specs.Follow.{unblank, After, after-weaken}
 use Rattle.parser_follow.specs.Numbers.{sortOf, sortNumber, isComparable}
 use Rattle.parser_follow.specs.Pieces.{Operand, spellOperand, writeOperand, operandFlag, queryFlag, Side, spellSide, writeSide}
 use Rattle.parser_follow.specs.Pieces.Operand.{literalOperand, queryOperand, functionOperand}
-use Rattle.parser_laws.specs.Follows.{after-weaken}
 use Rattle.parser_laws.specs.Joins.{plain, marked, seq-bytes, seq-last}
 use Rattle.parser_laws.specs.Sorted.{sort-of}
 use Rattle.parser_laws.specs.Starts.{comparable-start}

@@ -17,7 +17,7 @@ use Rattle.basics.specs.Lists.{differ, same-tail}
 use Rattle.utf8_laws.specs.Bytes.{by-test}
 use Rattle.plan_laws.specs.Parts.{Part, Spelt, move}
 use Rattle.plan_laws.specs.Leaves.{texts, integers, floats, smalls, literals, constantOf, LiteralOf, ofInteger, ofFloat, ofText, ofConstant, literal-of, as-integer, as-float, as-text, as-constant}
-use Rattle.plan_laws.specs.Operands.{Call, callCount, callLength, callValue, callByte, allowed, callsRight, codeCalls, sortCalls, callsPart, isCall, noCall}
+use Rattle.plan_laws.specs.Operands.{Call, callCount, callLength, callValue, callByte, allowed, callsRight, codeCalls, callsPart, isCall, noCall, sort-three}
 use Rattle.plan_items.specs.Readings.{firstByte, Kind, Within, None, Post, next, stop, AnyRoom, AnyPool, PostCalls, callOf}
 use Rattle.plan_items.specs.declared.Step.{Step}
 use Rattle.plan_items.specs.declared.Step.the-variants.{Next, Stop}
@@ -205,12 +205,8 @@ module _ {S L : List ℕ} {at p room k : ℕ} (h σ : ℕ) (e : Kind S at k) whe
           grown = rd .grown;
           held = rd .held;
           nest = omega arith;
-          sort = rd .sort ∙ three (rd .form);
+          sort = rd .sort ∙ sort-three (rd .form);
         })
-      where
-        three : (cs : List Call) → sortCalls 3 cs ≡ 3
-        three [] = refl
-        three (c ∷ cs) = refl
     calls-more f (stop n) = stop (record { none = go })
       where
         go : (cs : List Call) (r m : List ℕ) → Spelt (callsPart h σ) room (drop at S) (drop p L) p cs r m → ⊥

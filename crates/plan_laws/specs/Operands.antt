@@ -201,7 +201,7 @@ pub record AllCalls (cs : List Call) (x : Operand) : Type 0 where
   pub nest : nestingOperand (calledAll cs x) ≡ nestingOperand x + length cs
   pub sort : sortOperand (calledAll cs x) ≡ sortCalls (sortOperand x) cs
 
-sort-three : (cs : List Call) → sortCalls 3 cs ≡ 3
+pub sort-three : (cs : List Call) → sortCalls 3 cs ≡ 3
 sort-three [] = refl
 sort-three (c ∷ cs) = refl
 

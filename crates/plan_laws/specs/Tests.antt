@@ -4,7 +4,7 @@ use native.Mathlib.Nat.{le-max-left, le-max-right}
 use native.Mathlib.Omega.{arith}
 use mathlib.Core.Path.{_≡_, refl, sym, ap, _∙_}
 use mathlib.Core.List.{List, [], _∷_, _++_, append-assoc, append-nil}
-use mathlib.Core.Bool.{Bool, true, false, _&&_, and-assoc}
+use mathlib.Core.Bool.{Bool, true, false, _&&_, and-assoc, and-true}
 use borrow.Author.Tests.{leb-true}
 use lib.Dec.{leb}
 use lib.ListN.{length, length-append}
@@ -293,11 +293,7 @@ applied-pool (opRight false b o) t = applied-pool o (either t b) ∙ append-asso
 
 pub applied-right : (o : Ops) (t : Test) → testRight (applied o t) ≡ (testRight t && opsRight o)
 unfolding testRight
-applied-right opEnd t = sym (true-last (testRight t))
-  where
-    true-last : (b : Bool) → (b && true) ≡ b
-    true-last true = refl
-    true-last false = refl
+applied-right opEnd t = sym (and-true (testRight t))
 applied-right (opNot o) t = applied-right o (not t)
 applied-right (opRight true b o) t = applied-right o (both t b) ∙ and-assoc (testRight t) (testRight b) (opsRight o)
 applied-right (opRight false b o) t = applied-right o (either t b) ∙ and-assoc (testRight t) (testRight b) (opsRight o)

@@ -245,7 +245,7 @@ starred-rows = starred-answers
 
 -- ---- 6. What plans consist of (W14).
 
--- the items that the walk over a plan's bytes meets are the items of its form, to the last byte
+-- the items that a pass over a plan's bytes meets are the items of its form, to the last byte
 pub items-of-plan : (q : Query) → kindsOf (planOf q) ≡ itemsOf q
 items-of-plan = plan-items
 

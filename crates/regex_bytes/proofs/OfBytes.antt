@@ -14,11 +14,11 @@ use Rattle.basics.specs.Reads.{Wrote}
 use Rattle.definition.specs.Utf8.{isUtf8}
 use Rattle.definition.specs.Regexps.{regexpOf}
 use Rattle.basics.specs.Lists.{drop-at}
+use Rattle.basics.specs.Stores.{wrote-then}
 use Rattle.regex_reader.specs.Reads.{ReadsWhole}
 use Rattle.regex_reader.specs.Reads.ReadsWhole.{code as whole-code, outside as whole-outside}
 use Rattle.regex_reader.specs.declared.nested.Reading.{Reading}
 use Rattle.regex_reader.specs.declared.nested.Reading.the-variants as reading
-use Rattle.regex_reader.proofs.Parts.{wrote-then}
 use Rattle.regex_bytes.specs.Points.{pointsOf, points-utf8}
 use Rattle.regex_bytes.specs.Bytes.{OneMore, Scalars, ReadsBytes}
 use Rattle.regex_bytes.specs.Bytes.ReadsBytes.{code, outside}

@@ -1,7 +1,7 @@
 -- THE STATEMENT OVER BOTH FUNCTIONS: match and search hold of two byte texts exactly if the second has at most 1,024 bytes, a tree of the
 -- grammar spells its characters, and the tree's meaning, widened for search, describes the characters of the first. Assumes nothing.
-use mathlib.Core.Path.{_≡_, refl, sym}
-use mathlib.Core.Bool.{true}
+use mathlib.Core.Path.{_≡_, refl}
+use mathlib.Core.Bool.{true, false≢true}
 use mathlib.Core.List.{List}
 use mathlib.Core.Logic.{_↔_}
 use mathlib.Core.Option.{Option, none, some}
@@ -17,7 +17,7 @@ use Rattle.regex_definition.specs.Grammar.{Spells}
 use Rattle.definition.specs.Utf8.{scalarsOf}
 use Rattle.definition.specs.Regexps.{regexpOf, regexTest, testBy}
 use Rattle.utf8_laws.specs.Bytes.{by-test}
-use Rattle.regex_laws.specs.Steps.{clash, none-some}
+use Rattle.regex_laws.specs.Steps.{none-some}
 use Rattle.regex_laws.specs.Reading.{spells-of-read, read-of-spells}
 
 -- the expression of bytes
@@ -41,7 +41,7 @@ pub record Holds (scope : Scope) (text e : List ℕ) : Type 0 where
 
 holds-of : (scope : Scope) (text e : List ℕ) (o : Option Regexp) → regexpOf e ≡ o → testBy scope (scalarsOf text) o ≡ true → Holds scope text e
 unfolding testBy
-holds-of scope text e none h t = absurd (clash (sym t))
+holds-of scope text e none h t = absurd (false≢true t)
 holds-of scope text e (some x) h t =
     let s = spells-of-bytes e x h in
     record { expr = x; short = s .0; spells = s .1; describes = described-describes (widen scope x) (scalarsOf text) .0 t }

@@ -1,6 +1,6 @@
 -- What a tree spells is read, and its meaning is what is read. Assumes nothing.
 use mathlib.Core.Path.{_≡_, refl, ap, _∙_}
-use mathlib.Core.Bool.{Bool, true, false, cond, _&&_, not, and-eq-true-iff}
+use mathlib.Core.Bool.{Bool, true, false, _&&_, not, and-eq-true-iff, true≢false}
 use mathlib.Core.List.{List, [], _∷_, _++_, append-assoc, append-nil}
 use mathlib.Core.Option.{some}
 use Prim.Native.Nat.{ℕ, zero, suc, _+_, _-_, _*_, _≤_, _<_}
@@ -258,7 +258,7 @@ leaf-read n dotAtom r h e = refl
 leaf-read n (escapeAtom d) r h e = rw (d .good) refl
 leaf-read n (classAtom (positiveClass f g is l)) r h e = positive-read f is l n r g (omega arith)
 leaf-read n (classAtom (complementClass f is l)) r h e = complement-read f is l n r (omega arith)
-leaf-read n (groupAtom a) r h e = absurd (let z : _≡_ {A = ℕ} 1 0 = ap (λ (b : Bool). cond b 1 0) e in omega arith)
+leaf-read n (groupAtom a) r h e = absurd (true≢false e)
 
 leaf-atom : (n : ℕ) (a : Atom) (r : List ℕ) → 4 * length (spellAtom a r) + 1 ≤ n → begins 0x28 (spellAtom a r) ≡ false → readAtom n (spellAtom a r) ≡ some (meaningAtom a, r)
 leaf-atom n a r h e = atom-step n (spellAtom a r) (omega arith) ∙ rw e (leaf-read (n - 1) a r (omega arith) e)

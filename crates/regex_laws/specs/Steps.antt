@@ -1,6 +1,6 @@
 -- One step of reading, and what a reading that succeeds has come through. Assumes nothing.
 use mathlib.Core.Path.{_≡_, refl, ap, sym, _∙_}
-use mathlib.Core.Bool.{Bool, true, false, cond}
+use mathlib.Core.Bool.{Bool, true, false, cond, true≢false, false≢true}
 use mathlib.Core.List.{List, [], _∷_}
 use mathlib.Core.Option.{Option, none, some}
 use Prim.Native.Nat.{ℕ, zero, suc, _-_, _<_}
@@ -11,12 +11,9 @@ use Rattle.regex_definition.specs.Regexp.{Regexp, empty, then, or}
 use Rattle.regex_definition.specs.Read.{begins, rest, andThen, stops, readQuantifier, readLeaf, readAtom, readPiece, readBranch, readAlternatives}
 use Rattle.utf8_laws.specs.Bytes.{by-test}
 
-pub clash : true ≡ false → ⊥
-clash e = let n : _≡_ {A = ℕ} 1 0 = ap (λ (b : Bool). cond b 1 0) e in omega arith
-
 -- a character of a class is none that the class has not
 pub apart : (p : ℕ → Bool) (c x : ℕ) → p c ≡ true → p x ≡ false → eqb c x ≡ false
-apart p c x e f = by-test (eqb c x) (λ t. absurd (let q : c ≡ x = eqb-true c x t in clash (sym e ∙ ap p q ∙ f))) (λ t. t)
+apart p c x e f = by-test (eqb c x) (λ t. absurd (let q : c ≡ x = eqb-true c x t in true≢false (sym e ∙ ap p q ∙ f))) (λ t. t)
 
 abbrev told : {B : Type 0} → Option B → ℕ
 told none = 0
@@ -38,7 +35,7 @@ some-right {A} {a} {b} {r} {r'} e = let p : _≡_ {A = A × List ℕ} (a, r) (b,
 
 -- a text that begins with x is x and the rest
 pub begun : (x : ℕ) (s : List ℕ) → begins x s ≡ true → s ≡ x ∷ rest s
-begun x [] e = absurd (clash (sym e))
+begun x [] e = absurd (false≢true e)
 begun x (c ∷ s) e = ap (λ (d : ℕ). d ∷ s) (eqb-true c x e)
 
 -- ---- one step, where one is left

@@ -1,6 +1,6 @@
 -- What is read at a place, one level of the definition at a time: characters. Assumes nothing.
-use mathlib.Core.Path.{_≡_, refl, ap, sym, _∙_}
-use mathlib.Core.Bool.{Bool, true, false, cond, not}
+use mathlib.Core.Path.{_≡_, refl, sym, _∙_}
+use mathlib.Core.Bool.{Bool, true, false, true≢false, false≢true}
 use mathlib.Core.List.{List}
 use mathlib.Core.Option.{Option}
 use Prim.Native.Nat.{ℕ, _+_, _≤_, _<_}
@@ -32,28 +32,16 @@ inside s at x e = by (ltb at (length s)) refl
   where
     by : (b : Bool) → ltb at (length s) ≡ b → at < length s
     by true t = ltb-true at (length s) t
-    by false f = absurd (clash (sym e ∙ begins-end s at x (ltb-false at (length s) f)))
-      where
-        clash : true ≡ false → ⊥
-        clash z = let n : _≡_ {A = ℕ} 1 0 = ap (λ b. cond b 1 0) z in omega arith
+    by false f = absurd (true≢false (sym e ∙ begins-end s at x (ltb-false at (length s) f)))
 
 pub behind : (s : List ℕ) (at x : ℕ) → begins x (drop at s) ≡ true → rest (drop at s) ≡ drop (at + 1) s
 behind s at x e = rest-at s at (inside s at x e)
 
 pub is-beyond : (s : List ℕ) (at x : ℕ) → length s ≤ at → Is s at x false
-is-beyond s at x h = record { told = sym (begins-end s at x h); inside = λ e. absurd (let n : _≡_ {A = ℕ} 0 1 = ap (λ b. cond b 1 0) e in omega arith) }
+is-beyond s at x h = record { told = sym (begins-end s at x h); inside = λ e. absurd (false≢true e) }
 
 pub is-there : (s : List ℕ) (at x : ℕ) → at < length s → Is s at x (eqb (getD s at 0) x)
 is-there s at x h = record { told = sym (begins-at s at x h); inside = λ e. h }
-
--- a test that is asked for the other way round
-pub off : (b : Bool) → not b ≡ true → b ≡ false
-off true e = sym e
-off false e = refl
-
-pub on : (b : Bool) → not b ≡ false → b ≡ true
-on true e = refl
-on false e = sym e
 
 -- the same answer, where the definition goes on to it
 pub same-char : {out out' : Option (ℕ × List ℕ)} {s : List ℕ} {from from' : ℕ} {r : Char} → out ≡ out' → from ≤ from' → ReadChar out' s from' r → ReadChar out s from r

@@ -1,4 +1,5 @@
 -- A part without marks describes the empty word at most, and awaits nothing; so its copies need no pass of their own. Assumes nothing.
+use Rattle.basics.specs.Lists.{cons-not}
 use mathlib.Core.Path.{_≡_, refl, ap, sym, _∙_, subst}
 use mathlib.Core.Bool.{Bool, false, _&&_, _||_}
 use mathlib.Core.List.{List, [], _∷_, _++_}
@@ -23,10 +24,6 @@ pub endless-some : (n lo : ℕ) → 1 ≤ endless n lo
 endless-some n zero = omega arith
 endless-some n (suc zero) = omega arith
 endless-some n (suc (suc l)) = let h = endless-some n (suc l) in omega arith
-
--- a word of one character or more is not the empty one
-pub not-nil : {c : ℕ} {w : List ℕ} → c ∷ w ≡ [] → ⊥
-not-nil e = let z : _≡_ {A = ℕ} 0 1 = cc in omega arith
 
 -- words that are all empty, in a row
 row-empty : (P : List ℕ → Type 0) → ((u : List ℕ) → P u → u ≡ []) → (n : ℕ) (w : List ℕ) → Row P n w → w ≡ []
@@ -81,7 +78,7 @@ module _ (P : List ℕ → Type 0) (lo hi : ℕ) where
   turn-bare f {m} {c} {e} k =
       turn-none (Times lo (upto hi) P) (eqb lo 0 || (e && leb lo hi))
       (told times-nil nil-times (either (eqb-told lo 0) (both k (leb-told lo hi))))
-      (λ w t. not-nil (row-empty P f (t .count) (c ∷ w) (t .row)))
+      (λ w t. cons-not (row-empty P f (t .count) (c ∷ w) (t .row)))
 
 bare-good : (G : ℕ → Type 0) (n h b : ℕ) → n ≡ 0 → G b → GoodUpto G n h b
 bare-good G n zero b z g = tt
@@ -133,7 +130,7 @@ module _ (P : List ℕ → Type 0) (lo : ℕ) (h : 1 < lo) where
   turn-hollow f {m} {c} {e} k =
       turn-none (Times lo any P) e
       (told (λ p. record { count = lo; least = le-refl _; most = tt; row = row-nil P p lo }) (λ t. some-nil (t .count) (t .least) (t .row)) k)
-      (λ w t. not-nil (row-empty P f (t .count) (c ∷ w) (t .row)))
+      (λ w t. cons-not (row-empty P f (t .count) (c ∷ w) (t .row)))
 
 -- one pass over a part without marks is one over all its copies
 pub moved-hollow :

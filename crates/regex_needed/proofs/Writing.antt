@@ -10,12 +10,13 @@ use lib.Dec.{eqb}
 use lib.ListN.{length, set, drop, getD, length-append, length-set, drop-of-length-le}
 use lib.Seq.{slice, slice-cons, slice-empty}
 use Rattle.basics.specs.Lists.{drop-at as word}
+use Rattle.basics.specs.Stores.{wrote-then}
 use Rattle.regex_definition.specs.Words.{Times, upto, any}
 use Rattle.regex_definition.specs.Regexp.{Regexp, class, then, or, times, Describes}
 use Rattle.regex_definition.specs.Agree.{told-true}
 use Rattle.regex_code.specs.Flat.{flat, of-empty, of-then, of-or, of-upto, of-any, of-nothing, word-of, Word}
 use Rattle.regex_code.specs.Skips.{Skips, drop-min}
-use Rattle.regex_reader.proofs.Parts.{flat-behind, wrote-then}
+use Rattle.regex_reader.proofs.Parts.{flat-behind}
 use Rattle.regex_chars.specs.Laws.{slice-end, encodeAll-none}
 use Rattle.regex_total.specs.Answers.{Matched, Widths}
 use Rattle.regex_total.proofs.Parts.{slice-join, front-same}

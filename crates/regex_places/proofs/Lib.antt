@@ -1,3 +1,3 @@
 pub mod Reaching
 pub mod Sets
-pub mod Walks
+pub mod Leads

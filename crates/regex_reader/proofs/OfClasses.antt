@@ -1,12 +1,13 @@
 -- A class, one level of the definition at a time. Assumes nothing.
 use mathlib.Core.Path.{_≡_, refl, ap, sym, _∙_}
-use mathlib.Core.Bool.{Bool, true, false, cond}
+use mathlib.Core.Bool.{Bool, true, false, false≢true}
 use mathlib.Core.List.{List, [], _∷_, _++_, append-assoc, append-nil}
 use mathlib.Core.Option.{Option, none, some}
 use Prim.Native.Nat.{ℕ, zero, suc, _+_, _-_, _*_, _≤_, _<_}
 use native.Mathlib.Omega.{arith}
 use lib.ListN.{length, drop, set, length-append}
 use Rattle.basics.specs.Reads.{Wrote}
+use Rattle.basics.specs.Stores.{wrote-then}
 use Rattle.regex_definition.specs.Regexp.{Range, class}
 use Rattle.regex_definition.specs.Grammar.{only}
 use Rattle.regex_definition.specs.Read.{begins, rest, readItem, readFirst, readItems, readRanges, readClass}
@@ -21,7 +22,7 @@ use Rattle.regex_reader.specs.Reads.Post.{next, stop}
 use Rattle.regex_reader.specs.declared.classes.More.the-variants as more
 use Rattle.regex_reader.specs.declared.steps.Step.{Step}
 use Rattle.regex_reader.specs.declared.steps.Step.the-variants as step
-use Rattle.regex_reader.proofs.Parts.{ranges-behind, length-ranges, wrote-then, third, same-post}
+use Rattle.regex_reader.proofs.Parts.{ranges-behind, length-ranges, third, same-post}
 
 -- what an answer that is given says
 pub item-is : {out : Option (Range × List ℕ)} {s : List ℕ} {from b lo hi : ℕ} → ReadItem out s from (item.Next b lo hi)
@@ -34,7 +35,7 @@ item-none (item-stop o) = o
 -- ---- "-]"
 
 pub end-none : (s : List ℕ) (at : ℕ) → begins 0x2D (drop at s) ≡ false → IsEnd s at false
-end-none s at e = record { told = rw e refl; inside = λ f. absurd (let n : _≡_ {A = ℕ} 0 1 = ap (λ b. cond b 1 0) f in omega arith) }
+end-none s at e = record { told = rw e refl; inside = λ f. absurd (false≢true f) }
 
 pub end-some : (s : List ℕ) (at : ℕ) → begins 0x2D (drop at s) ≡ true → {r : Bool} → Is s (at + 1) 0x5D r → IsEnd s at r
 end-some s at e {r} i = record { told = rw (behind s at 0x2D e, e) (i .told); inside = i .inside }

@@ -1,6 +1,6 @@
 -- Groups, pieces, branches and alternatives, one level of the definition at a time. Assumes nothing.
 use mathlib.Core.Path.{_≡_, refl, ap, sym, _∙_}
-use mathlib.Core.Bool.{Bool, true, false, cond}
+use mathlib.Core.Bool.{Bool, true, false, cond, true≢false}
 use mathlib.Core.List.{List, [], _∷_, _++_, append-assoc}
 use mathlib.Core.Option.{Option, none, some}
 use Prim.Native.Nat.{ℕ, zero, suc, _+_, _-_, _*_, _≤_, _<_}
@@ -26,9 +26,10 @@ use Rattle.regex_reader.specs.declared.steps.Cursor.{Cursor}
 use Rattle.regex_reader.specs.declared.steps.Step.{Step}
 use Rattle.regex_reader.specs.declared.steps.Step.the-variants as step
 use Rattle.regex_reader.specs.declared.nested.Reading.the-variants as reading
-use Rattle.regex_reader.proofs.Parts.{flat-behind, wrote-then, wrote-length}
+use Rattle.regex_reader.proofs.Parts.{flat-behind}
 use Rattle.regex_reader.proofs.OfAtoms.{stops-end}
 use Rattle.basics.specs.Lists.{drop-at}
+use Rattle.basics.specs.Stores.{wrote-then, wrote-length}
 
 -- what an answer that is given says
 pub read-is : {out : ℕ → Option (Regexp × List ℕ)} {j k : ℕ} {s p q : List ℕ} {a b : Cursor} → Post out j k s p q a (step.Next b) → Read out j k s p q a b
@@ -180,7 +181,7 @@ begun s at e = by (ltb at (length s)) refl
   where
     by : (b : Bool) → ltb at (length s) ≡ b → at < length s
     by true t = ltb-true at (length s) t
-    by false f = absurd (let z = sym (stops-end s at (ltb-false at (length s) f)) ∙ e in let n : _≡_ {A = ℕ} 1 0 = ap (λ b. cond b 1 0) z in omega arith)
+    by false f = absurd (true≢false (sym (stops-end s at (ltb-false at (length s) f)) ∙ e))
 
 module _ {s p : List ℕ} {a : Cursor} {q : List ℕ} {at len : ℕ} (g : Branching s p a q at len) where
   end-steps : (n : ℕ) → stops (drop at s) ≡ true → 4 * (length s - at) + 3 ≤ n → readBranch n (g .fill) (drop at s) ≡ some (g .fill empty, drop at s)

@@ -5,15 +5,14 @@ use mathlib.Core.Option.{Option}
 use Prim.Native.Nat.{ℕ, suc, _+_, _-_, _*_, _≤_}
 use native.Mathlib.Omega.{arith}
 use lib.ListN.{length, set}
-use lib.Seq.{sets, set-set, length-sets}
-use Rattle.basics.specs.Reads.{Wrote}
+use lib.Seq.{sets, set-set}
 use Rattle.regex_definition.specs.Words.{upto, any}
 use Rattle.regex_definition.specs.Regexp.{Range, Regexp, empty, class, then, or, times}
 use Rattle.regex_code.specs.Flat.{flag, flat, flatRanges}
 use Rattle.regex_reader.specs.Reads.{Post}
 use Rattle.regex_reader.specs.Reads.Post.{next, stop}
 use Rattle.regex_reader.specs.declared.steps.Step.{Step}
-use Rattle.basics.specs.Lists.{set-sets, sets-append}
+use Rattle.basics.specs.Lists.{set-sets}
 
 -- the words r behind those of ranges, and behind those of an expression
 pub ranges-behind : (gs : List Range) (r : List ℕ) → flatRanges gs r ≡ flatRanges gs [] ++ r
@@ -36,13 +35,6 @@ flat-behind (times lo any x) r = ap (λ (l : List ℕ). 5 ∷ lo ∷ l) (flat-be
 pub length-ranges : (gs : List Range) → length (flatRanges gs []) ≡ 2 * length gs
 length-ranges [] = refl
 length-ranges (g ∷ gs) = let h = length-ranges gs in omega arith
-
--- words behind words
-pub wrote-then : {p q q' : List ℕ} {n : ℕ} {c d : List ℕ} (m : ℕ) → Wrote p n c q → m ≡ n + length c → Wrote q m d q' → Wrote p n (c ++ d) q'
-wrote-then {p} {q} {q'} {n} {c} {d} m a e b = record { is = b .is ∙ rw (a .is, e) (sets-append p n c d) }
-
-pub wrote-length : {p q : List ℕ} {n : ℕ} {c : List ℕ} → Wrote p n c q → length q ≡ length p
-wrote-length {p} {q} {n} {c} w = ap length (w .is) ∙ length-sets p n c
 
 -- the third word is stored anew
 pub third : (p : List ℕ) (n a b x y : ℕ) (c : List ℕ) → set (sets p n (a ∷ b ∷ x ∷ c)) (n + 2) y ≡ sets p n (a ∷ b ∷ y ∷ c)

@@ -12,8 +12,9 @@ use Rattle.regex_definition.specs.Scope.{Scope, whole, part, widen}
 use Rattle.definition.specs.Utf8.{isUtf8, scalarsOf}
 use Rattle.definition.specs.Regexps.{regexpOf, testBy, regexTest}
 use Rattle.basics.specs.Reads.{Wrote}
+use Rattle.basics.specs.Stores.{wrote-then, wrote-length}
 use Rattle.regex_code.specs.Flat.{flat}
-use Rattle.regex_reader.proofs.Parts.{wrote-then, wrote-length, flat-behind}
+use Rattle.regex_reader.proofs.Parts.{flat-behind}
 use Rattle.regex_bytes.specs.Bytes.{IsCode, ReadsBytes}
 use Rattle.regex_bytes.specs.Bytes.ReadsBytes.{code as bytes-code, outside as bytes-outside}
 use Rattle.regex.specs.Tested.{Tested}

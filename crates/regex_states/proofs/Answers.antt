@@ -1,4 +1,4 @@
--- From a walk to what a test promises. Assumes nothing.
+-- From a trace to what a test promises. Assumes nothing.
 use mathlib.Core.Path.{_≡_, ap, sym, _∙_}
 use mathlib.Core.Bool.{Bool}
 use mathlib.Core.List.{List}

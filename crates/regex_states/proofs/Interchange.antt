@@ -1,4 +1,5 @@
 -- Where no class tells two characters apart, one may stand for the other at the head of a word. Assumes nothing.
+use Rattle.basics.specs.Lists.{cons-not}
 use mathlib.Core.Path.{_≡_, refl, ap, sym, _∙_, subst}
 use mathlib.Core.Bool.{Bool, true, false, not, _&&_, _||_}
 use mathlib.Core.List.{List, [], _∷_}
@@ -16,7 +17,6 @@ use Rattle.regex_code.specs.Flat.{flat, flatRanges}
 use Rattle.regex_marks.specs.Marks.{size, Rest, RestUpto, RestAny}
 use Rattle.regex_states.specs.Ready.{Interchangeable}
 use Rattle.regex_states.specs.Rooms.{AllLow}
-use Rattle.regex_marks.proofs.Hollow.{not-nil}
 
 module _ (c d : ℕ) where
   abbrev Swaps : (List ℕ → Type 0) → Type 0
@@ -40,7 +40,7 @@ module _ (c d : ℕ) where
 
   module _ (P : List ℕ → Type 0) (f : Swaps P) where
     row-swaps : (n : ℕ) → Swaps (Row P n)
-    row-swaps zero w e = absurd (not-nil e)
+    row-swaps zero w e = absurd (cons-not e)
     row-swaps (suc n) w j = join-swaps P (Row P n) f (row-swaps n) w j
 
     times-swaps : (lo : ℕ) (hi : Most) → Swaps (Times lo hi P)
@@ -63,7 +63,7 @@ module _ (c d : ℕ) where
           (λ i. inr (any-swaps (suc l) (b + n) w i)) r
 
   describes-swaps : (x : Regexp) → Narrow x → Swaps (Describes x)
-  describes-swaps empty n w e = absurd (not-nil e)
+  describes-swaps empty n w e = absurd (cons-not e)
   describes-swaps (class comp gs) n w o =
       let z : c ≡ o .char = cc (o .eq) in
       let y : w ≡ [] = cc (o .eq) in
@@ -76,7 +76,7 @@ module _ (c d : ℕ) where
 
   rest-swaps : (x : Regexp) → Narrow x → (b : ℕ) (ms : List ℕ) → Swaps (Rest x b ms)
   rest-swaps empty n b ms w r = r
-  rest-swaps (class comp gs) n b ms w r = absurd (not-nil (r .1))
+  rest-swaps (class comp gs) n b ms w r = absurd (cons-not (r .1))
   rest-swaps (then x y) n b ms w r =
       ⊎-elim
       (λ j. inl (join-swaps (Rest x b ms) (Describes y) (rest-swaps x (n .0) b ms) (describes-swaps y (n .1)) w j))

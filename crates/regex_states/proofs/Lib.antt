@@ -3,6 +3,6 @@ pub mod Loops
 pub mod Steps
 pub mod Tables
 pub mod Writes
-pub mod Walks
+pub mod Traces
 pub mod Answers
 pub mod Interchange

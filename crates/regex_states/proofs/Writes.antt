@@ -1,6 +1,7 @@
 -- What the functions that write rows leave: a state more, and the start. Assumes nothing.
+use Rattle.basics.specs.Bools.{and-left, and-right}
 use mathlib.Core.Path.{_≡_, refl, ap, sym, _∙_, subst}
-use mathlib.Core.Bool.{Bool, true, false, _&&_, not}
+use mathlib.Core.Bool.{Bool, true, false, _&&_}
 use mathlib.Core.List.{List, []}
 use mathlib.Core.Logic.{inl, ⊎-elim}
 use Prim.Native.Nat.{ℕ, zero, suc, _+_, _*_, _-_, _≤_, _<_}
@@ -117,25 +118,12 @@ zeros-long m n h =
     let k = length-take-le (n - 0) (zeros m) (omega arith) in
     omega arith
 
-pub not-false : (b : Bool) → not b ≡ false → b ≡ true
-not-false true e = refl
-not-false false e = sym e
-
 -- a step that enters nothing says whether the empty text is described
 pub empties :
     {s ms ms' : List ℕ} {c next m n : ℕ} {e v w : Bool} → ((i : ℕ) → getD ms i 0 ≡ 0) → n ≤ length ms
     → Shifted s 0 false c 0 ms ms' next m e v w → Empties s n e
 empties {s} {ms} z h p =
     record { of = λ x q k. p .of x [] q (omega arith) (good-none ms z x 0) .1 .turn .on-empty }
-
--- two that are true
-first-true : (a b : Bool) → (a && b) ≡ true → a ≡ true
-first-true true b e = refl
-first-true false b e = e
-
-second-true : (a b : Bool) → (a && b) ≡ true → b ≡ true
-second-true true b e = e
-second-true false b e = let z : _≡_ {A = ℕ} 0 1 = cc in absurd (omega arith)
 
 pub weighed : {s : List ℕ} {next n : ℕ} → Weighs s 0 120 next n → n ≤ 120 → Weighed s n
 weighed w h = record { of = λ x e. w .of x [] e .1 h }
@@ -176,8 +164,8 @@ module _
           settled =
               λ t.
               record {
-                grows = λ h. op (second-true b opens (sym is ∙ t)) .of x e;
-                dies = λ h w d. let u = first-true b opens (sym is ∙ t) in let z : _≡_ {A = ℕ} 0 1 = cc in omega arith;
+                grows = λ h. op (and-right b opens (sym is ∙ t)) .of x e;
+                dies = λ h w d. let u = and-left b opens (sym is ∙ t) in let z : _≡_ {A = ℕ} 0 1 = cc in omega arith;
               };
         }
 

@@ -65,8 +65,8 @@ pub data Noted (es : List ℕ) (k c t : ℕ) (es' : List ℕ) : Type 0 where
   unnoted : es' ≡ es → Noted es k c t es'
   edge : (t ≡ 0 → ⊥) → c < 128 → es' ≡ set es (k * 128 + c) t → Noted es k c t es'
 
--- the answer of a walk, and what it keeps
-pub record Walked (s t ss es' ss' : List ℕ) (b : Bool) : Type 0 where
+-- the answer of a trace, and what it keeps
+pub record Traced (s t ss es' ss' : List ℕ) (b : Bool) : Type 0 where
   pub ran : Ran s t (width ss) b
   pub tables : Tables s es' ss'
 

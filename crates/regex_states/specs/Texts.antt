@@ -54,8 +54,8 @@ pub record Stepped (s es ss : List ℕ) (k c : ℕ) (es' ss' ms : List ℕ) (r :
   pub leads : (r ≡ 0 → ⊥) → (x : Regexp) → s ≡ flat x [] → Leads x c k (marksOf ss k) r (marksOf ss' r)
   pub alone : r ≡ 0 → (x : Regexp) → s ≡ flat x [] → Good x 0 ms × Told (Rest x 0 ms []) b × Leads x c k (marksOf ss k) 2 ms
 
--- a walk at the place i, in state k
-pub record Walking (s t ss0 es ss ms : List ℕ) (i k : ℕ) : Type 0 where
+-- a trace at the place i, in state k
+pub record Tracing (s t ss0 es ss ms : List ℕ) (i k : ℕ) : Type 0 where
   pub tables : Tables s es ss
   pub wide : width ss ≡ width ss0
   pub long : length ms ≡ width ss

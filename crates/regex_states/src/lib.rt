@@ -22,7 +22,7 @@ ghost use Rattle.regex.specs.Tested.{Tested};
 ghost use Rattle.regex_marks.specs.Runs.{Clear};
 ghost use Rattle.regex_states.specs.Ready.{cells, width, count, Tables, Ready};
 ghost use Rattle.regex_states.specs.Texts.{Inside, Followed, Stepped};
-ghost use Rattle.regex_states.specs.Rooms.{Found, Put, Blank, Settling, Room, Placed, Noted, Walked, Suits, Weighed, Empties, Sealed, Headed, Beyond, AllLow};
+ghost use Rattle.regex_states.specs.Rooms.{Found, Put, Blank, Settling, Room, Placed, Noted, Traced, Suits, Weighed, Empties, Sealed, Headed, Beyond, AllLow};
 
 // The bytes of a row, which are also the ASCII characters.
 const ROW: usize = 128;
@@ -314,9 +314,9 @@ fn step(code: &[u32], k: usize, c: u32, edges: &mut [u8], sets: &mut [u8], marks
 }
 
 // Whether the text is described, from state to state. The marks are as many as the expression has.
-fn walk(code: &[u32], text: &[u8], edges: &mut [u8], sets: &mut [u8], marks: &mut [u8]) -> bool
+fn trace(code: &[u32], text: &[u8], edges: &mut [u8], sets: &mut [u8], marks: &mut [u8]) -> bool
     requires { ⌜ Tables (now code) (now edges) (now sets) ⌝ ∗ ⌜ length (now marks) ≡ width (now sets) ⌝ }
-    ensures { λ r. ⌜ Walked (now (code .entry)) (now (text .entry)) (now (sets .entry)) (now (edges .exit)) (now (sets .exit)) r ⌝ }
+    ensures { λ r. ⌜ Traced (now (code .entry)) (now (text .entry)) (now (sets .entry)) (now (edges .exit)) (now (sets .exit)) r ⌝ }
 {
     let end = text.len();
     let mut i = 0;
@@ -441,5 +441,5 @@ pub fn test_with(
     if marks.len() < n {
         return test(code, text, marks);
     }
-    walk(code, text, edges, sets, &mut marks[0..n])
+    trace(code, text, edges, sets, &mut marks[0..n])
 }

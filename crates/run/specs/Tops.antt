@@ -1,8 +1,8 @@
--- From what the walk leaves in the part of the list that it was lent to the outcome of a run. Assumes nothing.
+-- From what evaluation leaves in the part of the list that it was lent to the outcome of a run. Assumes nothing.
 use Prim.Native.Nat.{ℕ, _+_, _-_, _≤_, _<_, min}
 use mathlib.Core.Path.{_≡_, refl, sym, ap, _∙_, subst}
 use mathlib.Core.List.{List, [], _∷_, _++_, append-nil, append-assoc}
-use mathlib.Core.Bool.{Bool, true, false}
+use mathlib.Core.Bool.{Bool, true, false, false≢true}
 use native.Mathlib.Omega.{arith}
 use borrow.Author.Tests.{le-leb, lt-leb}
 use lib.Dec.{leb}
@@ -51,10 +51,7 @@ planned-at (query s f) P L t =
 selected-by : (q : Query) (T X : List ℕ) → isForm q ≡ true → selected q (tree T X) ≡ ids (evalSegments (segmentsOf q) (nodeAt T X 0) (nodeAt T X 0 ∷ []))
 unfolding selected tree segmentsOf evalQuery isForm startsAtRoot
 selected-by (query root f) T X h = refl
-selected-by (query current f) T X h = absurd (never h)
-  where
-    never : false ≡ true → ⊥
-    never z = let e : _≡_ {A = ℕ} 0 1 = cc in omega arith
+selected-by (query current f) T X h = absurd (false≢true h)
 
 -- ---- the part of the list that was lent
 
@@ -73,11 +70,11 @@ stores-part l v start h g =
     ∙ sym (append-assoc (take start l) v (drop (start + length v) l))
     ∙ sym (sets-eq v l start (omega arith))
 
--- what the walk does in the part
-abbrev pub Walked : List ℕ → List ℕ → List ℕ → List ℕ → List ℕ → ℕ → List ℕ → ℕ → Type 0
-Walked P L T X l start p n = (f : Segments) (k : ℕ) → SegmentsAt P L 1 k f → st (length l - start) p n ≡ go f (nodeAt T X 0) (nodeAt T X 0 ∷ []) (st (length l - start) (take (length l - start) (drop start l)) 0)
+-- what evaluation does in the part
+abbrev pub Evaluated : List ℕ → List ℕ → List ℕ → List ℕ → List ℕ → ℕ → List ℕ → ℕ → Type 0
+Evaluated P L T X l start p n = (f : Segments) (k : ℕ) → SegmentsAt P L 1 k f → st (length l - start) p n ≡ go f (nodeAt T X 0) (nodeAt T X 0 ∷ []) (st (length l - start) (take (length l - start) (drop start l)) 0)
 
-module _ (P L T X l : List ℕ) (start : ℕ) (h : start ≤ length l) (p : List ℕ) (n : ℕ) (w : Walked P L T X l start p n) where
+module _ (P L T X l : List ℕ) (start : ℕ) (h : start ≤ length l) (p : List ℕ) (n : ℕ) (w : Evaluated P L T X l start p n) where
   -- what is left in the whole list
   abbrev pub after : List ℕ
   after = take start l ++ (p ++ drop (length l - start) (drop start l))

@@ -4,7 +4,7 @@ ghost use mathlib.Core.Path.{_≡_};
 ghost use Prim.Native.Nat.{_≤_};
 ghost use lib.ListN.{length};
 ghost use Rattle.definition.specs.Outcomes.{RunOutcome, Selects, early};
-ghost use Rattle.compile.specs.Steps.{Rooms};
+ghost use Rattle.compile.specs.Steps.{Enough};
 ghost use Rattle.compile_unique.specs.Readings.{OneSelect};
 ghost use Rattle.select.specs.Selections.{selected};
 use compile::Refusal;
@@ -52,7 +52,7 @@ fn select_in<'a>(
     list: &mut [u32],
     start: usize,
 ) -> Selection
-    requires { ⌜ Rooms (now query) (now room) (now texts) × (early (now query) ≡ 0) ⌝ }
+    requires { ⌜ Enough (now query) (now room) (now texts) × (early (now query) ≡ 0) ⌝ }
     ensures { λ r. ⌜ OneSelect (now (query .entry)) (now (table .entry)) (now (text .entry)) (now (list .entry)) start (selected r (now (list .exit))) ⌝ }
 {
     match parse(query, room, texts) {

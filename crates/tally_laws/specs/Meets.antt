@@ -1,4 +1,4 @@
--- The walk over the bytes of a form's plan meets the form's items, in their order, and ends at the plan's last byte. Assumes nothing.
+-- The pass over the bytes of a form's plan meets the form's items, in their order, and ends at the plan's last byte. Assumes nothing.
 use Prim.Native.Nat.{ℕ, zero, suc, _+_, _-_, _≤_}
 use mathlib.Core.Path.{_≡_, refl, sym, ap, _∙_}
 use mathlib.Core.List.{List, [], _∷_, _++_, append-assoc, append-nil}
@@ -23,7 +23,7 @@ use Rattle.definition.specs.Plans.{two, pooled, startKind, operatorByte, scopeK
 use Rattle.tally_laws.specs.Items.{bodyLength, kindsWithin, kindsOf}
 use Rattle.tally_laws.specs.Forms.{startItem, literalItem, scopeItem, itemsOf, segmentsItems, selectorsItems, selectorItems, testItems, argumentItems, functionItems}
 
--- ---- the walk over bytes
+-- ---- the pass over bytes
 
 -- more turns than bytes change nothing
 pub turns-enough : (f g : ℕ) (s : List ℕ) → length s ≤ f → length s ≤ g → kindsWithin f s ≡ kindsWithin g s
@@ -116,7 +116,7 @@ unfolding scopeKind scopeItem bodyLength
 scope-meets whole r = with-none 0x1C r refl
 scope-meets part r = with-none 0x1D r refl
 
--- ---- the law, part by part: the walk over what is written for a part meets the part's items, and goes on behind it
+-- ---- the law, part by part: the pass over what is written for a part meets the part's items, and goes on behind it
 
 mutual
   unfolding codeQuery codeSegments codeSelectors codeSelector codeTest codeArgument codeFunction itemsOf segmentsItems selectorsItems selectorItems testItems argumentItems functionItems bodyLength littleEndian
@@ -181,7 +181,7 @@ mutual
   function-meets (lengthOf a) p r = ends (codeArgument a p) r (argumentItems a) 0x1A refl (λ s. argument-meets a p s)
   function-meets (valueOf q) p r = ends (codeQuery q p) r (itemsOf q) 0x1B refl (λ s. query-meets q p s)
 
--- The walk over the plan of a form meets exactly the form's items, in their order, and ends at the plan's last byte.
+-- The pass over the plan of a form meets exactly the form's items, in their order, and ends at the plan's last byte.
 pub plan-items : (q : Query) → kindsOf (planOf q) ≡ itemsOf q
 unfolding planOf
 plan-items q =

@@ -13,6 +13,7 @@ use Rattle.definition.specs.Utf8.{encode, encodeAll, isUtf8}
 use Rattle.basics.specs.Lists.{drop-at as here}
 use Rattle.utf8_laws.specs.Texts.{own-ascii}
 use Rattle.basics.specs.Reads.{ReadsNone, StartsNot}
+use Rattle.basics.specs.Stores.{wrote-then, wrote-length}
 use Rattle.utf8_laws.specs.Bytes.{by-test}
 use Rattle.utf8_laws.specs.Encode.{utf8-ascii}
 use Rattle.utf8_laws.specs.Scan.{behind, front-behind}
@@ -23,7 +24,7 @@ use Rattle.text_quoted.specs.declared.Turn.{Turn}
 use Rattle.text_quoted.specs.declared.Turn.the-variants.{On, End, Wrong}
 use Rattle.text_quoted.proofs.Chars.{own-not-slash, own-not-other, other-char, wrong-char}
 use Rattle.text_quoted.proofs.Letters.{single-left, double-left}
-use Rattle.text_quoted.proofs.Places.{wrote-then, wrote-kept, wrote-size}
+use Rattle.text_quoted.proofs.Places.{wrote-kept}
 use Rattle.text_quoted.proofs.Texts.{passed-none, passed-then, passed-char, passed-plain, none-closed, stuck-end, own-ends, char-short, chars-short, chars-sound}
 
 -- ---- nothing yet, and one part behind another
@@ -43,7 +44,7 @@ module _ (q : Quote) (s : List ℕ) (at : ℕ) (p : List ℕ) (len : ℕ) (p1 : 
       record {
         bytes = a .bytes ++ b .bytes;
         passed = passed-then q (drop at s) (drop i s) rest (a .bytes) (b .bytes) (a .passed) (b .passed);
-        wrote = wrote-then p p1 p2 len n (a .bytes) (b .bytes) (a .wrote) (a .grown) (b .wrote);
+        wrote = wrote-then n (a .wrote) (a .grown) (b .wrote);
         grown = omega arith;
         from = omega arith;
         to = b .to;
@@ -57,7 +58,7 @@ module _ (q : Quote) (s : List ℕ) (at : ℕ) (p : List ℕ) (len : ℕ) (p1 : 
         bytes = a .bytes ++ b .bytes;
         passed = passed-then q (drop at s) (drop i s) (drop place s) (a .bytes) (b .bytes) (a .passed) (b .passed);
         stuck = b .stuck;
-        wrote = wrote-then p p1 p2 len n (a .bytes) (b .bytes) (a .wrote) (a .grown) (b .wrote);
+        wrote = wrote-then n (a .wrote) (a .grown) (b .wrote);
         from = omega arith;
         to = b .to;
       }
@@ -79,7 +80,7 @@ module _ (q : Quote) (s : List ℕ) (at : ℕ) (p : List ℕ) (len : ℕ) (p1 : 
       let e = ap length (a .passed .bytes) in
       let f = length-drop at s in
       let g = length-drop i s in
-      let h = wrote-size p p1 len (a .bytes) (a .wrote) in
+      let h = wrote-length (a .wrote) in
       let k = a .grown in
       let l = a .from in
       let m = a .to in
@@ -124,7 +125,7 @@ refused q s at p len p' place a =
       stuck = a .stuck;
       wrote = rw (b .bytes) (a .wrote);
       kept = wrote-kept p p' len (a .bytes) (a .wrote);
-      size = wrote-size p p' len (a .bytes) (a .wrote);
+      size = wrote-length (a .wrote);
       from = a .from;
       to = a .to;
     }

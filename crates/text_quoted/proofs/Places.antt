@@ -1,14 +1,14 @@
 -- What stands at a place of a text, and buffers after stores. Assumes nothing.
 use Prim.Native.Nat.{ℕ, suc, _+_, _≤_, _<_}
 use mathlib.Core.Path.{_≡_, refl, ap, _∙_}
-use mathlib.Core.List.{List, [], _∷_, _++_}
+use mathlib.Core.List.{List, [], _∷_}
 use native.Mathlib.Omega.{arith}
 use lib.Dec.{eqb}
 use lib.ListN.{length, drop, take, getD, set}
-use lib.Seq.{sets, length-sets, take-set-le}
+use lib.Seq.{sets, take-set-le}
 use borrow.Author.Tests.{eqb-false}
 use Rattle.basics.specs.Reads.{Wrote}
-use Rattle.basics.specs.Lists.{drop-at as here, sets-append}
+use Rattle.basics.specs.Lists.{drop-at as here}
 
 -- two numerals that differ are not equal
 pub differ {ℓ} : {X : Type ℓ} (a b : ℕ) → eqb a b ≡ mathlib.Core.Bool.false → a ≡ b → X
@@ -27,9 +27,6 @@ here-four s i h =
 
 -- ---- stores
 
-pub wrote-then : (p q r : List ℕ) (n m : ℕ) (c d : List ℕ) → Wrote p n c q → m ≡ n + length c → Wrote q m d r → Wrote p n (c ++ d) r
-wrote-then p q r n m c d a e b = record { is = b .is ∙ rw (a .is, e) (sets-append p n c d) }
-
 -- what stands before the stores is kept
 pub take-sets : (p : List ℕ) (n m : ℕ) (c : List ℕ) → n ≤ m → take n (sets p m c) ≡ take n p
 take-sets p n m [] h = refl
@@ -37,9 +34,6 @@ take-sets p n m (x ∷ c) h = take-sets (set p m x) n (suc m) c (omega arith) �
 
 pub wrote-kept : (p q : List ℕ) (n : ℕ) (c : List ℕ) → Wrote p n c q → take n q ≡ take n p
 wrote-kept p q n c w = rw (w .is) (take-sets p n n c (omega arith))
-
-pub wrote-size : (p q : List ℕ) (n : ℕ) (c : List ℕ) → Wrote p n c q → length q ≡ length p
-wrote-size p q n c w = rw (w .is) (length-sets p n c)
 
 -- two bytes of a known value at a place
 pub here-two : (s : List ℕ) (i x y : ℕ) → i + 2 ≤ length s → getD s i 0 ≡ x → getD s (i + 1) 0 ≡ y → drop i s ≡ x ∷ y ∷ drop (i + 2) s

@@ -1,6 +1,7 @@
 -- `number_order::float_of` meets its contract: the pattern is a finite float's. Assumes nothing.
+use Rattle.number_order.specs.Finite.{bits-finite}
 use mathlib.Core.Path.{refl}
-use Rattle.number_order.proofs.Patterns.{bits-finite, bits-number}
+use Rattle.number_order.proofs.Patterns.{bits-number}
 use Rattle.number_order.proofs.float_of.Statement.{statement}
 use Rattle.number_order.proofs.float_of.Tie as tie
 

@@ -1,6 +1,6 @@
 -- `regex_bytes::read_bytes` meets its contract. Assumes nothing.
+use Rattle.basics.specs.Stores.{wrote-length}
 use Rattle.regex_bytes.proofs.OfBytes.{written, counted, bytes-long, bytes-read}
-use Rattle.regex_reader.proofs.Parts.{wrote-length}
 use native.Mathlib.Omega.{arith}
 use borrow.Author.Needs.{needs}
 use Rattle.regex_bytes.proofs.read_bytes.Statement.{statement}

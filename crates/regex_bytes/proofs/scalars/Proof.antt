@@ -1,6 +1,6 @@
 -- `regex_bytes::scalars` meets its contract. The loop's invariant: the characters of the bytes that were passed are written. The measure is what is left. Assumes nothing.
+use Rattle.basics.specs.Stores.{wrote-length}
 use Rattle.regex_bytes.proofs.OfBytes.{Passed, passed-none, passed-more, passed-all}
-use Rattle.regex_reader.proofs.Parts.{wrote-length}
 use lib.ListN.{length}
 use Prim.Native.Nat.{_-_}
 use borrow.Author.Needs.{needs}

@@ -1,6 +1,6 @@
 -- `regex_places::run` meets its contract. Assumes nothing.
 use borrow.Author.Needs.{needs}
-use Rattle.regex_places.proofs.Walks.{placed, first-only, first-in}
+use Rattle.regex_places.proofs.Leads.{placed, first-only, first-in}
 use native.Mathlib.Omega.{arith}
 use Rattle.regex_places.proofs.run.Statement.{statement}
 use Rattle.regex_places.proofs.run.Tie as tie

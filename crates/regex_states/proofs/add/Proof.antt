@@ -1,10 +1,11 @@
 -- `regex_states::add` meets its contract. Assumes nothing.
+use borrow.Author.Tests.{not-false}
 use mathlib.Core.Path.{refl, _∙_}
 use native.Mathlib.Omega.{arith}
 use lib.ListN.{length-set}
 use Prim.Native.Nat.{_+_}
 use Rattle.regex_states.specs.Rooms.{full, fresh}
-use Rattle.regex_states.proofs.Writes.{added, not-false}
+use Rattle.regex_states.proofs.Writes.{added}
 use borrow.Author.Needs.{needs}
 use Rattle.regex_states.proofs.add.Statement.{statement}
 use Rattle.regex_states.proofs.add.Tie as tie

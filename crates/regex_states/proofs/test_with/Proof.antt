@@ -29,17 +29,17 @@ same-length-2 c = search needs
 returns-2 : tie.Need-returns-2
 returns-2 c = search needs
 
-sub-walk : tie.Need-sub-walk
-sub-walk c = search needs
+sub-trace : tie.Need-sub-trace
+sub-trace c = search needs
 
-part-walk-start : tie.Need-part-walk-start
-part-walk-start c = search needs
+part-trace-start : tie.Need-part-trace-start
+part-trace-start c = search needs
 
-part-walk-end : tie.Need-part-walk-end
-part-walk-end c = search needs
+part-trace-end : tie.Need-part-trace-end
+part-trace-end c = search needs
 
-walk-requires : tie.Need-walk-requires
-walk-requires c κs = let g = c .before .before .before .before .before .before .before .before .before .before .before .before .pre .tables (λ z. c .before .before .before .before .if1 .left (c .before .before .before .before .before .wide .ensures ∙ z)) in (g, lent (c .before .before .before .before .before .before .before .before .before .before .before .before .args .marks .now) (c .before .before .before .before .before .wide .result) (c .before .before .before .if2 .left) (c .before .before .before .before .before .wide .ensures))
+trace-requires : tie.Need-trace-requires
+trace-requires c κs = let g = c .before .before .before .before .before .before .before .before .before .before .before .before .pre .tables (λ z. c .before .before .before .before .if1 .left (c .before .before .before .before .before .wide .ensures ∙ z)) in (g, lent (c .before .before .before .before .before .before .before .before .before .before .before .before .args .marks .now) (c .before .before .before .before .before .wide .result) (c .before .before .before .if2 .left) (c .before .before .before .before .before .wide .ensures))
 
 same-length-3 : tie.Need-same-length-3
 same-length-3 c = search needs
@@ -51,7 +51,7 @@ same-length-5 : tie.Need-same-length-5
 same-length-5 c = search needs
 
 returns-3 : tie.Need-returns-3
-returns-3 c = let g = c .before .before .before .before .before .before .before .before .before .before .before .before .before .before .before .before .before .before .before .pre .tables (λ z. c .before .before .before .before .before .before .before .before .before .before .before .if1 .left (c .before .before .before .before .before .before .before .before .before .before .before .before .wide .ensures ∙ z)) in (tested g (c .before .before .before .before .before .before .walk .ensures .ran), ready (c .before .before .before .before .before .before .walk .ensures .tables))
+returns-3 c = let g = c .before .before .before .before .before .before .before .before .before .before .before .before .before .before .before .before .before .before .before .pre .tables (λ z. c .before .before .before .before .before .before .before .before .before .before .before .if1 .left (c .before .before .before .before .before .before .before .before .before .before .before .before .wide .ensures ∙ z)) in (tested g (c .before .before .before .before .before .before .trace .ensures .ran), ready (c .before .before .before .before .before .before .trace .ensures .tables))
 
 pub test-with-spec : {M : Type 1} → statement M
 test-with-spec =
@@ -65,10 +65,10 @@ test-with-spec =
     test-requires-2
     same-length-2
     returns-2
-    sub-walk
-    part-walk-start
-    part-walk-end
-    walk-requires
+    sub-trace
+    part-trace-start
+    part-trace-end
+    trace-requires
     same-length-3
     same-length-4
     same-length-5

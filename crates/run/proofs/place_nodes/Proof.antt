@@ -1,4 +1,4 @@
--- `run::place_nodes` meets its contract: what the walk leaves in the part that it is lent is said of the whole list. Assumes nothing.
+-- `run::place_nodes` meets its contract: what evaluation leaves in the part that it is lent is said of the whole list. Assumes nothing.
 use borrow.Author.Needs.{needs}
 use Rattle.run.proofs.place_nodes.Statement.{statement}
 use Rattle.run.proofs.place_nodes.Tie as tie

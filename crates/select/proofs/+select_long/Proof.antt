@@ -6,7 +6,7 @@ use native.Mathlib.Omega.{arith}
 use borrow.Author.Needs.{needs}
 use borrow.Fn.Kinds.{In}
 use borrow.Fn.PlainCycle.{Measures, is, falls, and}
-use Rattle.compile.proofs.Answers.{rooms-long}
+use Rattle.compile.proofs.Answers.{enough-for-all}
 use Rattle.select.proofs.select_long.Reads as select-long
 use Rattle.select.proofs.select_long.Kinds as kinds
 use Rattle.select.proofs.select_in.Reads as select-in-reads
@@ -49,7 +49,7 @@ module _ (t : ℕ) where
   select-in-requires : lts.Need-select-in-requires (calls t) (at t) select-long.Post
   select-in-requires c κs =
       let e = c .before .before .before .before .before .before .before .before .pre .1 in
-      (rooms-long e refl refl, e)
+      (enough-for-all e refl refl, e)
 
   same-length-2 : lts.Need-same-length-2 (calls t) (at t) select-long.Post
   same-length-2 c = search needs

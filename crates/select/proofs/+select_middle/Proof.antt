@@ -1,12 +1,10 @@
 -- `select::select_middle` meets its contract: rooms of its own are large enough for the query, and a call of itself answers the same.
 -- The measure is `again`. Assumes nothing.
-use mathlib.Core.Path.{refl}
 use Prim.Native.Nat.{ℕ, _<_}
 use native.Mathlib.Omega.{arith}
 use borrow.Author.Needs.{needs}
 use borrow.Fn.Kinds.{In}
 use borrow.Fn.PlainCycle.{Measures, is, falls, and}
-use Rattle.compile.proofs.Answers.{rooms-middle}
 use Rattle.select.proofs.select_middle.Reads as select-middle
 use Rattle.select.proofs.select_middle.Kinds as kinds
 use Rattle.select.proofs.select_in.Reads as select-in-reads
@@ -47,9 +45,7 @@ module _ (t : ℕ) where
   slice-aggregate-select-in-2 c = search needs
 
   select-in-requires : lts.Need-select-in-requires (calls t) (at t) select-middle.Post
-  select-in-requires c κs =
-      let e = c .before .before .before .before .before .before .before .before .pre .1 in
-      (rooms-middle (e .1) (e .0) refl refl, e .1)
+  select-in-requires c κs = search needs
 
   same-length-2 : lts.Need-same-length-2 (calls t) (at t) select-middle.Post
   same-length-2 c = search needs

@@ -1,13 +1,13 @@
 -- `select::select_in` meets its contract: what the plan of a query gives is what the query gives.
 use denote.Ref.{now}
-use Rattle.compile.proofs.Answers.{whole-of, none-of, numbered}
+use Rattle.compile.proofs.Answers.{rooms-of, whole-of, none-of, numbered}
 use Rattle.select.proofs.Answers.{select-refused, plan-part, pool-part, planned, select-form, select-none}
 use borrow.Author.Needs.{needs}
 use Rattle.select.proofs.select_in.Statement.{statement}
 use Rattle.select.proofs.select_in.Tie as tie
 
 parse-requires : tie.Need-parse-requires
-parse-requires c κs = search needs
+parse-requires c κs = let s = c .before .before .before .before .before .before .before .before .pre in rooms-of (s .0) (s .1)
 
 enum-told : tie.Need-enum-told
 enum-told c = search needs

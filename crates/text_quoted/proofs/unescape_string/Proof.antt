@@ -1,4 +1,5 @@
 -- `text_quoted::unescape_string` meets its contract. What was read so far, and what each part adds. Assumes nothing.
+use Rattle.basics.specs.Stores.{wrote-length}
 use native.Mathlib.Omega.{arith}
 use borrow.Author.Needs.{needs}
 use Prim.Native.Nat.{_-_}
@@ -6,7 +7,6 @@ use mathlib.Core.Path.{_∙_}
 use lib.ListN.{length, drop}
 use Rattle.text_quoted.specs.Quoted.{quoteOf}
 use Rattle.text_quoted.specs.Pieces.{Went}
-use Rattle.text_quoted.proofs.Places.{wrote-size}
 use Rattle.text_quoted.proofs.Parts.{went-start, went-then, went-fails, went-sound, went-room, unescaped, refused}
 use Rattle.text_quoted.proofs.unescape_string.Statement.{statement}
 use Rattle.text_quoted.proofs.unescape_string.Tie as tie
@@ -54,7 +54,7 @@ same-length c =
     let s = c .before .before .before .before .before .before .before .before .before .before in
     let l = c .before .before .before .before .before .before .before .loop in
     let k = c .before .before .before .before .before .read-part in
-    k .kept .1 .1 .1 .0 ∙ wrote-size _ _ _ _ (l .inv .wrote)
+    k .kept .1 .1 .1 .0 ∙ wrote-length (l .inv .wrote)
 
 returns : tie.Need-returns Inv-loop μ-loop
 returns c =
@@ -72,7 +72,7 @@ same-length-2 c =
     let s = c .before .before .before .before .before .before .before .before .before .before in
     let l = c .before .before .before .before .before .before .before .loop in
     let k = c .before .before .before .before .before .read-part in
-    k .kept .1 .1 .1 .0 ∙ wrote-size _ _ _ _ (l .inv .wrote)
+    k .kept .1 .1 .1 .0 ∙ wrote-length (l .inv .wrote)
 
 returns-2 : tie.Need-returns-2 Inv-loop μ-loop
 returns-2 c =

@@ -6,7 +6,7 @@ use native.Mathlib.Omega.{arith}
 use borrow.Author.Needs.{needs}
 use borrow.Fn.Kinds.{In}
 use borrow.Fn.PlainCycle.{Measures, is, falls, and}
-use Rattle.compile.proofs.Answers.{rooms-long}
+use Rattle.compile.proofs.Answers.{enough-for-all}
 use Rattle.compile.proofs.rooms.compile_long.Reads as compile-long
 use Rattle.compile.proofs.rooms.compile_long.Kinds as kinds
 use Rattle.compile.proofs.rooms.compile_in.Reads as compile-in-reads
@@ -52,7 +52,7 @@ module _ (t : ℕ) where
   compile-in-requires : lts.Need-compile-in-requires (calls t) (at t) compile-long.Post
   compile-in-requires c κs =
       let e = c .before .before .before .before .before .before .before .before .pre .1 in
-      (rooms-long e refl refl, e)
+      (enough-for-all e refl refl, e)
 
   same-length-3 : lts.Need-same-length-3 (calls t) (at t) compile-long.Post
   same-length-3 c = search needs

@@ -1,12 +1,10 @@
 -- `compile::rooms::compile_middle` meets its contract: rooms of its own are large enough for the query, and a call of itself answers the same.
 -- The measure is `again`. Assumes nothing.
-use mathlib.Core.Path.{refl}
 use Prim.Native.Nat.{ℕ, _<_}
 use native.Mathlib.Omega.{arith}
 use borrow.Author.Needs.{needs}
 use borrow.Fn.Kinds.{In}
 use borrow.Fn.PlainCycle.{Measures, is, falls, and}
-use Rattle.compile.proofs.Answers.{rooms-middle}
 use Rattle.compile.proofs.rooms.compile_middle.Reads as compile-middle
 use Rattle.compile.proofs.rooms.compile_middle.Kinds as kinds
 use Rattle.compile.proofs.rooms.compile_in.Reads as compile-in-reads
@@ -50,9 +48,7 @@ module _ (t : ℕ) where
   slice-aggregate-compile-in-2 c = search needs
 
   compile-in-requires : lts.Need-compile-in-requires (calls t) (at t) compile-middle.Post
-  compile-in-requires c κs =
-      let e = c .before .before .before .before .before .before .before .before .pre .1 in
-      (rooms-middle (e .1) (e .0) refl refl, e .1)
+  compile-in-requires c κs = search needs
 
   same-length-3 : lts.Need-same-length-3 (calls t) (at t) compile-middle.Post
   same-length-3 c = search needs

@@ -1,6 +1,6 @@
 -- `compile::rooms::compile_in` meets its contract: the outcome of a query that no early refusal meets.
 use Rattle.parser_items.specs.Laws.{whole}
-use Rattle.compile.proofs.Answers.{rooms-whole, parse-whole, whole-of, none-of, numbered, outcome-refused, outcome-form, outcome-none}
+use Rattle.compile.proofs.Answers.{rooms-of, rooms-whole, parse-whole, whole-of, none-of, numbered, outcome-refused, outcome-form, outcome-none}
 use denote.Ref.{now}
 use borrow.Author.Needs.{needs}
 use Rattle.compile.proofs.rooms.compile_in.Statement.{statement}
@@ -16,7 +16,7 @@ part-parse-end : tie.Need-part-parse-end
 part-parse-end c = search needs
 
 parse-requires : tie.Need-parse-requires
-parse-requires c κs = rooms-whole (whole _) (c .before .before .before .before .before .before .before .before .pre .0)
+parse-requires c κs = let s = c .before .before .before .before .before .before .before .before .pre in rooms-whole (whole _) (rooms-of (s .0) (s .1))
 
 enum-told : tie.Need-enum-told
 enum-told c = search needs

@@ -1,7 +1,7 @@
 -- `regex_leaves::counts::digits` meets its contract. The loop's invariant: the digits that were passed stand for the number so far. The measure is what is left. Assumes nothing.
+use borrow.Author.Tests.{not-true, not-false}
 use borrow.Author.Needs.{needs}
 use Rattle.regex_leaves.proofs.OfCounts.{digit-bounds, Passed, passed-none, digits-end, digits-stop, digits-many, passed-more}
-use Rattle.regex_leaves.proofs.OfChars.{off, on}
 use lib.ListN.{length, getD}
 use Prim.Native.Nat.{_-_}
 use mathlib.Core.Path.{sym, _∙_}
@@ -32,7 +32,7 @@ is-digit-requires c κs = search needs
 
 -- src/counts.rt:49:13
 returns : tie.Need-returns Inv-loop μ-loop
-returns c = digits-stop _ _ (c .before .before .before .before .loop .inv) (c .before .before .before .loop-test .taken) (sym (c .before .is-digit .ensures) ∙ off (c .before .is-digit .result) (c .if1 .taken))
+returns c = digits-stop _ _ (c .before .before .before .before .loop .inv) (c .before .before .before .loop-test .taken) (sym (c .before .is-digit .ensures) ∙ not-true (c .before .is-digit .result) (c .if1 .taken))
 
 -- src/counts.rt:51:13
 mul-v : tie.Need-mul-v Inv-loop μ-loop
@@ -40,15 +40,15 @@ mul-v c = let g = c .before .before .before .before .loop .inv .small in search 
 
 -- src/counts.rt:51:23
 sub-v : tie.Need-sub-v Inv-loop μ-loop
-sub-v c = let g = digit-bounds (getD (c .before .before .before .before .before .before .args .s .now) (c .before .before .before .before .loop .i) 0) (sym (c .before .is-digit .ensures) ∙ on (c .before .is-digit .result) (c .if1 .left)) .0 in search (needs, g)
+sub-v c = let g = digit-bounds (getD (c .before .before .before .before .before .before .args .s .now) (c .before .before .before .before .loop .i) 0) (sym (c .before .is-digit .ensures) ∙ not-false (c .before .is-digit .result) (c .if1 .left)) .0 in search (needs, g)
 
 -- src/counts.rt:51:13
 add-v : tie.Need-add-v Inv-loop μ-loop
-add-v c = let g = c .before .before .before .before .loop .inv .small in let h = digit-bounds (getD (c .before .before .before .before .before .before .args .s .now) (c .before .before .before .before .loop .i) 0) (sym (c .before .is-digit .ensures) ∙ on (c .before .is-digit .result) (c .if1 .left)) .1 in search (needs, g, h)
+add-v c = let g = c .before .before .before .before .loop .inv .small in let h = digit-bounds (getD (c .before .before .before .before .before .before .args .s .now) (c .before .before .before .before .loop .i) 0) (sym (c .before .is-digit .ensures) ∙ not-false (c .before .is-digit .result) (c .if1 .left)) .1 in search (needs, g, h)
 
 -- src/counts.rt:53:13
 returns-2 : tie.Need-returns-2 Inv-loop μ-loop
-returns-2 c = digits-many _ _ (c .before .before .before .before .before .loop .inv) (c .before .before .before .before .loop-test .taken) (sym (c .before .before .is-digit .ensures) ∙ on (c .before .before .is-digit .result) (c .before .if1 .left)) (c .if2 .taken)
+returns-2 c = digits-many _ _ (c .before .before .before .before .before .loop .inv) (c .before .before .before .before .loop-test .taken) (sym (c .before .before .is-digit .ensures) ∙ not-false (c .before .before .is-digit .result) (c .before .if1 .left)) (c .if2 .taken)
 
 -- src/counts.rt:55:9
 add-i : tie.Need-add-i Inv-loop μ-loop
@@ -60,7 +60,7 @@ loop-less c = search needs
 
 -- src/counts.rt:46:5
 loop-again : tie.Need-loop-again Inv-loop μ-loop
-loop-again c = passed-more _ _ (c .before .before .before .before .before .loop .inv) (c .before .before .before .before .loop-test .taken) (sym (c .before .before .is-digit .ensures) ∙ on (c .before .before .is-digit .result) (c .before .if1 .left)) (c .if2 .left)
+loop-again c = passed-more _ _ (c .before .before .before .before .before .loop .inv) (c .before .before .before .before .loop-test .taken) (sym (c .before .before .is-digit .ensures) ∙ not-false (c .before .before .is-digit .result) (c .before .if1 .left)) (c .if2 .left)
 
 -- src/counts.rt:40:1
 returns-3 : tie.Need-returns-3 Inv-loop μ-loop

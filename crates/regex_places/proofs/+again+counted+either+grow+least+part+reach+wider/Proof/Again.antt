@@ -1,5 +1,5 @@
 -- The answers of `again` in the cycle of calls {again, counted, either, grow, least, part, reach, wider}.
-use Rattle.regex_places.proofs.Walks.{rows-start, rows-on, rows-none, rows-end, fits-on}
+use Rattle.regex_places.proofs.Leads.{rows-start, rows-on, rows-none, rows-end, fits-on}
 use Rattle.regex_places.specs.Places.{Left, rows}
 use native.Mathlib.Omega.{arith}
 use Rattle.regex_places.proofs.+again+counted+either+grow+least+part+reach+wider.Lts-again as lts

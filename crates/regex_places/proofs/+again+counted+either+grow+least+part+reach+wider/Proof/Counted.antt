@@ -1,5 +1,5 @@
 -- The answers of `counted` in the cycle of calls {again, counted, either, grow, least, part, reach, wider}.
-use Rattle.regex_places.proofs.Walks.{by-counts, by-none, fits-on}
+use Rattle.regex_places.proofs.Leads.{by-counts, by-none, fits-on}
 use mathlib.Core.Path.{refl, _∙_}
 use borrow.Author.Needs.{needs}
 use native.Mathlib.Omega.{arith}

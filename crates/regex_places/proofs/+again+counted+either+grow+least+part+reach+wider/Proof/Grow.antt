@@ -1,5 +1,6 @@
 -- The answers of `grow` in the cycle of calls {again, counted, either, grow, least, part, reach, wider}.
-use Rattle.regex_places.proofs.Walks.{most-start, most-on, most-still, most-end, fits-on, not-so}
+use borrow.Author.Tests.{not-true}
+use Rattle.regex_places.proofs.Leads.{most-start, most-on, most-still, most-end, fits-on}
 use Rattle.regex_places.specs.Places.{Left, most}
 use mathlib.Core.Path.{_∙_}
 use native.Mathlib.Omega.{arith}
@@ -29,7 +30,7 @@ module _ (t : ℕ) where
   same-length c = c .before .before .before .wider .ensures .long ∙ c .before .before .before .before .before .before .loop .inv .long
 
   pub returns : lts.Need-returns (calls t) (grow-at t) grow.Post Inv-loop μ-loop
-  returns c = most-still (c .before .before .before .before .before .before .before .before .before .before .args .n) (c .before .before .before .before .before .before .loop .inv) (c .before .before .before .wider .ensures) (not-so _ (c .if1 .taken))
+  returns c = most-still (c .before .before .before .before .before .before .before .before .before .before .args .n) (c .before .before .before .before .before .before .loop .inv) (c .before .before .before .wider .ensures) (not-true _ (c .if1 .taken))
 
   pub sub-left : lts.Need-sub-left (calls t) (grow-at t) grow.Post Inv-loop μ-loop
   sub-left c = omega (arith, c .before .before .before .before .before .loop-test .taken)

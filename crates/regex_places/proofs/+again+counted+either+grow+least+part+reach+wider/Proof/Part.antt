@@ -1,5 +1,5 @@
 -- The answers of `part` in the cycle of calls {again, counted, either, grow, least, part, reach, wider}.
-use Rattle.regex_places.proofs.Walks.{nowhere, of-none, too-short, no-word}
+use Rattle.regex_places.proofs.Leads.{nowhere, of-none, too-short, no-word}
 use mathlib.Core.Path.{refl}
 use native.Mathlib.Omega.{arith}
 use Rattle.regex_places.proofs.+again+counted+either+grow+least+part+reach+wider.Lts-part as lts

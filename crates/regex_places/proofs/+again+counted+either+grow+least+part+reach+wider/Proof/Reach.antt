@@ -1,5 +1,5 @@
 -- The answers of `reach` in the cycle of calls {again, counted, either, grow, least, part, reach, wider}.
-use Rattle.regex_places.proofs.Walks.{row-start, row-on, row-end, row-off, fits-on}
+use Rattle.regex_places.proofs.Leads.{row-start, row-on, row-end, row-off, fits-on}
 use Rattle.regex_places.specs.Places.{Row-left, IsRow}
 use lib.ListN.{length}
 use Prim.Native.Nat.{_-_}

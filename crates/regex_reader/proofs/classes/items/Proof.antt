@@ -1,7 +1,7 @@
 -- `regex_reader::classes::items` meets its contract. The loop's invariant: the items that were passed have the ranges that are written. The measure is what is left. Assumes nothing.
+use Rattle.basics.specs.Stores.{wrote-length}
 use borrow.Author.Needs.{fits-under}
 use Rattle.regex_reader.proofs.OfClasses.{item-is, Going, going-none, ranges-close, ranges-dash, ranges-none, going-more}
-use Rattle.regex_reader.proofs.Parts.{wrote-length}
 use lib.ListN.{length}
 use Prim.Native.Nat.{_-_}
 use borrow.Author.Needs.{needs}

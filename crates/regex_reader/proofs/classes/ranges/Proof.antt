@@ -1,6 +1,6 @@
 -- `regex_reader::classes::ranges` meets its contract. Assumes nothing.
+use Rattle.basics.specs.Stores.{wrote-length}
 use Rattle.regex_reader.proofs.OfClasses.{item-is, more-is, class-none, class-open, class-next}
-use Rattle.regex_reader.proofs.Parts.{wrote-length}
 use lib.ListN.{length-set}
 use borrow.Author.Needs.{fits-under}
 use native.Mathlib.Omega.{arith}

@@ -1,6 +1,6 @@
 -- `regex_rooms::reads::put_before` meets its contract. Assumes nothing.
+use Rattle.basics.specs.Stores.{wrote-length}
 use Rattle.regex_rooms.proofs.Laws.{seven}
-use Rattle.regex_reader.proofs.Parts.{wrote-length}
 use mathlib.Core.Path.{_∙_}
 use lib.ListN.{length-set}
 use native.Mathlib.Omega.{arith}

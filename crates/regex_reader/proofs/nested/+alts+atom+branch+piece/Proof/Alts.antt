@@ -1,7 +1,7 @@
 -- The answers of `alts` in the cycle of calls {alts, atom, branch, piece}.
+use Rattle.basics.specs.Stores.{wrote-length}
+use borrow.Author.Tests.{not-true, not-false}
 use Rattle.regex_reader.proofs.OfNested.{read-is, Alternating, alternating-none, alts-none, alts-last, alts-more, room-alts, room-insert}
-use Rattle.regex_reader.proofs.Parts.{wrote-length}
-use Rattle.regex_leaves.proofs.OfChars.{off, on}
 use lib.ListN.{length}
 use Prim.Native.Nat.{_-_}
 use borrow.Author.Needs.{fits-under}
@@ -60,24 +60,24 @@ module _ (t : ℕ) where
 
   -- src/nested.rt:106:21
   pub returns-2 : lts.Need-returns-2 (calls t) (alts-at t) alts.Post Inv-loop μ-loop
-  returns-2 c = alts-last (c .before .before .before .before .before .before .before .before .before .loop .inv) (read-is (rw (c .before .before .before .n .given .1) at (c .before .before .before .before .before .before .before .branch .ensures))) (c .before .is .ensures) (off (c .before .is .result) (c .if1 .taken))
+  returns-2 c = alts-last (c .before .before .before .before .before .before .before .before .before .loop .inv) (read-is (rw (c .before .before .before .n .given .1) at (c .before .before .before .before .before .before .before .branch .ensures))) (c .before .is .ensures) (not-true (c .before .is .result) (c .if1 .taken))
 
   -- src/nested.rt:111:17
   pub insert-requires : lts.Need-insert-requires (calls t) (alts-at t) alts.Post Inv-loop μ-loop
-  insert-requires c κs = let r = room-insert (room-alts (c .before .before .before .before .before .before .before .before .before .before .before .before .before .pre .1) (c .before .before .before .before .before .before .before .before .before .before .loop .inv)) (read-is (rw (c .before .before .before .before .n .given .1) at (c .before .before .before .before .before .before .before .before .branch .ensures))) (c .before .before .is .ensures .inside (on (c .before .before .is .result) (c .before .if1 .left))) in (r .0, let z = r .1 in omega (arith, z))
+  insert-requires c κs = let r = room-insert (room-alts (c .before .before .before .before .before .before .before .before .before .before .before .before .before .pre .1) (c .before .before .before .before .before .before .before .before .before .before .loop .inv)) (read-is (rw (c .before .before .before .before .n .given .1) at (c .before .before .before .before .before .before .before .before .branch .ensures))) (c .before .before .is .ensures .inside (not-false (c .before .before .is .result) (c .before .if1 .left))) in (r .0, let z = r .1 in omega (arith, z))
 
   -- src/nested.rt:112:22
   pub add-at : lts.Need-add-at (calls t) (alts-at t) alts.Post Inv-loop μ-loop
-  add-at c = let h = c .before .before .before .before .before .is .ensures .inside (on (c .before .before .before .before .before .is .result) (c .before .before .before .before .if1 .left)) in fits-under _ _ 4096 (omega (arith, h, c .before .before .before .before .before .before .before .before .before .before .before .before .before .before .before .before .pre .1 .small)) tt
+  add-at c = let h = c .before .before .before .before .before .is .ensures .inside (not-false (c .before .before .before .before .before .is .result) (c .before .before .before .before .if1 .left)) in fits-under _ _ 4096 (omega (arith, h, c .before .before .before .before .before .before .before .before .before .before .before .before .before .before .before .before .pre .1 .small)) tt
 
   -- src/nested.rt:113:23
   pub add-len : lts.Need-add-len (calls t) (alts-at t) alts.Post Inv-loop μ-loop
-  add-len c = let r = room-insert (room-alts (c .before .before .before .before .before .before .before .before .before .before .before .before .before .before .before .before .pre .1) (c .before .before .before .before .before .before .before .before .before .before .before .before .before .loop .inv)) (read-is (rw (c .before .before .before .before .before .before .before .n .given .1) at (c .before .before .before .before .before .before .before .before .before .before .before .branch .ensures))) (c .before .before .before .before .before .is .ensures .inside (on (c .before .before .before .before .before .is .result) (c .before .before .before .before .if1 .left))) in let z = r .1 in let l = wrote-length ((read-is (rw (c .before .before .before .before .before .before .before .n .given .1) at (c .before .before .before .before .before .before .before .before .before .before .before .branch .ensures))) .buf) in let m = wrote-length (c .before .before .before .before .before .before .before .before .before .before .before .before .before .loop .inv .buf) in search (needs, z, l, m, c .slice-known3 .given)
+  add-len c = let r = room-insert (room-alts (c .before .before .before .before .before .before .before .before .before .before .before .before .before .before .before .before .pre .1) (c .before .before .before .before .before .before .before .before .before .before .before .before .before .loop .inv)) (read-is (rw (c .before .before .before .before .before .before .before .n .given .1) at (c .before .before .before .before .before .before .before .before .before .before .before .branch .ensures))) (c .before .before .before .before .before .is .ensures .inside (not-false (c .before .before .before .before .before .is .result) (c .before .before .before .before .if1 .left))) in let z = r .1 in let l = wrote-length ((read-is (rw (c .before .before .before .before .before .before .before .n .given .1) at (c .before .before .before .before .before .before .before .before .before .before .before .branch .ensures))) .buf) in let m = wrote-length (c .before .before .before .before .before .before .before .before .before .before .before .before .before .loop .inv .buf) in search (needs, z, l, m, c .slice-known3 .given)
 
   -- src/nested.rt:99:5
   pub loop-less : lts.Need-loop-less (calls t) (alts-at t) alts.Post Inv-loop μ-loop
-  loop-less c = let h = c .before .before .before .before .before .is .ensures .inside (on (c .before .before .before .before .before .is .result) (c .before .before .before .before .if1 .left)) in omega (arith, h, (read-is (rw (c .before .before .before .before .before .before .before .n .given .1) at (c .before .before .before .before .before .before .before .before .before .before .before .branch .ensures))) .from)
+  loop-less c = let h = c .before .before .before .before .before .is .ensures .inside (not-false (c .before .before .before .before .before .is .result) (c .before .before .before .before .if1 .left)) in omega (arith, h, (read-is (rw (c .before .before .before .before .before .before .before .n .given .1) at (c .before .before .before .before .before .before .before .before .before .before .before .branch .ensures))) .from)
 
   -- src/nested.rt:99:5
   pub loop-again : lts.Need-loop-again (calls t) (alts-at t) alts.Post Inv-loop μ-loop
-  loop-again c = alts-more (c .before .before .before .before .before .before .before .before .before .before .before .before .before .loop .inv) (read-is (rw (c .before .before .before .before .before .before .before .n .given .1) at (c .before .before .before .before .before .before .before .before .before .before .before .branch .ensures))) (c .before .before .before .before .before .is .ensures) (on (c .before .before .before .before .before .is .result) (c .before .before .before .before .if1 .left)) (c .before .before .insert .ensures)
+  loop-again c = alts-more (c .before .before .before .before .before .before .before .before .before .before .before .before .before .loop .inv) (read-is (rw (c .before .before .before .before .before .before .before .n .given .1) at (c .before .before .before .before .before .before .before .before .before .before .before .branch .ensures))) (c .before .before .before .before .before .is .ensures) (not-false (c .before .before .before .before .before .is .result) (c .before .before .before .before .if1 .left)) (c .before .before .insert .ensures)

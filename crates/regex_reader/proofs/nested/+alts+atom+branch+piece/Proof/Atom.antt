@@ -1,6 +1,6 @@
 -- The answers of `atom` in the cycle of calls {alts, atom, branch, piece}.
+use borrow.Author.Tests.{not-true, not-false}
 use Rattle.regex_reader.proofs.OfNested.{read-is, atom-leaf, atom-none, atom-group, atom-open, room-on}
-use Rattle.regex_leaves.proofs.OfChars.{off, on}
 use borrow.Author.Needs.{fits-under}
 use borrow.Author.Needs.{needs}
 use native.Mathlib.Omega.{arith}
@@ -30,7 +30,7 @@ module _ (t : ℕ) where
 
   -- src/nested.rt:28:9
   pub returns : lts.Need-returns (calls t) (atom-at t) atom.Post
-  returns c = atom-leaf _ _ _ _ (c .before .before .before .before .before .is .ensures) (off (c .before .before .before .before .before .is .result) (c .before .before .before .before .if1 .taken)) (c .before .before .leaf .ensures)
+  returns c = atom-leaf _ _ _ _ (c .before .before .before .before .before .is .ensures) (not-true (c .before .before .before .before .before .is .result) (c .before .before .before .before .if1 .taken)) (c .before .before .leaf .ensures)
 
   -- src/nested.rt:30:37
   pub add-t17 : lts.Need-add-t17 (calls t) (atom-at t) atom.Post
@@ -62,7 +62,7 @@ module _ (t : ℕ) where
 
   -- src/nested.rt:36:17
   pub returns-2 : lts.Need-returns-2 (calls t) (atom-at t) atom.Post
-  returns-2 c = atom-group _ _ _ _ (c .before .before .before .before .before .before .before .before .before .before .is .ensures) (on (c .before .before .before .before .before .before .before .before .before .before .is .result) (c .before .before .before .before .before .before .before .before .before .if1 .left)) (read-is (rw (c .before .before .before .n .given .1) at (c .before .before .before .before .before .before .before .alts .ensures))) (c .before .is2 .ensures) (c .if2 .taken)
+  returns-2 c = atom-group _ _ _ _ (c .before .before .before .before .before .before .before .before .before .before .is .ensures) (not-false (c .before .before .before .before .before .before .before .before .before .before .is .result) (c .before .before .before .before .before .before .before .before .before .if1 .left)) (read-is (rw (c .before .before .before .n .given .1) at (c .before .before .before .before .before .before .before .alts .ensures))) (c .before .is2 .ensures) (c .if2 .taken)
 
   -- src/nested.rt:21:1
   pub same-length-3 : lts.Need-same-length-3 (calls t) (atom-at t) atom.Post
@@ -70,7 +70,7 @@ module _ (t : ℕ) where
 
   -- src/nested.rt:21:1
   pub returns-3 : lts.Need-returns-3 (calls t) (atom-at t) atom.Post
-  returns-3 c = atom-none _ _ _ _ (c .before .before .before .before .before .before .before .is .ensures) (on (c .before .before .before .before .before .before .before .is .result) (c .before .before .before .before .before .before .if1 .left)) (rw (c .enum-told .given .1) at (c .before .before .before .before .alts .ensures))
+  returns-3 c = atom-none _ _ _ _ (c .before .before .before .before .before .before .before .is .ensures) (not-false (c .before .before .before .before .before .before .before .is .result) (c .before .before .before .before .before .before .if1 .left)) (rw (c .enum-told .given .1) at (c .before .before .before .before .alts .ensures))
 
   -- src/nested.rt:21:1
   pub same-length-4 : lts.Need-same-length-4 (calls t) (atom-at t) atom.Post
@@ -78,4 +78,4 @@ module _ (t : ℕ) where
 
   -- src/nested.rt:21:1
   pub returns-4 : lts.Need-returns-4 (calls t) (atom-at t) atom.Post
-  returns-4 c = atom-open _ _ _ _ (c .before .before .before .before .before .before .before .before .before .before .is .ensures) (on (c .before .before .before .before .before .before .before .before .before .before .is .result) (c .before .before .before .before .before .before .before .before .before .if1 .left)) (read-is (rw (c .before .before .before .n .given .1) at (c .before .before .before .before .before .before .before .alts .ensures))) (c .before .is2 .ensures) (c .if2 .left)
+  returns-4 c = atom-open _ _ _ _ (c .before .before .before .before .before .before .before .before .before .before .is .ensures) (not-false (c .before .before .before .before .before .before .before .before .before .before .is .result) (c .before .before .before .before .before .before .before .before .before .if1 .left)) (read-is (rw (c .before .before .before .n .given .1) at (c .before .before .before .before .before .before .before .alts .ensures))) (c .before .is2 .ensures) (c .if2 .left)

@@ -1,6 +1,6 @@
 -- The answers of `branch` in the cycle of calls {alts, atom, branch, piece}.
+use Rattle.basics.specs.Stores.{wrote-length}
 use Rattle.regex_reader.proofs.OfNested.{read-is, Branching, branching-none, branch-end, branch-none, branch-more, begun, room-branch, room-piece}
-use Rattle.regex_reader.proofs.Parts.{wrote-length}
 use lib.ListN.{length, length-set}
 use Prim.Native.Nat.{_-_}
 use borrow.Author.Needs.{needs}

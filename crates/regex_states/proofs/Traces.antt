@@ -1,4 +1,4 @@
--- A walk over a text from state to state. Assumes nothing.
+-- A trace over a text from state to state. Assumes nothing.
 use mathlib.Core.Path.{_≡_, refl, sym, _∙_, subst}
 use mathlib.Core.Bool.{Bool}
 use mathlib.Core.List.{List}
@@ -11,7 +11,7 @@ use Rattle.regex_chars.specs.Chars.{Stands}
 use Rattle.regex_marks.specs.Moves.{Fits}
 use Rattle.regex_marks.specs.Runs.{Read, Ran}
 use Rattle.regex_states.specs.Ready.{width, count, Tables}
-use Rattle.regex_states.specs.Texts.{Inside, Followed, Stepped, Walking}
+use Rattle.regex_states.specs.Texts.{Inside, Followed, Stepped, Tracing}
 use Rattle.regex_states.proofs.Steps.{
   along-start,
   along-step,
@@ -22,9 +22,9 @@ use Rattle.regex_states.proofs.Steps.{
   reached-trail,
 }
 
-pub walk-start :
-    {s t es ss ms : List ℕ} → Tables s es ss → length ms ≡ width ss → Walking s t ss es ss ms 0 1
-walk-start g n =
+pub trace-start :
+    {s t es ss ms : List ℕ} → Tables s es ss → length ms ≡ width ss → Tracing s t ss es ss ms 0 1
+trace-start g n =
     record {
       tables = g;
       wide = refl;
@@ -36,16 +36,16 @@ walk-start g n =
     }
 
 -- at a place
-module _ {s t ss0 es ss ms : List ℕ} {i k : ℕ} (w : Walking s t ss0 es ss ms i k) where
-  pub walk-inside : Inside es k
-  walk-inside =
+module _ {s t ss0 es ss ms : List ℕ} {i k : ℕ} (w : Tracing s t ss0 es ss ms i k) where
+  pub trace-inside : Inside es k
+  trace-inside =
       record { count = count ss; here = (w .low, w .high); fits = w .tables .edges; inside = w .tables .inside }
 
-  pub walk-row : k * 128 + 128 ≤ length ss
-  walk-row = omega (arith, w .high, w .tables .sets)
+  pub trace-row : k * 128 + 128 ≤ length ss
+  trace-row = omega (arith, w .high, w .tables .sets)
 
-  pub walk-follow : {j m : ℕ} → Followed es t i k j m → Walking s t ss0 es ss ms j m
-  walk-follow f =
+  pub trace-follow : {j m : ℕ} → Followed es t i k j m → Tracing s t ss0 es ss ms j m
+  trace-follow f =
       let h = trail-inside (w .tables) i k (w .low) (w .high) (f .trail) in
       record {
         tables = w .tables;
@@ -58,15 +58,15 @@ module _ {s t ss0 es ss ms : List ℕ} {i k : ℕ} (w : Walking s t ss0 es ss ms
       }
 
   -- the answers
-  pub walk-end : length t ≤ i → Ran s t (width ss0) (eqb (getD ss (k * 128 + 127) 0) 1)
-  walk-end h =
+  pub trace-end : length t ≤ i → Ran s t (width ss0) (eqb (getD ss (k * 128 + 127) 0) 1)
+  trace-end h =
       record {
         of =
             λ x cs e u r. along-end (w .reached .of x cs e u) h (w .tables .of x e .state k (w .low) (w .high) .told);
       }
 
-  pub walk-settled : getD ss (k * 128 + 126) 0 ≡ 1 → Ran s t (width ss0) (eqb (getD ss (k * 128 + 127) 0) 1)
-  walk-settled h =
+  pub trace-settled : getD ss (k * 128 + 126) 0 ≡ 1 → Ran s t (width ss0) (eqb (getD ss (k * 128 + 127) 0) 1)
+  trace-settled h =
       record {
         of =
             λ x cs e u r.
@@ -83,8 +83,8 @@ module _ {s t ss0 es ss ms : List ℕ} {i k : ℕ} (w : Walking s t ss0 es ss ms
       (st : Stands t i (length t) next c)
       (p : Stepped s es ss k c es' ss' ms' r b)
     where
-      pub walk-step : (r ≡ 0 → ⊥) → Walking s t ss0 es' ss' ms' next r
-      walk-step n =
+      pub trace-step : (r ≡ 0 → ⊥) → Tracing s t ss0 es' ss' ms' next r
+      trace-step n =
           let q = p .state n in
           record {
             tables = p .tables;
@@ -101,8 +101,8 @@ module _ {s t ss0 es ss ms : List ℕ} {i k : ℕ} (w : Walking s t ss0 es ss ms
                 };
           }
 
-      pub walk-fits : Fits s 0 ms' 0
-      walk-fits =
+      pub trace-fits : Fits s 0 ms' 0
+      trace-fits =
           record {
             place = omega arith;
             words = omega (arith, p .tables .words);
@@ -110,8 +110,8 @@ module _ {s t ss0 es ss ms : List ℕ} {i k : ℕ} (w : Walking s t ss0 es ss ms
             few = omega (arith, p .long, w .tables .few);
           }
 
-      pub walk-read : r ≡ 0 → Read s t next ms' b
-      walk-read n =
+      pub trace-read : r ≡ 0 → Read s t next ms' b
+      trace-read n =
           record {
             of =
                 λ x cs e u y.
@@ -119,5 +119,5 @@ module _ {s t ss0 es ss ms : List ℕ} {i k : ℕ} (w : Walking s t ss0 es ss ms
                 along-read (along-step (w .reached .of x cs e u) h st (f .2)) (λ z. omega arith) (omega (arith, st .after)) (f .0) (f .1);
           }
 
-      pub walk-ran : {m : ℕ} {d : Bool} → m ≡ length ms' → Ran s t m d → Ran s t (width ss0) d
-      walk-ran {m} {d} e q = subst (λ n. Ran s t n d) (e ∙ p .long ∙ w .wide) q
+      pub trace-ran : {m : ℕ} {d : Bool} → m ≡ length ms' → Ran s t m d → Ran s t (width ss0) d
+      trace-ran {m} {d} e q = subst (λ n. Ran s t n d) (e ∙ p .long ∙ w .wide) q

@@ -1,6 +1,6 @@
 -- The places to which an expression leads, by the expression's parts. Assumes nothing.
 use mathlib.Core.Path.{_≡_, refl, ap, sym, _∙_, subst}
-use mathlib.Core.Bool.{Bool, true, false, not}
+use mathlib.Core.Bool.{Bool, true, false}
 use mathlib.Core.List.{List, [], _∷_}
 use mathlib.Core.Logic.{_⊎_, inl, inr, ⊎-elim}
 use Prim.Native.Nat.{ℕ, suc, _+_, _-_, _≤_, _<_, zero-le}
@@ -360,10 +360,6 @@ fits-on f e = record { short = f .short; room = omega (arith, f .room) }
 
 pub fits-all : {t ms ms' : List ℕ} → Fits t ms → length ms' ≡ 1024 → Fits t ms'
 fits-all f e = record { short = f .short; room = omega (arith, f .short) }
-
-pub not-so : (b : Bool) → not b ≡ true → b ≡ false
-not-so false e = refl
-not-so true e = sym e
 
 -- ---- from the first place to the last
 
