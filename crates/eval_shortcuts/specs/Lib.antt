@@ -2,6 +2,8 @@ pub mod Flats
 pub mod FlatLaws
 pub mod FlatTests
 pub mod Alongs
+pub mod Picks
+pub mod Picked
 pub mod Entries
 pub mod Joined
 pub mod Rows

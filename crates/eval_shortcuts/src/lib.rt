@@ -4,7 +4,8 @@
 //
 //   flats     nodes with nothing below their children under a descendant segment of one selector
 //   joined    a range of nodes with a filter of several tests
-//   straight  a range of nodes with names and indices up to the end
+//   straight  a range of nodes with names and indices up to the end, one in each segment
+//   several   the same with several in the last segment
 //
 // Filters that are read once stand in `eval_filters`, those with match or search of a text of the plan in `eval_rows`.
 ghost use Rattle.eval_front.specs.Visits.{Given};
@@ -24,11 +25,13 @@ use eval_asks::TEXT;
 use eval_filters::kept;
 use eval_rows::calls;
 use eval_rows::rows::Filter;
+use plan_format::kinds::END;
 use table::records;
 use text::bytes;
 
 pub mod flats;
 pub mod joined;
+pub mod several;
 pub mod straight;
 
 // The first node from i on that needs a call with the segments at rest, or i. What names and indices up to the end lead to from those before it is pushed.
@@ -47,7 +50,10 @@ pub fn ahead(
 {
     let plan = lent[PLAN];
     if !straight::leads(plan, rest) {
-        return i;
+        if plan[rest] == END {
+            return i;
+        }
+        return pick_ahead(lent, state, list, i, e, rest);
     }
     let at = state[AT];
     let r = straight::push_along(
@@ -58,6 +64,43 @@ pub fn ahead(
         i,
         e,
         rest,
+        *list,
+        at,
+        state[CAP],
+    );
+    state[AT] = r.at;
+    r.i
+}
+
+// The same where the last segment has several.
+fn pick_ahead(
+    lent: &[&[u8]; 4],
+    state: &mut [usize; 3],
+    list: &mut &mut [u32],
+    i: usize,
+    e: usize,
+    rest: usize,
+) -> usize
+    requires { ⌜ Asked (now lent) (now state) (now (now list)) ⌝ }
+    requires { ⌜ AskEach (now lent) i e rest ⌝ }
+    ensures { λ r. ⌜ Steady (now (state .entry)) (now (list .entry)) (now (state .exit)) (now (list .exit)) ⌝ }
+    ensures { λ r. ⌜ DoneAhead (now (lent .entry)) i e rest (now (state .entry)) (now (now (list .entry))) (now (state .exit)) (now (now (list .exit))) r ⌝ }
+{
+    let plan = lent[PLAN];
+    let pc = several::last(plan, rest);
+    if pc == 0 {
+        return i;
+    }
+    let at = state[AT];
+    let r = several::push_picked(
+        plan,
+        lent[POOL],
+        lent[TABLE],
+        lent[TEXT],
+        i,
+        e,
+        rest,
+        pc,
         *list,
         at,
         state[CAP],

@@ -15,8 +15,17 @@ element-copy-out-plan c = search needs
 leads-requires : tie.Need-leads-requires
 leads-requires c κs = (c .before .pre .0 .given .fewP, omega (arith, rest-here (c .before .pre .1)))
 
+shared-slice-read-if2 : tie.Need-shared-slice-read-if2
+shared-slice-read-if2 c = rest-here (c .before .before .before .before .pre .1)
+
 returns : tie.Need-returns
-returns c = (steady-refl _ _, ahead-none (c .before .before .before .pre .0))
+returns c = (steady-refl _ _, ahead-none (c .before .before .before .before .before .pre .0))
+
+pick-ahead-requires : tie.Need-pick-ahead-requires
+pick-ahead-requires c κs = c .before .before .before .before .before .before .before .pre
+
+returns-2 : tie.Need-returns-2
+returns-2 c = c .pick-ahead .ensures
 
 element-copy-out-at : tie.Need-element-copy-out-at
 element-copy-out-at c = search needs
@@ -42,8 +51,8 @@ push-along-requires c κs = ahead-asked (c .before .before .before .before .befo
 element-write-state : tie.Need-element-write-state
 element-write-state c = search needs
 
-returns-2 : tie.Need-returns-2
-returns-2 c = (steady-wrote _ _ _ _ (c .push-along .kept .1 .1 .1 .1 .1 .1 .1 .0) refl, ahead-done (c .before .before .before .before .before .before .before .before .before .before .pre .0) (c .push-along .ensures))
+returns-3 : tie.Need-returns-3
+returns-3 c = (steady-wrote _ _ _ _ (c .push-along .kept .1 .1 .1 .1 .1 .1 .1 .0) refl, ahead-done (c .before .before .before .before .before .before .before .before .before .before .pre .0) (c .push-along .ensures))
 
 pub ahead-spec : {M : Type 1} → statement M
 ahead-spec =
@@ -51,7 +60,10 @@ ahead-spec =
     (tie.spec
     element-copy-out-plan
     leads-requires
+    shared-slice-read-if2
     returns
+    pick-ahead-requires
+    returns-2
     element-copy-out-at
     element-copy-out-push-along
     element-copy-out-push-along-2
@@ -60,4 +72,4 @@ ahead-spec =
     element-copy-out-push-along-4
     push-along-requires
     element-write-state
-    returns-2)
+    returns-3)
