@@ -1,4 +1,4 @@
--- A query in a filter's code: where it begins, that the walk from there is what is asked for, and what the registers hold behind it. Assumes nothing.
+-- A query in a filter's code: where it begins, that evaluation from there is what is asked for, and what the registers hold behind it. Assumes nothing.
 use Prim.Native.Nat.{ℕ, _+_, _≤_, _<_}
 use mathlib.Core.Path.{_≡_, refl, ap, _∙_, subst}
 use mathlib.Core.List.{List, [], _∷_}
@@ -73,7 +73,7 @@ here {P} {L} {S} {X} {root} {node} {s} a =
       ends = λ z p. let e = p (y .f) (y .k) (y .at) in (omega arith, omega arith);
     }
 
--- what the walk finds with one place
+-- what evaluation finds with one place
 pub nested-found : (P L S X : List ℕ) → Accepted S X → (from pc mode cap : ℕ) → from < nodeCount S → cap ≡ capFor mode → (l : List ℕ) (n : ℕ)
     → ((f : Segments) (k : ℕ) → SegmentsAt P L pc k f → st cap l n ≡ go f (nodeAt S X from) (nodeAt S X from ∷ []) (st cap (0 ∷ []) 0))
     → (f : Segments) (k : ℕ) → SegmentsAt P L pc k f → Found S X (evalSegments f (nodeAt S X from) (nodeAt S X from ∷ [])) (capFor mode) n (getD l 0 0)
@@ -96,7 +96,7 @@ nested-head S X tab from cap h l n f e =
 -- ---- where the names and indices at its front lead
 
 module _ (P L S X : List ℕ) (tab : Accepted S X) (from q : ℕ) (h : from < nodeCount S) (r : Reached) (d : DoneReach P L S X from (q + 1) r) where
-  -- to where a walk begins
+  -- to where evaluation begins
   pub walk-found : r .some ≡ true → (cap : ℕ) (l : List ℕ) (n : ℕ) → ((g : Segments) (j : ℕ) → SegmentsAt P L (r .pc) j g → st cap l n ≡ go g (nodeAt S X from) (nodeAt S X (r .node) ∷ []) (st cap (0 ∷ []) 0))
       → (f : Segments) (k : ℕ) → SegmentsAt P L (q + 1) k f → st cap l n ≡ go f (nodeAt S X from) (nodeAt S X from ∷ []) (st cap (0 ∷ []) 0)
   walk-found e cap l n w f k a = let y = d .front f k a in w (y .g) (y .j) (y .at) ∙ y .found e (nodeAt S X from) _

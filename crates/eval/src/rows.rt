@@ -96,7 +96,7 @@ pub fn keep(
     }
 }
 
-// The cells of the nodes from i up to e with the test from p up to z. Where they stand at something that needs a walk, with a call behind it, they go on by themselves.
+// The cells of the nodes from i up to e with the test from p up to z. Where they stand at a test that needs a query evaluated, with a call behind it, they go on by themselves.
 fn tell(lent: &[&[u8]; 4], root: usize, i: usize, e: usize, p: usize, z: usize, column: &mut [u32])
     requires { ⌜ AskNext (now lent) root i e p z × ((i < e) × (e - i ≤ length (now column))) ⌝ }
     ensures { λ r. ⌜ Column (planOf (now (lent .entry))) (poolOf (now (lent .entry))) (tableOf (now (lent .entry))) (textOf (now (lent .entry))) root i e p z (now (column .exit)) ⌝ }

@@ -151,7 +151,7 @@ pub record DoneAgainst (P L S X : List ℕ) (n first z e : ℕ) (r : Told) : Typ
   pub further : r .some ≡ true → z < r .q
   pub goes : r .some ≡ true → (R N : Json) (acc : Bits) (v : Value) (want : Bits) → FirstIs S X n first v → Todo P L z e R N acc Value.nothing v want → Left P L (r .q) e R N (r .acc) want
 
--- ---- a query that needs no walk
+-- ---- a query that needs no evaluation
 
 pub record DonePlain (P L S X : List ℕ) (from q : ℕ) (r : Nodes) : Type 0 where
   pub inside : 0 < r .n → r .first < nodeCount S

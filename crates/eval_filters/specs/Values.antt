@@ -1,4 +1,4 @@
--- Comparisons of values that need no walk: what is asked and given of each operand, and what the comparison leaves of a filter's code. P is the plan, L the pool, S the
+-- Comparisons of values that need no query evaluated: what is asked and given of each operand, and what the comparison leaves of a filter's code. P is the plan, L the pool, S the
 -- table, X the text. Assumes nothing.
 use Prim.Native.Nat.{ℕ, _+_, _-_, _≤_, _<_}
 use mathlib.Core.Path.{_≡_, refl, sym, ap, _∙_, subst}

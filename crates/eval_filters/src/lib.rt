@@ -1,6 +1,6 @@
 // What a filter's code says of a node, told without registers: a test of a query of names and indices; the comparison of such a query, of `count` or `value` of it,
 // of `length` of any of these or of a literal with another; the number of all children of a node compared with a literal; and the operators between such tests.
-// What needs a walk of its own is left to the code's registers.
+// What needs a query evaluated is left to the code's registers.
 //
 //   kinds      a node and a literal by their kinds
 //   children   the number of all children, compared with a literal
@@ -60,7 +60,7 @@ pub struct Told {
     pub some: bool,
 }
 
-// How many nodes a query finds, the first of them, and the place behind the query; `some` is false where that takes a walk.
+// How many nodes a query finds, the first of them, and the place behind the query; `some` is false where that takes evaluation.
 pub struct Nodes {
     pub n: usize,
     pub first: usize,

@@ -23,7 +23,7 @@ ghost use Rattle.eval_values.specs.declared.Operand.the-variants.{Int};
 ghost use Rattle.eval_filters.specs.Tests.{DoneShort};
 ghost use Rattle.eval_filters.specs.Values.{AskNodes, OnlyOf, FirstOf, AskFound, DoneFound, AskOperand, DoneOperand, AskLeft};
 
-// A value and the place behind it; `some` is false where it takes a walk.
+// A value and the place behind it; `some` is false where it takes evaluation.
 pub struct Valued {
     pub v: Operand,
     pub q: usize,

@@ -1,5 +1,5 @@
-// The nodes of a range that a filter keeps, where its tests need no walk. An expression of match or search that is a text of the plan is read once for all of them, at
-// the first node that asks for it. Where there are more calls than one, or a test in front of one needs a walk, or more follows than a name, each node has a cell that says
+// The nodes of a range that a filter keeps, where its tests need no query evaluated. An expression of match or search that is a text of the plan is read once for all of them, at
+// the first node that asks for it. Where there are more calls than one, or a test in front of one needs a query evaluated, or more follows than a name, each node has a cell that says
 // how far it is told, and every call is asked of all nodes that stand at it (`fill`).
 //
 // The rooms for it stand in frames of their own. LLVM would join the functions that hold them into evaluation, which calls itself, and every call of that would have
@@ -177,7 +177,7 @@ fn by_size(
     coded::outside(plan, pool, table, text, f, i, g, list, at)
 }
 
-// The nodes from i on that the filter keeps, with what follows, up to the first that needs an expression or a walk.
+// The nodes from i on that the filter keeps, with what follows, up to the first that needs an expression or evaluation.
 fn unread(
     plan: &[u8],
     pool: &[u8],
@@ -213,7 +213,7 @@ fn unread(
     )
 }
 
-// The nodes from i on that the filter keeps, with what follows, up to the first that needs a walk or another expression. Up to the first that asks for an expression
+// The nodes from i on that the filter keeps, with what follows, up to the first that needs evaluation or another expression. Up to the first that asks for an expression
 // none is needed. A filter with more than one is left.
 pub fn keep_rows(
     plan: &[u8],

@@ -1,5 +1,5 @@
 // A range of nodes with a filter of several tests, of which the first is a test of one member, or of one comparison that begins with a literal or with `count`, `value`
-// or `length`: one loop over the nodes. Of several tests those of one member are told where they stand, so that no call is needed for them; others without a walk are
+// or `length`: one loop over the nodes. Of several tests those of one member are told where they stand, so that no call is needed for them; others without evaluation are
 // called.
 use eval_filters::Told;
 use eval_filters::atoms;

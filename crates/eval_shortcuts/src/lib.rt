@@ -200,7 +200,7 @@ pub fn keep_children(
     true
 }
 
-// The first node from i on of which the test from p up to z needs a walk or an expression, or e, for a filter that `joined` is for. Those before it for which it holds
+// The first node from i on of which the test from p up to z needs evaluation or an expression, or e, for a filter that `joined` is for. Those before it for which it holds
 // are pushed with what follows, where nothing or one name does. Else, and where one node alone is asked, none is looked at.
 pub fn keep_joined(
     lent: &[&[u8]; 4],
@@ -268,7 +268,7 @@ pub fn is_call(lent: &[&[u8]; 4], root: usize, node: usize, q: usize, z: usize) 
     g.some
 }
 
-// The first node from i on of which the test from p up to z needs a walk or a second expression, or e. Those before it for which it holds are pushed with what
+// The first node from i on of which the test from p up to z needs evaluation or a second expression, or e. Those before it for which it holds are pushed with what
 // follows, where nothing or one name does. Else, and where one node alone is asked, none is looked at.
 pub fn keep_rows(
     lent: &[&[u8]; 4],

@@ -1,4 +1,4 @@
--- A walk along the chain of a bucket meets every earlier key that could be the same. Assumes nothing.
+-- The chain of a bucket, followed, meets every earlier key that could be the same. Assumes nothing.
 use Prim.Native.Nat.{ℕ, zero, suc, _+_, _-_, _≤_, _<_}
 use mathlib.Core.Path.{_≡_, refl, sym, ap, _∙_, subst}
 use mathlib.Core.List.{List}
@@ -71,7 +71,7 @@ module _ (T X : List ℕ) (i : ℕ) where
           let z : j ≡ k = omega arith in
           subst (λ (x : ℕ). sameBytes (keyBytes T X x) (keyBytes T X i) ≡ false) z d
 
--- A walk along a chain that has come down to j: the keys above it are unlike that of the node, and it is in the node's bucket or below the first one.
+-- A chain that is followed and has come down to j: the keys above it are unlike that of the node, and it is in the node's bucket or below the first one.
 pub record Walking (T X : List ℕ) (node from : ℕ) (L : List ℕ) (j : ℕ) : Type 0 where
   pub below : j < node
   pub count : ℕ

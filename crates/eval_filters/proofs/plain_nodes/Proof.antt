@@ -1,4 +1,4 @@
--- `plain_nodes` meets its contract: names and indices lead to nothing, to the end, or to where a walk begins. Assumes nothing.
+-- `plain_nodes` meets its contract: names and indices lead to nothing, to the end, or to where evaluation begins. Assumes nothing.
 use Rattle.eval_filters.specs.Tests.{plain-lost, plain-one, plain-none}
 use Rattle.eval_laws.specs.Items.{segments-in}
 use borrow.Author.Tests.{not-true, not-false}

@@ -1,4 +1,4 @@
--- The chain of the key's bucket is walked, and a node whose key is unlike those on it becomes the head of the bucket. Assumes nothing.
+-- The chain of the key's bucket is followed, and a node whose key is unlike those on it becomes the head of the bucket. Assumes nothing.
 use native.Mathlib.Omega.{arith}
 use mathlib.Core.Path.{refl, sym, ap, _∙_, subst}
 use Prim.Native.Nat.{ℕ, _+_, _-_, _<_}
