@@ -67,10 +67,18 @@ static uint8_t *bottom(uint8_t *p) {
 
 // In front of a filter's code, where told: `!match(@,'a')&&` with a text of the pool, whose nodes then go by cells. Where it ends, and the place for the length of what
 // follows.
-static int calling;
+static enum { NO_CALL, IN_FRONT, BEHIND } calling;
 static uint8_t *call(uint8_t *p) {
     memcpy(p, "\2\12\22\0\0\1\0\34\25\26\0\0", 12);
     memcpy(p + 3, &(uint16_t){(uint16_t)pool_length}, 2);
+    pool[pool_length++] = 'a';
+    return p + 12;
+}
+
+// Behind a filter's code: `&&!match(@,'a')`.
+static uint8_t *call_behind(uint8_t *p) {
+    memcpy(p, "\26\11\0\2\12\22\0\0\1\0\34\25", 12);
+    memcpy(p + 6, &(uint16_t){(uint16_t)pool_length}, 2);
     pool[pool_length++] = 'a';
     return p + 12;
 }
@@ -83,9 +91,10 @@ static uint8_t *code(uint8_t *p, int n, const uint8_t *segment, size_t size, int
     for (int i = 0; i < many; i++) { memcpy(p, segment, size); p += size; }
     if (n > 0) {
         memcpy(p, "\3\1\0\11", 4);
-        uint8_t *length = p + 4, *inner = calling ? call(p + 6) : p + 6, *q = code(inner, n - 1, segment, size, many);
+        uint8_t *length = p + 4, *inner = calling == IN_FRONT ? call(p + 6) : p + 6, *q = code(inner, n - 1, segment, size, many);
         *q++ = 0x18;
-        if (calling) put_length(inner - 2, inner, q);
+        if (calling == IN_FRONT) put_length(inner - 2, inner, q);
+        if (calling == BEHIND) q = call_behind(q);
         put_length(length, length + 2, q);
         p = q;
     } else if (searching) p = bottom(p);
@@ -255,10 +264,13 @@ int main(void) {
     measure_plan("..[*,*]", 128, "\4\2\0\10\10", 5);
     measure_query("..[?@==1", "", 0, "..[?@==1&&$", "..[?@==1&&$==$]");
     measure_query("..*", "..*", 38, "[?$", "[?$]");
-    calling = 1; // each filter has a call of match, so that its nodes go by cells; the call has a bracket of its own in a query
+    calling = IN_FRONT; // each filter has a call of match, so that its nodes go by cells; the call has a bracket of its own in a query
     measure_plan("[?@] calls", 63, "\3\1\0\11\3\0\2\12\30", 9);
     measure_plan("..[*,*] calls", 63, "\4\2\0\10\10", 5);
-    calling = 0, levels = 30;
+    calling = BEHIND; // and behind a query that is evaluated for each of them
+    measure_plan("[?@] calls behind", 63, "\3\1\0\11\3\0\2\12\30", 9);
+    measure_plan("..[*,*] calls behind", 63, "\4\2\0\10\10", 5);
+    calling = NO_CALL, levels = 30;
     measure_query("..[?match", "", 0, "..[?!match(@,'a')&&$", "..[?!match(@,'a')&&$==$]");
     measure_query("..* match", "..*", 34, "[?!match(@,'a')&&$", "[?!match(@,'a')&&$==$]");
     levels = 31;

@@ -39,7 +39,7 @@ pub record InCells (v : List (RefT (List ℕ))) (i e p z rest : ℕ) (s₀ : Lis
   pub going : Going (keeping v p z rest i e) (keeping v p z rest j e) s₀ l₀ s l
 
 -- no node is passed
-none-passed : {v : List (RefT (List ℕ))} {j e p z : ℕ} (root : ℕ) → DoneNext v root j e p z j true
+pub none-passed : {v : List (RefT (List ℕ))} {j e p z : ℕ} (root : ℕ) → DoneNext v root j e p z j true
 none-passed root = record { low = omega arith; high = λ y. y; passed = λ x y o m u w. absurd (omega arith); holds = λ u. absurd (never (sym u)) }
 
 -- the next node meets a call

@@ -66,10 +66,10 @@ module _ {P L S X : List ℕ} {root node : ℕ} {acc : Bits} {p e : ℕ} {b : Bi
   pub turn-here : AskRest P L S X root node acc p e → Within P L S X root node → q < e → AskTurn P L S X root node b q e
   turn-here a w h = record { within = w; want = _; todo = i .again (a .want) (a .todo); more = h }
 
-  pub said-met : {stop : Bits} → stop ≡ true → q < e → DoneSaid P L S X root node acc p e stop (record { acc = b; q = q; call = true })
+  pub said-met : {stop deep : Bits} → stop ≡ true → q < e → DoneSaid P L S X root node acc p e stop (record { acc = b; q = q; call = true; deep = deep })
   said-met u h = record { later = λ y. i .later; near = omega arith; goes = i .again; ended = λ y. absurd (never (sym y)); onward = λ y. absurd (never (sym y ∙ u)) }
 
-  pub said-told : {stop : Bits} → e ≤ q → DoneSaid P L S X root node acc p e stop (record { acc = b; q = e; call = false })
+  pub said-told : {stop deep : Bits} → e ≤ q → DoneSaid P L S X root node acc p e stop (record { acc = b; q = e; call = false; deep = deep })
   said-told h = record { later = λ y. y; near = omega arith; goes = λ want l. left-ended h (i .again want l); ended = λ y. omega arith; onward = λ y. refl }
 
 module _ {P L S X : List ℕ} {root node : ℕ} {acc : Bits} {p e : ℕ} {stop : Bits} {r : Said} (d : DoneSaid P L S X root node acc p e stop r) (n : r .call ≡ false) where
@@ -82,3 +82,10 @@ module _ {P L S X : List ℕ} {root node : ℕ} {acc : Bits} {p e : ℕ} {stop :
 -- a test from its beginning
 pub rest-start : {P L S X : List ℕ} {root node : ℕ} {acc : Bits} {p e : ℕ} → AskTest P L p e → AskRest P L S X root node acc p e
 rest-start a = record { want = _; todo = todo-start _ _ _ _ (a .k) _ _ _ _ _ (a .t) (a .stands .test) (a .stands .place) }
+
+-- a test from where it is told
+pub rest-later : {P L S X : List ℕ} {root node : ℕ} {acc : Bits} {p e : ℕ} {stop : Bits} {r : Said} → DoneSaid P L S X root node acc p e stop r → AskTest P L p e → AskRest P L S X root node (r .acc) (r .q) e
+rest-later {acc = acc} d a = record { want = _; todo = d .goes _ (rest-start {acc = acc} a .todo) }
+
+pub said-later : {P L S X : List ℕ} {root node : ℕ} {acc : Bits} {p e : ℕ} {stop : Bits} {r : Said} {b : Bits} → DoneSaid P L S X root node acc p e stop r → DoneRest P L S X root node (r .acc) (r .q) e b → DoneTest P L S X root node p e b
+said-later d g t k h = g _ (d .goes _ (todo-start _ _ _ _ k _ _ _ _ _ t (h .test) (h .place)))

@@ -43,17 +43,20 @@ mod descents;
 pub mod entrance;
 mod rows;
 
-// What a filter says of a node: the answer in front of q. Where `call`, a call of match or search stands there; else it is the filter's.
+// What a filter says of a node: the answer in front of q. Where `call`, a call of match or search stands there; else it is the filter's. `deep` says whether a query was
+// evaluated for it.
 struct Said {
     acc: bool,
     q: usize,
     call: bool,
+    deep: bool,
 }
 
-// The next node that a filter keeps; where `call`, the next of which it says so.
+// The next node that a filter keeps; where `call`, the next that goes by cells with those behind it. `seen` says whether those behind it should.
 struct Next {
     node: usize,
     call: bool,
+    seen: bool,
 }
 
 // One node with the segments at pc.
@@ -328,11 +331,20 @@ fn eval_filter(
         if state[CAP] < state[AT] {
             return;
         }
-        v = next_kept(lent, state[ROOT], j + 1, e, p + 3, z);
+        if v.seen {
+            v = Next {
+                node: j + 1,
+                call: true,
+                seen: false,
+            };
+        } else {
+            v = next_kept(lent, state[ROOT], j + 1, e, p + 3, z);
+        }
     }
 }
 
-// The first node from i on for which the test from p up to z holds, or that meets a call of match or search, or e.
+// The first node from i on for which the test from p up to z holds, or that meets a call of match or search, or e. A node for which a query was evaluated in front of the
+// call is told to its end, so that nothing is evaluated twice, and those behind it go by cells.
 fn next_kept(lent: &[&[u8]; 4], root: usize, i: usize, e: usize, p: usize, z: usize) -> Next
     requires { ⌜ AskNext (now lent) root i e p z ⌝ }
     ensures { λ r. ⌜ DoneNext (now (lent .entry)) root i e p z (r .node) (r .call) ⌝ }
@@ -341,15 +353,32 @@ fn next_kept(lent: &[&[u8]; 4], root: usize, i: usize, e: usize, p: usize, z: us
     while j < e {
         let s = eval_filter_expr(lent, root, j, false, p, z, true);
         if s.call {
+            if !s.deep {
+                return Next {
+                    node: j,
+                    call: true,
+                    seen: false,
+                };
+            }
+            let r = eval_filter_expr(lent, root, j, s.acc, s.q, z, false);
+            if r.acc {
+                return Next {
+                    node: j,
+                    call: false,
+                    seen: true,
+                };
+            }
             return Next {
-                node: j,
+                node: j + 1,
                 call: true,
+                seen: false,
             };
         }
         if s.acc {
             return Next {
                 node: j,
                 call: false,
+                seen: false,
             };
         }
         j += 1;
@@ -357,6 +386,7 @@ fn next_kept(lent: &[&[u8]; 4], root: usize, i: usize, e: usize, p: usize, z: us
     Next {
         node: j,
         call: false,
+        seen: false,
     }
 }
 
@@ -377,6 +407,7 @@ fn eval_filter_expr(
 {
     let mut b = acc;
     let mut q = p;
+    let mut deep = false;
     while q < e {
         let t = eval_filters::plain_turn(
             lent[PLAN],
@@ -399,18 +430,21 @@ fn eval_filter_expr(
                         acc: b,
                         q,
                         call: true,
+                        deep,
                     };
                 }
             }
             let r = eval_test(lent, root, node, b, q, e);
             b = r.acc;
             q = r.q;
+            deep = true;
         }
     }
     Said {
         acc: b,
         q: e,
         call: false,
+        deep,
     }
 }
 

@@ -16,6 +16,7 @@ use native.Mathlib.Omega.{arith}
 use Rattle.eval_asks.specs.Steady.{steady-then, going-asked}
 use Rattle.eval_asks.specs.Rows.{rows-given, rows-next, rows-then}
 use Rattle.eval.specs.Calls.{segment-room}
+use Rattle.eval.specs.Columns.{none-passed}
 use Rattle.eval_asks.specs.Kinds.{rest-in, filter-bound, filter-inside, rest-asked, next-asked, test-asked, kept-in-table, filter-done, InFilter, filter-start, filter-end-all, filter-left, filter-full, filter-again, next-later}
 
 abbrev pub calls : ℕ → lts.Claims
@@ -103,23 +104,32 @@ module _ (t : ℕ) where
   pub returns-2 : lts.Need-returns-2 (calls t) (eval-filter-at t) eval-filter.Post Inv-loop μ-loop
   returns-2 c = let p = c .before .before .before .before .before .before .before .before .before .before .before .before .before .before .before .before .before .before .before .before .pre .1 in let i = c .before .before .before .before .before .before .before .before .before .loop .inv in let t = kept-in-table (p .0) (p .1 .0) (p .1 .1) (c .before .before .before .before .before .before .before .before .before .before .before .before .before .before .before .before .before .before .word16 .ensures) (c .before .before .before .before .before .before .before .before .before .before .before .before .before .before .before .before .first-child .ensures) (c .before .before .before .before .before .before .before .before .before .before .before .before .before .before .before .child-count .ensures) (omega (arith, i .low, c .before .before .before .before .before .before .before .before .before .before .before .before .keep-joined .ensures .1 .low, c .before .before .before .before .before .before .before .if1 .taken)) in let d = c .before .before .before .evaluate-segment .ensures in let b = segment-room (going-asked (i .going) (rows-given (c .before .before .before .before .before .before .before .before .before .before .before .before .keep-joined .ensures) (p .0))) (record { node-in = omega (arith, c .before .before .before .before .before .before .before .if1 .taken); query = (rest-asked (p .0) (p .1 .0) (p .1 .1) (c .before .before .before .before .before .before .before .before .before .before .before .before .before .before .before .before .before .before .word16 .ensures)) }) (d .1) in (steady-then (c .before .before .before .before .before .before .before .before .before .before .before .before .keep-joined .ensures .0) (steady-then (i .going .kept) (d .0)), filter-done (p .0) (p .1 .0) (p .1 .1) (c .before .before .before .before .before .before .before .before .before .before .before .before .before .before .before .before .before .before .word16 .ensures) (c .before .before .before .before .before .before .before .before .before .before .before .before .before .before .before .before .first-child .ensures) (c .before .before .before .before .before .before .before .before .before .before .before .before .before .before .before .child-count .ensures) (rows-then (c .before .before .before .before .before .before .before .before .before .before .before .before .keep-joined .ensures) (filter-full i (c .before .before .before .before .before .before .if2 .left) (c .before .before .before .before .before .before .before .if1 .taken) (d .0) b (d .1) (rows-given (c .before .before .before .before .before .before .before .before .before .before .before .before .keep-joined .ensures) (p .0)) (c .if3 .taken))))
 
+  pub add-t42 : lts.Need-add-t42 (calls t) (eval-filter-at t) eval-filter.Post Inv-loop μ-loop
+  add-t42 c = omega (arith, c .before .before .before .before .before .before .before .before .if1 .taken, c .before .before .before .before .before .before .before .before .before .before .before .before .before .before .before .before .before .first-child .ok, c .before .before .before .before .before .before .before .before .before .before .before .before .before .before .before .before .child-count .ok)
+
+  pub loop-less : lts.Need-loop-less (calls t) (eval-filter-at t) eval-filter.Post Inv-loop μ-loop
+  loop-less c = omega (arith, c .before .before .before .before .before .before .before .before .if1 .taken)
+
+  pub loop-again : lts.Need-loop-again (calls t) (eval-filter-at t) eval-filter.Post Inv-loop μ-loop
+  loop-again c = let p = c .before .before .before .before .before .before .before .before .before .before .before .before .before .before .before .before .before .before .before .before .before .pre .1 in let i = c .before .before .before .before .before .before .before .before .before .before .loop .inv in let t = kept-in-table (p .0) (p .1 .0) (p .1 .1) (c .before .before .before .before .before .before .before .before .before .before .before .before .before .before .before .before .before .before .before .word16 .ensures) (c .before .before .before .before .before .before .before .before .before .before .before .before .before .before .before .before .before .first-child .ensures) (c .before .before .before .before .before .before .before .before .before .before .before .before .before .before .before .before .child-count .ensures) (omega (arith, i .low, c .before .before .before .before .before .before .before .before .before .before .before .before .before .keep-joined .ensures .1 .low, c .before .before .before .before .before .before .before .before .if1 .taken)) in let d = c .before .before .before .before .evaluate-segment .ensures in let b = segment-room (going-asked (i .going) (rows-given (c .before .before .before .before .before .before .before .before .before .before .before .before .before .keep-joined .ensures) (p .0))) (record { node-in = omega (arith, c .before .before .before .before .before .before .before .before .if1 .taken); query = (rest-asked (p .0) (p .1 .0) (p .1 .1) (c .before .before .before .before .before .before .before .before .before .before .before .before .before .before .before .before .before .before .before .word16 .ensures)) }) (d .1) in filter-again i (c .before .before .before .before .before .before .before .if2 .left) (c .before .before .before .before .before .before .before .before .if1 .taken) (d .0) b (d .1) (none-passed _)
+
   pub element-copy-out-next-kept-2 : lts.Need-element-copy-out-next-kept-2 (calls t) (eval-filter-at t) eval-filter.Post Inv-loop μ-loop
   element-copy-out-next-kept-2 c = search needs
 
   pub add-next-kept-2 : lts.Need-add-next-kept-2 (calls t) (eval-filter-at t) eval-filter.Post Inv-loop μ-loop
-  add-next-kept-2 c = omega (arith, c .before .before .before .before .before .before .before .before .if1 .taken, c .before .before .before .before .before .before .before .before .before .before .before .before .before .before .before .before .before .first-child .ok, c .before .before .before .before .before .before .before .before .before .before .before .before .before .before .before .before .child-count .ok)
+  add-next-kept-2 c = omega (arith, c .before .before .before .before .before .before .before .before .before .if1 .taken, c .before .before .before .before .before .before .before .before .before .before .before .before .before .before .before .before .before .before .first-child .ok, c .before .before .before .before .before .before .before .before .before .before .before .before .before .before .before .before .before .child-count .ok)
 
   pub add-next-kept-3 : lts.Need-add-next-kept-3 (calls t) (eval-filter-at t) eval-filter.Post Inv-loop μ-loop
-  add-next-kept-3 c = let p = c .before .before .before .before .before .before .before .before .before .before .before .before .before .before .before .before .before .before .before .before .before .pre .1 in omega (arith, filter-bound (p .0) (p .1 .0) (p .1 .1), p .0 .given .fewP)
+  add-next-kept-3 c = let p = c .before .before .before .before .before .before .before .before .before .before .before .before .before .before .before .before .before .before .before .before .before .before .pre .1 in omega (arith, filter-bound (p .0) (p .1 .0) (p .1 .1), p .0 .given .fewP)
 
   pub next-kept-requires-2 : lts.Need-next-kept-requires-2 (calls t) (eval-filter-at t) eval-filter.Post Inv-loop μ-loop
-  next-kept-requires-2 c κs = let p = c .before .before .before .before .before .before .before .before .before .before .before .before .before .before .before .before .before .before .before .before .before .pre .1 in let i = c .before .before .before .before .before .before .before .before .before .before .loop .inv in let d = c .before .before .before .before .evaluate-segment .ensures in (omega (arith, c .before .before .before .before .before .before .before .before .before .before .before .before .before .before .before .before .before .before .before .before .before .pre .0), next-later (steady-then (c .before .before .before .before .before .before .before .before .before .before .before .before .before .keep-joined .ensures .0) (steady-then (i .going .kept) (d .0))) (next-asked (p .0) (p .1 .0) (p .1 .1) (c .before .before .before .before .before .before .before .before .before .before .before .before .before .before .before .before .before .before .before .word16 .ensures) (c .before .before .before .before .before .before .before .before .before .before .before .before .before .before .before .before .before .first-child .ensures) (c .before .before .before .before .before .before .before .before .before .before .before .before .before .before .before .before .child-count .ensures) _ (omega (arith, i .low, c .before .before .before .before .before .before .before .before .before .before .before .before .before .keep-joined .ensures .1 .low))))
+  next-kept-requires-2 c κs = let p = c .before .before .before .before .before .before .before .before .before .before .before .before .before .before .before .before .before .before .before .before .before .before .pre .1 in let i = c .before .before .before .before .before .before .before .before .before .before .before .loop .inv in let d = c .before .before .before .before .before .evaluate-segment .ensures in (omega (arith, c .before .before .before .before .before .before .before .before .before .before .before .before .before .before .before .before .before .before .before .before .before .before .pre .0), next-later (steady-then (c .before .before .before .before .before .before .before .before .before .before .before .before .before .before .keep-joined .ensures .0) (steady-then (i .going .kept) (d .0))) (next-asked (p .0) (p .1 .0) (p .1 .1) (c .before .before .before .before .before .before .before .before .before .before .before .before .before .before .before .before .before .before .before .before .word16 .ensures) (c .before .before .before .before .before .before .before .before .before .before .before .before .before .before .before .before .before .before .first-child .ensures) (c .before .before .before .before .before .before .before .before .before .before .before .before .before .before .before .before .before .child-count .ensures) _ (omega (arith, i .low, c .before .before .before .before .before .before .before .before .before .before .before .before .before .before .keep-joined .ensures .1 .low))))
 
-  pub loop-less : lts.Need-loop-less (calls t) (eval-filter-at t) eval-filter.Post Inv-loop μ-loop
-  loop-less c = omega (arith, c .next-kept2 .ensures .low, c .before .before .before .before .before .before .before .before .before .if1 .taken)
+  pub loop-less-2 : lts.Need-loop-less-2 (calls t) (eval-filter-at t) eval-filter.Post Inv-loop μ-loop
+  loop-less-2 c = omega (arith, c .next-kept2 .ensures .low, c .before .before .before .before .before .before .before .before .before .before .if1 .taken)
 
-  pub loop-again : lts.Need-loop-again (calls t) (eval-filter-at t) eval-filter.Post Inv-loop μ-loop
-  loop-again c = let p = c .before .before .before .before .before .before .before .before .before .before .before .before .before .before .before .before .before .before .before .before .before .before .pre .1 in let i = c .before .before .before .before .before .before .before .before .before .before .before .loop .inv in let t = kept-in-table (p .0) (p .1 .0) (p .1 .1) (c .before .before .before .before .before .before .before .before .before .before .before .before .before .before .before .before .before .before .before .before .word16 .ensures) (c .before .before .before .before .before .before .before .before .before .before .before .before .before .before .before .before .before .before .first-child .ensures) (c .before .before .before .before .before .before .before .before .before .before .before .before .before .before .before .before .before .child-count .ensures) (omega (arith, i .low, c .before .before .before .before .before .before .before .before .before .before .before .before .before .before .keep-joined .ensures .1 .low, c .before .before .before .before .before .before .before .before .before .if1 .taken)) in let d = c .before .before .before .before .before .evaluate-segment .ensures in let b = segment-room (going-asked (i .going) (rows-given (c .before .before .before .before .before .before .before .before .before .before .before .before .before .before .keep-joined .ensures) (p .0))) (record { node-in = omega (arith, c .before .before .before .before .before .before .before .before .before .if1 .taken); query = (rest-asked (p .0) (p .1 .0) (p .1 .1) (c .before .before .before .before .before .before .before .before .before .before .before .before .before .before .before .before .before .before .before .before .word16 .ensures)) }) (d .1) in filter-again i (c .before .before .before .before .before .before .before .before .if2 .left) (c .before .before .before .before .before .before .before .before .before .if1 .taken) (d .0) b (d .1) (c .next-kept2 .ensures)
+  pub loop-again-2 : lts.Need-loop-again-2 (calls t) (eval-filter-at t) eval-filter.Post Inv-loop μ-loop
+  loop-again-2 c = let p = c .before .before .before .before .before .before .before .before .before .before .before .before .before .before .before .before .before .before .before .before .before .before .before .pre .1 in let i = c .before .before .before .before .before .before .before .before .before .before .before .before .loop .inv in let t = kept-in-table (p .0) (p .1 .0) (p .1 .1) (c .before .before .before .before .before .before .before .before .before .before .before .before .before .before .before .before .before .before .before .before .before .word16 .ensures) (c .before .before .before .before .before .before .before .before .before .before .before .before .before .before .before .before .before .before .before .first-child .ensures) (c .before .before .before .before .before .before .before .before .before .before .before .before .before .before .before .before .before .before .child-count .ensures) (omega (arith, i .low, c .before .before .before .before .before .before .before .before .before .before .before .before .before .before .before .keep-joined .ensures .1 .low, c .before .before .before .before .before .before .before .before .before .before .if1 .taken)) in let d = c .before .before .before .before .before .before .evaluate-segment .ensures in let b = segment-room (going-asked (i .going) (rows-given (c .before .before .before .before .before .before .before .before .before .before .before .before .before .before .before .keep-joined .ensures) (p .0))) (record { node-in = omega (arith, c .before .before .before .before .before .before .before .before .before .before .if1 .taken); query = (rest-asked (p .0) (p .1 .0) (p .1 .1) (c .before .before .before .before .before .before .before .before .before .before .before .before .before .before .before .before .before .before .before .before .before .word16 .ensures)) }) (d .1) in filter-again i (c .before .before .before .before .before .before .before .before .before .if2 .left) (c .before .before .before .before .before .before .before .before .before .before .if1 .taken) (d .0) b (d .1) (c .next-kept2 .ensures)
 
   pub returns-3 : lts.Need-returns-3 (calls t) (eval-filter-at t) eval-filter.Post Inv-loop μ-loop
   returns-3 c = let p = c .before .before .before .before .before .before .before .before .before .before .before .before .before .pre .1 in let i = c .before .before .loop .inv in (steady-then (c .before .before .before .before .before .keep-joined .ensures .0) (i .going .kept), filter-done (p .0) (p .1 .0) (p .1 .1) (c .before .before .before .before .before .before .before .before .before .before .before .word16 .ensures) (c .before .before .before .before .before .before .before .before .before .first-child .ensures) (c .before .before .before .before .before .before .before .before .child-count .ensures) (rows-then (c .before .before .before .before .before .keep-joined .ensures) (filter-end-all i (c .if1 .left))))

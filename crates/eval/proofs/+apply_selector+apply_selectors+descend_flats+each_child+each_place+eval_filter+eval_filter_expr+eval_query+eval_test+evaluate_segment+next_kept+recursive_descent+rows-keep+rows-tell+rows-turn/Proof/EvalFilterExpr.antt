@@ -17,10 +17,10 @@ abbrev pub calls : ℕ → lts.Claims
 calls t = (plain-turn-reads.Asked, plain-turn-reads.Learnt, is-call-reads.Asked, is-call-reads.Learnt, eval-test-below t, eval-test.Post)
 
 abbrev pub Inv-loop : lts.InvT-loop
-Inv-loop lent root node acc p e stop b₀ q₀ b q = InTest (planOf lent) (poolOf lent) (tableOf lent) (textOf lent) root node acc p e b q
+Inv-loop lent root node acc p e stop b₀ q₀ deep₀ b q deep = InTest (planOf lent) (poolOf lent) (tableOf lent) (textOf lent) root node acc p e b q
 
 abbrev pub μ-loop : lts.MeasureT-loop
-μ-loop lent root node acc p e stop b₀ q₀ b q = e - q
+μ-loop lent root node acc p e stop b₀ q₀ deep₀ b q deep = e - q
 
 module _ (t : ℕ) where
   pub loop-holds : lts.Need-loop-holds (calls t) (eval-filter-expr-at t) eval-filter-expr.Post Inv-loop μ-loop
