@@ -8,7 +8,7 @@ use Rattle.definition_bytes.specs.Same.{part_length}
 use Rattle.regex_definition.specs.Scope.{Scope}
 use Rattle.definition.specs.Regexps.{regex_test}
 use Rattle.eval_items.specs.Regexes.{cut}
-use Rattle.regex.specs.Tested.{Tested}
+use Rattle.regex_match.specs.Tested.{Tested}
 use Rattle.regex_states.specs.Ready.{Ready as StatesReady}
 use Rattle.regex_reader.specs.declared.nested.Reading.TheVariants as reading
 use Rattle.regex_rooms.specs.Rooms.{scope_for, Widened, IsWidened}

@@ -25,7 +25,7 @@ use Rattle.eval_filters.specs.Queries.{Within, found_lost, found_one}
 use Rattle.eval_filters.specs.Tests.{Left}
 use Rattle.eval_filters.specs.Turns.{AskTurn, DoneTurn, turn_left}
 use Rattle.eval_filters.specs.Values.{AskLeft}
-use Rattle.regex.specs.Tested.{Tested}
+use Rattle.regex_match.specs.Tested.{Tested}
 use Rattle.regex_rooms.specs.Rooms.{scope_for, scope_for_lem}
 use Rattle.eval_rows.specs.declared.calls.Call.{Call}
 use Rattle.eval_rows.specs.declared.turns.Spot.{Spot}

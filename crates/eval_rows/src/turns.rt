@@ -2,7 +2,7 @@
 ghost use Rattle.std.specs.Prelude.{◌≡◌};
 ghost use Rattle.definition.specs.Bytes.{part};
 ghost use Rattle.eval_filters.specs.Values.{AskLeft};
-ghost use Rattle.regex.specs.Tested.{Tested};
+ghost use Rattle.regex_match.specs.Tested.{Tested};
 ghost use Rattle.regex_rooms.specs.Rooms.{scope_for};
 ghost use Rattle.eval_rows.specs.Calls.{CallAt, AskText, DoneCall};
 ghost use Rattle.eval_rows.specs.Known.{Ready, Held};
@@ -11,7 +11,7 @@ ghost use Rattle.eval_rows.specs.Turns.{TextOf};
 use crate::calls::Call;
 use crate::paths;
 use eval_items::leaves;
-use regex::test;
+use regex_match::test;
 use regex_rooms::marks::test_within;
 use regex_states::test_with;
 use table::records;

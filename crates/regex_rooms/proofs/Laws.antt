@@ -17,7 +17,7 @@ use Rattle.regex_code.specs.Flat.{flat}
 use Rattle.regex_reader.proofs.Parts.{flat_behind}
 use Rattle.regex_bytes.specs.Bytes.{IsCode, ReadsBytes}
 use Rattle.regex_bytes.specs.Bytes.ReadsBytes.{code as bytes-code, outside as bytes-outside}
-use Rattle.regex.specs.Tested.{Tested}
+use Rattle.regex_match.specs.Tested.{Tested}
 use Rattle.regex_reader.specs.declared.nested.Reading.{Reading}
 use Rattle.regex_reader.specs.declared.nested.Reading.TheVariants as reading
 use Rattle.regex_rooms.specs.Rooms.{scope_for, IsWidened, Widened}

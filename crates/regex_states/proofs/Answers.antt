@@ -13,7 +13,7 @@ use Rattle.regex_definition.specs.Regexp.{described}
 use Rattle.regex_definition.specs.Scope.{widen}
 use Rattle.regex_definition.specs.Agree.{agree, told_same}
 use Rattle.regex_marks.specs.Runs.{Ran}
-use Rattle.regex.specs.Tested.{Tested}
+use Rattle.regex_match.specs.Tested.{Tested}
 use Rattle.regex_states.specs.Ready.{width, Tables, Ready}
 
 -- the expression has as many marks as the head says

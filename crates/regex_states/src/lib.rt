@@ -7,13 +7,13 @@
 // `sets` has the number of marks, 0 for an expression that has no states, the number of rows in use, whether the expression is open-ended, and
 // whether it has no character beyond ASCII; then all of those lead to one state, whose number stands at 125, or 0 where it is not known.
 ghost use Rattle.std.specs.Prelude.{◌≡◌, true, ◌&&◌, ◌+◌, ◌*◌, ◌≤◌, ◌<◌, eqb, length};
-ghost use Rattle.regex.specs.Tested.{Tested};
+ghost use Rattle.regex_match.specs.Tested.{Tested};
 ghost use Rattle.regex_marks.specs.Runs.{Clear};
 ghost use Rattle.regex_states.specs.Ready.{cells, width, count, Tables, Ready};
 ghost use Rattle.regex_states.specs.Texts.{Inside, Followed, Stepped};
 ghost use Rattle.regex_states.specs.Rooms.{Found, Put, Blank, Settling, Room, Placed, Noted, Traced, Suits, Weighed, Empties, Sealed, Headed, Beyond, AllLow};
 
-use regex::test;
+use regex_match::test;
 use regex_chars::char_at;
 use regex_marks::{read, shift, weigh};
 use regex_plain::{ask, open_ended};

@@ -4,7 +4,7 @@ use Rattle.eval_rows.proofs.turns.tested.Statement.{statement}
 use Rattle.eval_rows.proofs.turns.tested.Tie as tie
 use Rattle.eval_rows.proofs.turns.tested.Reads as reads
 use Rattle.eval_rows.proofs.turns.tested.Lts as lts
-use Rattle.regex.proofs.test.Reads as test-reads
+use Rattle.regex_match.proofs.test.Reads as test-reads
 use Rattle.regex_rooms.proofs.marks.test_within.Reads as test-within-reads
 use Rattle.regex_states.proofs.test_with.Reads as test-with-reads
 

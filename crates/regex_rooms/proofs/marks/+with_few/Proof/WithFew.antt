@@ -3,7 +3,7 @@ use Rattle.regex_rooms.proofs.marks.+with_few.Lts-with_few as lts
 use Prim.Native.Nat.{ℕ}
 use borrow.Author.Rules.{rules}
 use Rattle.regex_rooms.proofs.marks.with_few.Reads as with-few
-use Rattle.regex.proofs.test.Reads as test-reads
+use Rattle.regex_match.proofs.test.Reads as test-reads
 use Rattle.regex_rooms.proofs.marks.+with_few.Proof.Base.{with_few_at, with_few_below}
 
 abbrev pub calls : ℕ → lts.Claims

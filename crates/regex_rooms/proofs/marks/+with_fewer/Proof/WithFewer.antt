@@ -3,7 +3,7 @@ use Rattle.regex_rooms.proofs.marks.+with_fewer.Lts-with_fewer as lts
 use Prim.Native.Nat.{ℕ}
 use borrow.Author.Rules.{rules}
 use Rattle.regex_rooms.proofs.marks.with_fewer.Reads as with-fewer
-use Rattle.regex.proofs.test_less.Reads as test-less-reads
+use Rattle.regex_match.proofs.test_less.Reads as test-less-reads
 use Rattle.regex_rooms.proofs.marks.+with_fewer.Proof.Base.{with_fewer_at, with_fewer_below}
 
 abbrev pub calls : ℕ → lts.Claims

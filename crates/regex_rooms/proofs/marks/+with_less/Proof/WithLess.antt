@@ -3,7 +3,7 @@ use Rattle.regex_rooms.proofs.marks.+with_less.Lts-with_less as lts
 use Prim.Native.Nat.{ℕ}
 use borrow.Author.Rules.{rules}
 use Rattle.regex_rooms.proofs.marks.with_less.Reads as with-less
-use Rattle.regex.proofs.test_less.Reads as test-less-reads
+use Rattle.regex_match.proofs.test_less.Reads as test-less-reads
 use Rattle.regex_rooms.proofs.marks.+with_less.Proof.Base.{with_less_at, with_less_below}
 
 abbrev pub calls : ℕ → lts.Claims

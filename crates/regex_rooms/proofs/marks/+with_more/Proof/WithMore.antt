@@ -3,7 +3,7 @@ use Rattle.regex_rooms.proofs.marks.+with_more.Lts-with_more as lts
 use Prim.Native.Nat.{ℕ}
 use borrow.Author.Rules.{rules}
 use Rattle.regex_rooms.proofs.marks.with_more.Reads as with-more
-use Rattle.regex.proofs.test.Reads as test-reads
+use Rattle.regex_match.proofs.test.Reads as test-reads
 use Rattle.regex_rooms.proofs.marks.+with_more.Proof.Base.{with_more_at, with_more_below}
 
 abbrev pub calls : ℕ → lts.Claims

@@ -3,7 +3,7 @@ use Rattle.regex_rooms.proofs.marks.+with_most.Lts-with_most as lts
 use Prim.Native.Nat.{ℕ}
 use borrow.Author.Rules.{rules}
 use Rattle.regex_rooms.proofs.marks.with_most.Reads as with-most
-use Rattle.regex.proofs.test.Reads as test-reads
+use Rattle.regex_match.proofs.test.Reads as test-reads
 use Rattle.regex_rooms.proofs.marks.+with_most.Proof.Base.{with_most_at, with_most_below}
 
 abbrev pub calls : ℕ → lts.Claims

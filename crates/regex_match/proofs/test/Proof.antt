@@ -1,9 +1,9 @@
--- `regex::test` meets its contract. Assumes nothing.
+-- `regex_match::test` meets its contract. Assumes nothing.
 use borrow.Author.Rules.{rules}
 use native.Mathlib.Omega.{arith}
-use Rattle.regex.proofs.Laws.{by_plain, by_length, by_marks, taken, grows, fits}
-use Rattle.regex.proofs.test.Statement.{statement}
-use Rattle.regex.proofs.test.Tie as tie
+use Rattle.regex_match.proofs.Laws.{by_plain, by_length, by_marks, taken, grows, fits}
+use Rattle.regex_match.proofs.test.Statement.{statement}
+use Rattle.regex_match.proofs.test.Tie as tie
 
 ask-requires : tie.Need-ask-requires
 ask-requires c κs = search rules

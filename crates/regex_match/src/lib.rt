@@ -2,7 +2,7 @@
 // room for them, else by sets of places where the text is short, else by the total matcher. Right for every code and text; a search is
 // a test of the widened code.
 ghost use Rattle.std.specs.Prelude.{◌≡◌, true, ◌≤◌, min};
-ghost use Rattle.regex.specs.Tested.{Tested, Missed};
+ghost use Rattle.regex_match.specs.Tested.{Tested, Missed};
 
 use regex_bytes::scalars;
 use regex_marks::{run, weigh};

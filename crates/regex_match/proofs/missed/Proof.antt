@@ -1,10 +1,10 @@
--- `regex::missed` meets its contract. Assumes nothing.
+-- `regex_match::missed` meets its contract. Assumes nothing.
 use borrow.Author.Rules.{rules}
-use Rattle.regex.proofs.Laws.{missed_short, missed_long}
+use Rattle.regex_match.proofs.Laws.{missed_short, missed_long}
 use mathlib.Core.Bool.{false≢true}
 use borrow.Author.Tests.{ltb-true}
-use Rattle.regex.proofs.missed.Statement.{statement}
-use Rattle.regex.proofs.missed.Tie as tie
+use Rattle.regex_match.proofs.missed.Statement.{statement}
+use Rattle.regex_match.proofs.missed.Tie as tie
 
 measure-requires : tie.Need-measure-requires
 measure-requires c κs = search rules

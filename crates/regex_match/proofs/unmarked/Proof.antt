@@ -1,10 +1,10 @@
--- `regex::unmarked` meets its contract. Assumes nothing.
+-- `regex_match::unmarked` meets its contract. Assumes nothing.
 use borrow.Author.Rules.{rules}
-use Rattle.regex.proofs.Laws.{by_total, by_places, chars_few, chars_long}
+use Rattle.regex_match.proofs.Laws.{by_total, by_places, chars_few, chars_long}
 use mathlib.Core.Path.{refl}
 use native.Mathlib.Omega.{arith}
-use Rattle.regex.proofs.unmarked.Statement.{statement}
-use Rattle.regex.proofs.unmarked.Tie as tie
+use Rattle.regex_match.proofs.unmarked.Statement.{statement}
+use Rattle.regex_match.proofs.unmarked.Tie as tie
 
 matches-requires : tie.Need-matches-requires
 matches-requires c κs = search rules

@@ -1,9 +1,9 @@
--- `regex::test_less` meets its contract. Assumes nothing.
+-- `regex_match::test_less` meets its contract. Assumes nothing.
 use borrow.Author.Rules.{rules}
 use native.Mathlib.Omega.{arith}
-use Rattle.regex.proofs.Laws.{by_less, taken_long}
-use Rattle.regex.proofs.test_less.Statement.{statement}
-use Rattle.regex.proofs.test_less.Tie as tie
+use Rattle.regex_match.proofs.Laws.{by_less, taken_long}
+use Rattle.regex_match.proofs.test_less.Statement.{statement}
+use Rattle.regex_match.proofs.test_less.Tie as tie
 
 test-requires : tie.Need-test-requires
 test-requires c κs = search rules

@@ -1,8 +1,8 @@
--- `regex::has_room` meets its contract. Assumes nothing.
+-- `regex_match::has_room` meets its contract. Assumes nothing.
 use mathlib.Core.Bool.{false≢true}
 use borrow.Author.Tests.{leb-true}
-use Rattle.regex.proofs.has_room.Statement.{statement}
-use Rattle.regex.proofs.has_room.Tie as tie
+use Rattle.regex_match.proofs.has_room.Statement.{statement}
+use Rattle.regex_match.proofs.has_room.Tie as tie
 
 returns : tie.Need-returns
 returns c = λ e. absurd (false≢true e)

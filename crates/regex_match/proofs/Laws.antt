@@ -25,7 +25,7 @@ use Rattle.regex_bytes.proofs.OfBytes.{written, counted}
 use Rattle.regex_places.specs.Places.{Placed}
 use Rattle.regex_needed.specs.Needed.{Alike, Lessened, repeated}
 use Rattle.regex_needed.proofs.Alike.{alike_on, alike_back, alike_once}
-use Rattle.regex.specs.Tested.{Tested, Missed}
+use Rattle.regex_match.specs.Tested.{Tested, Missed}
 use Rattle.regex_leaves.proofs.Stores.{at_front}
 
 -- for any expression that the code is of, and any text that the bytes are of
