@@ -1,5 +1,8 @@
 // Compile: from any bytes to a plan and a pool, or the right refusal.
 // The plan and the pool are written in rooms of this crate's own; only what is known to be right, and to fit, is copied into the lent rooms.
+
+#![tactic(auto)]
+
 pub mod numbers;
 pub mod rooms;
 
@@ -14,7 +17,7 @@ use rooms::{
 };
 
 // Why a query is refused.
-#[derive(Drop)]
+#[derive(Clone, Copy)]
 pub enum Refusal {
     // 1: it is longer than 4,096 bytes.
     TooLong,
@@ -33,7 +36,7 @@ pub enum Refusal {
 }
 
 // What compile comes to.
-#[derive(Drop)]
+#[derive(Clone, Copy)]
 pub enum Compiled {
     // The plan and the pool are written, of these lengths.
     Written(usize, usize),

@@ -3,6 +3,9 @@
 // Each line of the input is a query in hexadecimal, or a dash for an empty one, then a blank and the refusal, 0 for none.
 // For each line the program writes `ok`, or `refused` and the number; and `differs` behind an answer that is not the line's.
 // The last line counts the queries and the answers that differ.
+
+#![tactic(auto)]
+
 ghost use Rattle.std.specs.Prelude.{◌≤◌, length};
 
 use libc::{STDIN_FILENO, STDOUT_FILENO};

@@ -10,6 +10,9 @@
 //   entrance   where evaluation begins
 //   rows       the nodes of a range with a filter that meets match or search
 //   says       what a filter says of a node, and which it keeps next
+
+#![tactic(auto)]
+
 ghost use Rattle.eval_filters.specs.Queries.{Within};
 ghost use Rattle.eval_filters.specs.Tests.{AskRest};
 ghost use Rattle.eval_filters.specs.Turns.{AskTurn};

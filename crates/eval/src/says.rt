@@ -3,7 +3,7 @@ ghost use Rattle.std.specs.Prelude.{◌≡◌, true, false};
 
 // What a filter says of a node: the answer in front of q. Where `call`, a call of match or search stands there; else it is the filter's. `deep` says whether a query was
 // evaluated for it.
-#[derive(Drop)]
+#[derive(Clone, Copy)]
 pub struct Said {
     pub acc: bool,
     pub q: usize,
@@ -12,7 +12,7 @@ pub struct Said {
 }
 
 // The next node that a filter keeps; where `call`, the next that goes by cells with those behind it. `seen` says whether those behind it should.
-#[derive(Drop)]
+#[derive(Clone, Copy)]
 pub struct Next {
     pub node: usize,
     pub call: bool,

@@ -2,6 +2,9 @@
 // stands in specs/.
 //
 //   cells   how far a filter has been told of a node
+
+#![tactic(auto)]
+
 pub mod cells;
 
 // The places of what is lent.

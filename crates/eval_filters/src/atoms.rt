@@ -26,7 +26,7 @@ const NUMBER: u8 = 3;
 const WORDS: u8 = 4;
 
 // The name's place in the pool, the operator, and the place behind the test.
-#[derive(Drop)]
+#[derive(Clone, Copy)]
 pub struct Atom {
     pub form: u8,
     pub start: usize,
@@ -36,7 +36,7 @@ pub struct Atom {
 }
 
 // The operator behind a literal, and the place behind that; `some` is false where there is none.
-#[derive(Drop)]
+#[derive(Clone, Copy)]
 pub struct Behind {
     pub op: u8,
     pub next: usize,
@@ -44,7 +44,7 @@ pub struct Behind {
 }
 
 // What a test says of a node, and the place of its member among the node's members: there the member of the next node is looked for first.
-#[derive(Drop)]
+#[derive(Clone, Copy)]
 pub struct Held {
     pub acc: bool,
     pub near: usize,

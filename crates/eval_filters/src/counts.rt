@@ -12,7 +12,7 @@ use table::records;
 use text::bytes;
 
 // The operator between the number of children and an integer; `some` is false where there is no such test.
-#[derive(Drop)]
+#[derive(Clone, Copy)]
 pub struct Counts {
     pub op: u8,
     pub some: bool,

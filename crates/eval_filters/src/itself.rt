@@ -9,7 +9,7 @@ use crate::{Filter, atoms};
 use plan_format::kinds::{CURRENT, END};
 
 // The form of the comparison, as an atom has it, and its operator; `some` is false where there is no such test.
-#[derive(Drop)]
+#[derive(Clone, Copy)]
 pub struct Itself {
     pub form: u8,
     pub op: u8,

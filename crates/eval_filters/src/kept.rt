@@ -29,7 +29,7 @@ const COUNTED: u8 = 2;
 const ITSELF: u8 = 3;
 
 // A test of one member and, where join is `&&` or `||`, another; where it is `!`, the negation of the first. `some` is false where there is no such test.
-#[derive(Drop)]
+#[derive(Clone, Copy)]
 pub struct Pair {
     pub left: Atom,
     pub join: u8,
@@ -38,7 +38,7 @@ pub struct Pair {
 }
 
 // The place behind a node that is put into the list with what follows, and the place of the member that follows among the node's members.
-#[derive(Drop)]
+#[derive(Clone, Copy)]
 pub struct Pushed {
     pub at: usize,
     pub near: usize,
@@ -307,7 +307,7 @@ fn is_join(k: u8) -> bool
 
 // A filter that is read once: way 1 for tests of members with the operator between them, 2 for the number of children and 3 for a node itself with the operator and
 // the form of the comparison, 0 for every other.
-#[derive(Drop)]
+#[derive(Clone, Copy)]
 pub struct Form {
     pub way: u8,
     pub op: u8,

@@ -10,6 +10,9 @@
 //   counts     the number of children, read so
 //   itself     a node itself and a literal, read so
 //   kept       the nodes of a range that a filter keeps whose test is read once
+
+#![tactic(auto)]
+
 ghost use Rattle.std.specs.Prelude.{◌≡◌, ◌+◌, get_or};
 ghost use Rattle.definition.specs.Compare.{Value};
 ghost use Rattle.definition.specs.Tables.{kind_at};
@@ -39,7 +42,7 @@ pub mod pairs;
 pub mod values;
 
 // The answer of a test and the place behind it; `some` is false where it is not told.
-#[derive(Drop)]
+#[derive(Clone, Copy)]
 pub struct Told {
     pub acc: bool,
     pub q: usize,
@@ -48,7 +51,7 @@ pub struct Told {
 
 // What a filter is asked with: the node that `$` stands for, the end of the range, its code from p up to z, what follows by its number (`kept::tail_of`) and its place,
 // and how many nodes are counted. Where `cells`, nothing is pushed: the list has a cell for each node (`eval_rows::columns`).
-#[derive(Drop)]
+#[derive(Clone, Copy)]
 pub struct Filter {
     pub root: usize,
     pub e: usize,
@@ -61,7 +64,7 @@ pub struct Filter {
 }
 
 // How many nodes a query finds, the first of them, and the place behind the query; `some` is false where that takes evaluation.
-#[derive(Drop)]
+#[derive(Clone, Copy)]
 pub struct Nodes {
     pub n: usize,
     pub first: usize,

@@ -14,7 +14,7 @@ use eval_values::{Operand, operands};
 use plan_format::kinds::{COMPARE, COUNT, CURRENT, LENGTH, TEST, VALUE};
 
 // A value and the place behind it; `some` is false where it takes evaluation.
-#[derive(Drop)]
+#[derive(Clone, Copy)]
 pub struct Valued {
     pub v: Operand,
     pub q: usize,
@@ -22,7 +22,7 @@ pub struct Valued {
 }
 
 // An integer, where `some` is true.
-#[derive(Drop)]
+#[derive(Clone, Copy)]
 pub struct Whole {
     pub z: i64,
     pub some: bool,

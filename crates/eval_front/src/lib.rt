@@ -1,5 +1,8 @@
 // The parts of evaluation that need no call of it: a node's number into a list; the segments of one name or index at the front of a query; one node with a query, up
 // to what needs more; the places of a slice as nodes; the next list or map of a range.
+
+#![tactic(auto)]
+
 ghost use Rattle.std.specs.Prelude.{◌≡◌, ◌-◌, ◌<◌, length};
 ghost use Rattle.definition.specs.Limits.{max_nodes};
 ghost use Rattle.slices.specs.Walks.{Inside, walked};
@@ -16,7 +19,7 @@ use table::records::KIND_LIST;
 use text::bytes;
 
 // Where the segments of one name or index at the front of a query lead: a node and the place of what follows. `some` is false where there is no such node.
-#[derive(Drop)]
+#[derive(Clone, Copy)]
 pub struct Reached {
     pub node: usize,
     pub pc: usize,
@@ -24,7 +27,7 @@ pub struct Reached {
 }
 
 // One node with a query: the next place of the list and, where more is to be done, the node and the place in the plan where it goes on.
-#[derive(Drop)]
+#[derive(Clone, Copy)]
 pub struct Visited {
     pub at: usize,
     pub node: usize,
@@ -33,7 +36,7 @@ pub struct Visited {
 }
 
 // The children of a range with a query: the next place of the list and, where child i needs more, the node and the place in the plan where it goes on.
-#[derive(Drop)]
+#[derive(Clone, Copy)]
 pub struct Stop {
     pub i: usize,
     pub at: usize,

@@ -3,6 +3,9 @@
 //   leaves   literals, names, indices, slices, and the operations of a filter's code on values
 //   plans    where the items of a plan end
 //   regexes  match and search of two values
+
+#![tactic(auto)]
+
 use eval_values::Operand;
 
 pub mod leaves;
@@ -10,7 +13,7 @@ pub mod plans;
 pub mod regexes;
 
 // What a filter's code has at hand: an answer, the last two values, and the place in the plan.
-#[derive(Drop)]
+#[derive(Clone, Copy)]
 pub struct Regs {
     pub acc: bool,
     pub x: Operand,

@@ -1,5 +1,8 @@
 // The evaluation of a run alone, behind both checks, so that bench/peers.sh can time it as the other engines are timed. It asks what the checks give; an engine links
 // `exports`, whose operations ask nothing, and has no part of this.
+
+#![tactic(auto)]
+
 ghost use Rattle.std.specs.Prelude.{length};
 ghost use Rattle.eval_asks.specs.Asks.{Begins, AskSegments, DoneSegments};
 

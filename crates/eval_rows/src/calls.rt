@@ -11,7 +11,7 @@ use text::bytes;
 const NOWHERE: usize = 65536;
 
 // The places of the call and of its query's end, the expression's place in the pool, and the kind of the call; `some` is false where there is no such call.
-#[derive(Drop)]
+#[derive(Clone, Copy)]
 pub struct Call {
     pub at: usize,
     pub end: usize,

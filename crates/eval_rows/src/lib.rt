@@ -12,6 +12,9 @@
 //   rows      one node with the whole filter, and all of them in turn
 //   columns   how far each of them is told, in a cell
 //   coded     all of them where the expression is known
+
+#![tactic(auto)]
+
 pub mod calls;
 pub mod coded;
 pub mod columns;

@@ -11,7 +11,7 @@ use plan_format::kinds::END;
 use text::bytes;
 
 // The place of the end of a query; `some` is false where it takes more than names and indices to come there.
-#[derive(Drop)]
+#[derive(Clone, Copy)]
 pub struct Ended {
     pub at: usize,
     pub some: bool,

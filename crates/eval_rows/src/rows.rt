@@ -16,7 +16,7 @@ use eval_filters::kept::Pushed;
 use eval_filters::{Filter, kept};
 
 // How far the filter is told of a node: the answer in front of q. It is the filter's where `some`; else the test at q is not told.
-#[derive(Drop)]
+#[derive(Clone, Copy)]
 pub struct Answer {
     pub acc: bool,
     pub q: usize,
@@ -24,7 +24,7 @@ pub struct Answer {
 }
 
 // The next place of the list of nodes; where `more`, node i is left with those behind it, since the test at q is not told of it.
-#[derive(Drop)]
+#[derive(Clone, Copy)]
 pub struct Passed {
     pub i: usize,
     pub at: usize,

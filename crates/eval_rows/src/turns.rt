@@ -27,7 +27,7 @@ pub const READ: u8 = 2;
 pub const STATES: u8 = 3;
 
 // A text's place; `some` is false where there is none.
-#[derive(Drop)]
+#[derive(Clone, Copy)]
 pub struct Spot {
     pub start: usize,
     pub size: usize,

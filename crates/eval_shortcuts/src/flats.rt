@@ -15,7 +15,7 @@ use table::records;
 use text::bytes;
 
 // The first node of a range that is left, and the next place of the list of nodes.
-#[derive(Drop)]
+#[derive(Clone, Copy)]
 pub struct Flat {
     pub i: usize,
     pub at: usize,
@@ -37,7 +37,7 @@ fn is_flat(table: &[u8], node: usize) -> bool
 }
 
 // What is pushed of a node: the next place of the list, and the place among the members at which the next node is looked at first.
-#[derive(Drop)]
+#[derive(Clone, Copy)]
 struct Pushed {
     at: usize,
     near: usize,

@@ -10,6 +10,9 @@
 //   sides     a range of nodes with a filter of one test that begins with names and indices
 //
 // Filters that are read once stand in `eval_filters`, those with match or search of a text of the plan in `eval_rows`.
+
+#![tactic(auto)]
+
 ghost use Rattle.eval_front.specs.Visits.{Given};
 ghost use Rattle.eval_asks.specs.Lent.{plan_of, pool_of, table_of, text_of};
 ghost use Rattle.eval_asks.specs.Asks.{Asked, Steady, AskEach, DoneAhead, Descends, AskFlats, DoneFlats, AskSelector, AskKind, DoneKeep};

@@ -15,7 +15,7 @@ use plan_format::kinds::INDEX;
 use text::bytes;
 
 // Where the selectors that are left begin, and how many they are.
-#[derive(Drop)]
+#[derive(Clone, Copy)]
 pub struct Left {
     pub p: usize,
     pub n: usize,

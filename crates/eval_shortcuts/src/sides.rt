@@ -25,7 +25,7 @@ const LITERAL: u8 = 2;
 const QUERY: u8 = 3;
 
 // The form, the operator, and the places where the first query and the second end.
-#[derive(Drop)]
+#[derive(Clone, Copy)]
 pub struct Sides {
     pub form: u8,
     pub op: u8,
@@ -34,7 +34,7 @@ pub struct Sides {
 }
 
 // What a query finds: one node or none, and the place of its first name among the members, where that of the next node is looked for first.
-#[derive(Drop)]
+#[derive(Clone, Copy)]
 pub struct Side {
     pub n: usize,
     pub first: usize,

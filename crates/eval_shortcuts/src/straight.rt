@@ -9,7 +9,7 @@ use table::records;
 use text::bytes;
 
 // The first node of a range that is left, and the next place of the list of nodes.
-#[derive(Drop)]
+#[derive(Clone, Copy)]
 pub struct Passed {
     pub i: usize,
     pub at: usize,

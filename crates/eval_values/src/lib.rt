@@ -5,6 +5,9 @@
 //   members    the member of a map by its name
 //
 // Equality, down to any depth, and the six operators stand here. In the contracts S is the table, X the text and L the pool.
+
+#![tactic(auto)]
+
 ghost use Rattle.std.specs.Prelude.{◌≡◌, ◌<◌};
 ghost use Rattle.definition.specs.Compare.{same, less_or_same};
 ghost use Rattle.definition.specs.Tables.{node_count, kind_at, kind_list, kind_map, child_count, node_at};
@@ -24,7 +27,7 @@ pub mod ranks;
 
 // A value in a filter: none, null, a boolean, an integer, a float, a text that is a part of the pool or of the text (its start and its length),
 // or the value of a node that is a list or a map.
-#[derive(Drop)]
+#[derive(Clone, Copy)]
 pub enum Operand {
     Nothing,
     Null,

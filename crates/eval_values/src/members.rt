@@ -12,7 +12,7 @@ use table::records::KIND_MAP;
 use text::parts;
 
 // What a name finds.
-#[derive(Drop)]
+#[derive(Clone, Copy)]
 pub enum Member {
     At(usize),
     Nothing,

@@ -12,7 +12,7 @@ use number_order::Order;
 use text::parts;
 
 // How one value stands to another; `Unlike` where there is no order between them.
-#[derive(Drop)]
+#[derive(Clone, Copy)]
 pub enum Rank {
     Unlike,
     Less,

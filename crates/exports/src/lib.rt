@@ -1,5 +1,8 @@
 // The operations as functions that a C or Rust engine links: plain numbers and slices, each thin over the operation of `promises_tables`, `promises_plans` or `promises_queries`, with its statement carried over.
 // include/stewpebble.h declares them for C.
+
+#![tactic(auto)]
+
 ghost use Rattle.promises_stated.specs.Promises.{CompilesOnly, SelectsOnly, RunsOnly, ChecksPlanOnly, ChecksRecordsOnly, ChecksTextsOnly, ChecksTableOnly, TextOnly, KeyOnly, PathOnly, TalliesOnly};
 ghost use Rattle.std.specs.Prelude.{◌≡◌};
 ghost use Rattle.table.specs.Outcomes.{answered};

@@ -2,6 +2,9 @@
 // in two hexadecimal digits, a blank and how often it occurs; at last `plans`, a blank and how many plans were taken.
 //
 // A line ends at a line feed, and the last one may lack it. A query that is refused is passed over.
+
+#![tactic(auto)]
+
 ghost use Rattle.std.specs.Prelude.{◌≡◌, ◌≤◌, length};
 ghost use Rattle.compile.specs.Outcomes.{outcome};
 

@@ -1,4 +1,7 @@
 // Digits in a text: the leaves of the readers of ints and number literals.
+
+#![tactic(auto)]
+
 ghost use Rattle.std.specs.Prelude.{◌≡◌, ◌+◌, ◌*◌, ◌<◌, ◌≤◌, min, length};
 ghost use Rattle.std.specs.Int.{w64};
 ghost use Rattle.std.proofs.Common.{SFits};
@@ -13,14 +16,14 @@ pub const LIMIT: u64 = 10000000000000000000;
 const LIMIT_BEFORE: u64 = 1000000000000000000;
 
 // Where a run of digits ends, and the number that it writes, kept at the limit.
-#[derive(Drop)]
+#[derive(Clone, Copy)]
 pub struct Run {
     pub end: usize,
     pub value: u64,
 }
 
 // What stands at a place: a single 0, or a number that begins with another digit, each with its end; or neither, with the byte that is in the way.
-#[derive(Drop)]
+#[derive(Clone, Copy)]
 pub enum UnsignedRead {
     Zero(usize),
     Positive(usize, u64),

@@ -1,4 +1,7 @@
 // Which of two neighbouring floats is nearest to a literal, decided exactly by whole numbers of many limbs.
+
+#![tactic(auto)]
+
 ghost use Rattle.std.specs.Prelude.{◌≡◌, ◌+◌, ◌-◌, ◌<◌, ◌≤◌};
 ghost use Rattle.number_fives.specs.Rule.{place, powers};
 ghost use Rattle.number_rounding.specs.Decided.{Best};

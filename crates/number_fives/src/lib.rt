@@ -1,4 +1,7 @@
 // The leading 64 bits of the powers of five from 5 ^ -342 to 5 ^ 308: the powers that the exponents of number literals ask for.
+
+#![tactic(auto)]
+
 mod high;
 mod low;
 mod middle;

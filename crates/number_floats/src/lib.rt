@@ -1,4 +1,7 @@
 // The float of a number literal. Where N and a power of ten are floats, their product or quotient rounds once; everywhere else the crate `number_nearest` finds the bits.
+
+#![tactic(auto)]
+
 ghost use Rattle.std.specs.Prelude.{◌≡◌, true, false, ◌+◌, ◌^◌, ◌≤◌};
 ghost use Rattle.std.specs.Float.Ieee.Exact.{HasValue};
 ghost use Rattle.definition.specs.Limits.{max_int};

@@ -3,3 +3,5 @@
 // Signed    a whole number by its sign and its magnitude
 // Compare   what a comparison of natural numbers says
 // Tests     what a test made of two says
+
+#![tactic(auto)]

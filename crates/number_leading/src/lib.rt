@@ -1,17 +1,20 @@
 // The float nearest to N times ten to E by one word of the power of five: sure for most literals, and otherwise the two floats between which the fraction lies.
+
+#![tactic(auto)]
+
 ghost use Rattle.std.specs.Prelude.{◌≡◌, ◌⊎◌, ◌+◌, ◌*◌, ◌^◌, ◌<◌, ◌≤◌};
 ghost use Rattle.number_fives.specs.Rule.{place, powers};
 ghost use Rattle.number_leading.specs.Leads.{Bracket, Leads};
 
 // c steps of 2 ^ k units of the smallest float are nearest; or the fraction is at least that and less than one and a half steps more.
-#[derive(Drop)]
+#[derive(Clone, Copy)]
 pub enum Lead {
     Sure(u64, usize),
     Unsure(u64, usize),
 }
 
 // A number with its leading bit at the top, and how far it was moved.
-#[derive(Drop)]
+#[derive(Clone, Copy)]
 pub struct Norm {
     pub m: u64,
     pub s: usize,

@@ -1,4 +1,7 @@
 // Large whole numbers as lists of limbs of 32 bits, the lowest first: products in place, and order.
+
+#![tactic(auto)]
+
 ghost use Rattle.std.specs.Prelude.{◌≡◌, ◌+◌, ◌*◌, ◌^◌, ◌<◌, ◌≤◌, length};
 ghost use Rattle.number_limbs.specs.Limbs.{value, Limbs};
 ghost use Rattle.number_limbs.specs.Order.{Ordered};
@@ -63,7 +66,7 @@ pub fn scale(x: &mut [u64], m: u64, p: usize, e: usize)
 }
 
 // How the first of two numbers stands to the second.
-#[derive(Drop)]
+#[derive(Clone, Copy)]
 pub enum Answer {
     Less,
     Equal,

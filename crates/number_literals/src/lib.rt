@@ -1,4 +1,7 @@
 // What a number literal stands for, from its sign, its digits and its exponent.
+
+#![tactic(auto)]
+
 ghost use Rattle.std.specs.Prelude.{◌≡◌, pos, ◌-ℤ◌, true, ◌<◌};
 ghost use Rattle.definition.specs.Limits.{literal_limit};
 ghost use Rattle.definition.specs.Literals.{whole_numeral, float_numeral, exponent_right};
@@ -10,7 +13,7 @@ use number_digits::LIMIT;
 use number_fives::LEAST;
 
 // An integer, a float by its bits, or a float beyond the range of literals.
-#[derive(Drop)]
+#[derive(Clone, Copy)]
 pub enum Literal {
     Int(i64),
     Float(u64),

@@ -1,4 +1,7 @@
 // The bits of the float nearest to N times ten to E, for every N of 64 bits and every E in -342..308: by the leading word where that is sure, and exactly otherwise.
+
+#![tactic(auto)]
+
 ghost use Rattle.std.specs.Prelude.{◌≡◌, ◌+◌, ◌*◌, ◌^◌, ◌<◌, ◌≤◌, min};
 ghost use Rattle.number_fives.specs.Rule.{powers};
 ghost use Rattle.number_leading.specs.Leads.{above, below};

@@ -1,5 +1,8 @@
 // The exact order of numbers: of two integers, of two floats, and of an integer and a float.
 // No integer becomes a float on the way: a float is taken apart into its digits and a power of two, and these are compared with the integer.
+
+#![tactic(auto)]
+
 ghost use Rattle.std.specs.Prelude.{◌≡◌, T, nat_abs};
 ghost use Prim.Native.Nat.{◌*◌, ◌%◌, ◌^◌, ◌<◌, ◌≤◌, compare};
 ghost use Rattle.std.specs.Float.{binary64};
@@ -7,7 +10,7 @@ ghost use Rattle.std.specs.Float.Ieee.{of_bits};
 ghost use Rattle.std.specs.Float.Ieee.Scale.{finite};
 ghost use Rattle.number_order.specs.Exact.{answer, reverse, of_integer, of_float, order_of, significand, shift};
 
-#[derive(Drop)]
+#[derive(Clone, Copy)]
 pub enum Order {
     Less,
     Equal,

@@ -1,4 +1,7 @@
 // The readers of ints and of number literals: each reads one rule of the grammar at a place of a text.
+
+#![tactic(auto)]
+
 ghost use Rattle.std.specs.Prelude.{◌≡◌, ◌≤◌, length};
 ghost use Rattle.number_digits.specs.Runs.{limit};
 ghost use Rattle.number_parse.specs.Ints.{IntAnswer, ranged};
@@ -10,7 +13,7 @@ use number_digits::UnsignedRead;
 use number_literals::Literal;
 
 // An int with its end and its value, one with its end that is out of range, or none, with the byte that is in the way.
-#[derive(Drop)]
+#[derive(Clone, Copy)]
 pub enum IntRead {
     Next(usize, i64),
     OutOfRange(usize),
@@ -18,28 +21,28 @@ pub enum IntRead {
 }
 
 // A number literal with its end and what it stands for, or none, with the byte that is in the way.
-#[derive(Drop)]
+#[derive(Clone, Copy)]
 pub enum NumberRead {
     Next(usize, Literal),
     Nothing(usize),
 }
 
 // The digits before a fraction: their end, whether a minus stands before them, and their number, kept at the limit.
-#[derive(Drop)]
+#[derive(Clone, Copy)]
 pub enum WholeRead {
     WholeEnd(usize, bool, u64),
     BadWhole(usize),
 }
 
 // A fraction or none: its end, the count of its digits, and the number of all digits so far, kept at the limit.
-#[derive(Drop)]
+#[derive(Clone, Copy)]
 pub enum FractionRead {
     FractionEnd(usize, usize, u64),
     BadFraction(usize),
 }
 
 // An exponent or none: its end, whether one is written, whether it has a minus, and its number, kept at the limit.
-#[derive(Drop)]
+#[derive(Clone, Copy)]
 pub enum ExponentRead {
     ExponentEnd(usize, bool, bool, u64),
     BadExponent(usize),

@@ -1,11 +1,14 @@
 // The whole product of two 64-bit numbers, which has 128 bits.
+
+#![tactic(auto)]
+
 ghost use Rattle.std.specs.Prelude.{◌≡◌, ◌+◌, ◌*◌, ◌^◌, ◌<◌};
 
 // 2 ^ 32, the base of the halves.
 const HALF: u64 = 4294967296;
 
 // The number hi * 2 ^ 64 + lo.
-#[derive(Drop)]
+#[derive(Clone, Copy)]
 pub struct Wide {
     pub hi: u64,
     pub lo: u64,

@@ -5,3 +5,5 @@
 // Round     the library's rounding meets it
 // Unique    only one float meets it
 // Decimal   both, for the numbers of float literals
+
+#![tactic(auto)]

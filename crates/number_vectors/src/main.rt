@@ -6,6 +6,9 @@
 //   n TEXT     parse_number: `int END VALUE`, `float END BITS`, `beyond END` or `nothing`
 //   c A B      the order of two numbers: `<`, `=` or `>`. An operand is an integer, or x and the 16 hexadecimal digits of a float's bits
 // END is the place in the line behind what was read.
+
+#![tactic(auto)]
+
 ghost use Rattle.std.specs.Prelude.{◌≤◌, length};
 
 use libc::{STDIN_FILENO, STDOUT_FILENO};
@@ -19,7 +22,7 @@ const SIGN: u64 = 9223372036854775808;
 const INFINITY: u64 = 9218868437227405312;
 
 // An operand of a comparison, a float by its bits.
-#[derive(Drop)]
+#[derive(Clone, Copy)]
 enum Operand {
     Int(i64),
     Float(u64),

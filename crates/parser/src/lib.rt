@@ -1,5 +1,8 @@
 // The rules of the grammar that nest, one function for each, in the order of the grammar. Repetition is a loop, nesting a call.
 // Each function reads at the cursor's place, writes what it reads, and answers the cursor behind it or the place where reading stopped.
+
+#![tactic(auto)]
+
 mod call;
 
 ghost use Rattle.definition.specs.Grammar.{spell_segments, spell_segment, spell_bracketed, spell_selectors, spell_selector, spell_logical_or, spell_more_or, spell_logical_and, spell_more_and, spell_basic, spell_paren};

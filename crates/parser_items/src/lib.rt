@@ -1,4 +1,7 @@
 // The reader's cursor, and the items of a query that do not nest: each is read at the cursor's place, both ways, and written.
+
+#![tactic(auto)]
+
 mod constants;
 mod ranges;
 mod texts;
@@ -25,7 +28,7 @@ use verdicts::{call_verdict, compared, value_verdict};
 
 // Where the reader stands: its place in the query, the lengths of plan and pool so far, and the marks of what was read. The marks are one number, so that
 // a cursor is four words and is copied as such: below 256 the first verdict of 4, 5 and 6, and 256 more where a literal is beyond the range of literals.
-#[derive(Drop)]
+#[derive(Clone, Copy)]
 pub struct Cursor {
     pub at: usize,
     pub len: usize,
@@ -37,7 +40,7 @@ pub struct Cursor {
 pub const BEYOND: usize = 256;
 
 // The cursor behind a tree and the number that is told of it; or the place where reading stopped.
-#[derive(Drop)]
+#[derive(Clone, Copy)]
 pub enum Step {
     Next(Cursor, usize),
     Stop(usize),

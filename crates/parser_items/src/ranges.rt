@@ -16,7 +16,7 @@ use text::bytes::{bits64, put64};
 const OUT_OF_RANGE: u8 = 4;
 
 // An int as it is written: the place right behind it and the place behind its blanks, whether there is one, its bits, and the verdict on it.
-#[derive(Drop)]
+#[derive(Clone, Copy)]
 pub struct Piece {
     pub end: usize,
     pub at: usize,

@@ -1,4 +1,7 @@
 // The scanner under the reader of queries: a byte at a place, blanks, names, function names and comparison operators.
+
+#![tactic(auto)]
+
 ghost use Rattle.std.specs.Prelude.{◌≡◌, true, ◌≤◌, ◌-◌, length, drop};
 ghost use Rattle.definition.specs.Bytes.{part, within};
 ghost use Rattle.definition.specs.Utf8.{is_utf8};
@@ -10,14 +13,14 @@ use plan_format::operators;
 use text::parts::same_bytes;
 
 // The place behind what was read, or the place where it goes wrong.
-#[derive(Drop)]
+#[derive(Clone, Copy)]
 pub enum End {
     At(usize),
     Nothing(usize),
 }
 
 // The place behind a comparison operator and its number in a plan.
-#[derive(Drop)]
+#[derive(Clone, Copy)]
 pub enum Sign {
     Is(usize, u8),
     Nothing,

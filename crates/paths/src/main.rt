@@ -2,6 +2,9 @@
 // For each line it writes `ok`, how many nodes the query selects and the nodes, or `refused` and the refusal's number, with one blank between.
 //
 // A line ends at a line feed, and the last one may lack it. Every other byte belongs to the query; an empty line is a query too, refused 4.
+
+#![tactic(auto)]
+
 use program_console::output;
 use refusals::RunNumbers;
 

@@ -1,5 +1,8 @@
 // Plan check: whether a plan and a pool are the translation of a query form. One pass over the bytes, with a function for each part of a form.
 // Filters, right operands and function arguments nest at most 128 deep, and so do the calls.
+
+#![tactic(auto)]
+
 ghost use Rattle.std.specs.Prelude.{◌≡◌, ◌+◌, ◌*◌, ◌≤◌, length};
 ghost use Rattle.definition.specs.Limits.{max_nesting};
 ghost use Rattle.definition.specs.Outcomes.{ChecksPlan};

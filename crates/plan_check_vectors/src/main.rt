@@ -1,6 +1,9 @@
 // Vectors for plan check, compared with the file stdout. make.py writes both files.
 // Each line of the input is a plan, a blank and a pool, in hexadecimal. A star with four digits and two more repeats: so many bytes are copied, each from
 // where it stands that far back. For each line the program writes `ok` or `refused 11`.
+
+#![tactic(auto)]
+
 ghost use Rattle.std.specs.Prelude.{◌≡◌, ◌+◌, ◌≤◌, ◌<◌, length};
 
 // The number of a hexadecimal digit, 0 of any other byte.

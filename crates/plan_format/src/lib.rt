@@ -8,6 +8,9 @@
 //   lengths     how long bodies and items are
 //   heads       the first four bytes of a child segment of one selector, as a number
 //   written     that all of them are what the definition writes
+
+#![tactic(auto)]
+
 pub mod heads;
 pub mod kinds;
 pub mod lengths;

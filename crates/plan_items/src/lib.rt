@@ -1,4 +1,7 @@
 // The readers of those parts of a plan that hold no other part: texts, numbers, slices, literals, the functions called on an operand, and what is asked of two.
+
+#![tactic(auto)]
+
 ghost use Rattle.std.specs.Prelude.{◌≡◌, max, ◌+◌, ◌≤◌, length};
 ghost use Rattle.definition.specs.Bytes.{signed64};
 ghost use Rattle.definition.specs.Limits.{max_nesting};
@@ -25,7 +28,7 @@ const EXPONENT: u64 = 4503599627370496;
 const NOT_FINITE: u64 = 2047;
 
 // Where a plan and a pool stand behind a part, how deep the part nests, and its sort.
-#[derive(Drop)]
+#[derive(Clone, Copy)]
 pub struct Got {
     pub at: usize,
     pub p: usize,
@@ -34,7 +37,7 @@ pub struct Got {
 }
 
 // A part that was read, or none.
-#[derive(Drop)]
+#[derive(Clone, Copy)]
 pub enum Step {
     Next(Got),
     Stop,

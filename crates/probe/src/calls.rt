@@ -11,7 +11,7 @@ const QUERY_ROOM: usize = 8192;
 const TABLE_ROOM: usize = 196608;
 
 // What a line calls.
-#[derive(Drop)]
+#[derive(Clone, Copy)]
 pub enum Call {
     Table,
     Records,

@@ -26,6 +26,9 @@
 //     plan_calls    compile and plan
 //     table_calls   records, texts, table, text and key
 //     tally_calls   take
+
+#![tactic(auto)]
+
 mod calls;
 mod list_calls;
 mod path_calls;

@@ -6,7 +6,7 @@ const NEWLINE: u8 = b'\n';
 const BYTES: u64 = 0xffff_ffff_ffff_ffff;
 
 // The next byte of the input. Those that were read and not yet taken stand in the buffer between two places.
-#[derive(Drop)]
+#[derive(Clone, Copy)]
 struct Taken {
     // Whether there is one.
     more: bool,
@@ -16,7 +16,7 @@ struct Taken {
 }
 
 // The next line of the input.
-#[derive(Drop)]
+#[derive(Clone, Copy)]
 pub struct Line {
     // Whether there is one.
     pub found: bool,

@@ -1,6 +1,9 @@
 // Words on a line of bytes: where a word ends, hexadecimal byte strings and decimal numbers, read and written.
 //
 //     words    the words of a line one after the other
+
+#![tactic(auto)]
+
 pub mod words;
 
 ghost use Rattle.std.specs.Prelude.{◌≡◌, ◌+◌, ◌*◌, ◌-◌, ◌/◌, ◌%◌, ◌<◌, ◌≤◌, length};
@@ -13,7 +16,7 @@ const NO_DIGIT: u8 = 16;
 const NUMBER_LIMIT: usize = 1000000000000000000;
 
 // What a hexadecimal word holds.
-#[derive(Drop)]
+#[derive(Clone, Copy)]
 pub enum Decoded {
     // So many bytes, at the start of the room.
     Bytes(usize),
@@ -24,7 +27,7 @@ pub enum Decoded {
 }
 
 // What a decimal word holds.
-#[derive(Drop)]
+#[derive(Clone, Copy)]
 pub enum Number {
     Is(usize),
     Not,

@@ -6,7 +6,7 @@ use crate::{Decoded, Number, decode, find, read_number};
 const BLANK: u8 = b' ';
 
 // A hexadecimal word that was read.
-#[derive(Drop)]
+#[derive(Clone, Copy)]
 pub enum ByteWord {
     // So many bytes, at the start of the room, and the place of the next word. Behind the last word that is past the line's end.
     Bytes(usize, usize),
@@ -17,7 +17,7 @@ pub enum ByteWord {
 }
 
 // A decimal word that was read.
-#[derive(Drop)]
+#[derive(Clone, Copy)]
 pub enum NumberWord {
     // Its number, and the place of the next word.
     Is(usize, usize),

@@ -1,5 +1,8 @@
 // Plan check and tally, each with the very statement that is promised of it: `promises_stated` has the types (Promises.antt) and what follows from them (Demands.antt).
 // Each is thin over the operation of its name below, requires nothing, and leaves one outcome for each input. A contract below that said less would not prove this crate.
+
+#![tactic(auto)]
+
 ghost use Rattle.promises_stated.specs.Promises.{ChecksPlanOnly, TalliesOnly};
 ghost use Rattle.plan_check.specs.Checks.{refusal};
 ghost use Rattle.tally.specs.Counts.{tallied};

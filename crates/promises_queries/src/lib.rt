@@ -1,5 +1,8 @@
 // Compile, select and run, each with the very statement that is promised of it: `promises_stated` has the types (Promises.antt) and what follows from them (Demands.antt).
 // Each is thin over the operation of its name below, requires nothing, and leaves one outcome for each input. A contract below that said less would not prove this crate.
+
+#![tactic(auto)]
+
 ghost use Rattle.promises_stated.specs.Promises.{CompilesOnly, SelectsOnly, RunsOnly};
 ghost use Rattle.compile.specs.Outcomes.{outcome};
 ghost use Rattle.select.specs.Selections.{selected};

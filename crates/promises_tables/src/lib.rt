@@ -1,5 +1,8 @@
 // The checks of a table, and the text, the key and the path of a node, each with the very statement that is promised of it: `promises_stated` has the types (Promises.antt) and what follows from them (Demands.antt).
 // Each is thin over the operation of its name below, requires nothing, and leaves one outcome for each input. A contract below that said less would not prove this crate.
+
+#![tactic(auto)]
+
 ghost use Rattle.promises_stated.specs.Promises.{ChecksRecordsOnly, ChecksTextsOnly, ChecksTableOnly, TextOnly, TextBegins, KeyOnly, KeyBegins, PathOnly};
 ghost use Rattle.table.specs.Outcomes.{reported, answered};
 ghost use Rattle.table_path.specs.Outcomes.{told};

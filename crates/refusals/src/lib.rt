@@ -1,4 +1,7 @@
 // The numbers that document 01 gives each answer. Fields that a refusal's row does not name are 0.
+
+#![tactic(auto)]
+
 ghost use Rattle.refusals.specs.Numbers.{CompileTells, RunTells, SelectTells, CheckTells, PathTells};
 
 use compile::Compiled;
@@ -9,7 +12,7 @@ use table::TableChecked;
 use table_path::PathWritten;
 
 // What compile came to: the refusal, or 0; and two lengths.
-#[derive(Drop)]
+#[derive(Clone, Copy)]
 pub struct CompileNumbers {
     pub refusal: u8,
     pub plan: usize,
@@ -17,7 +20,7 @@ pub struct CompileNumbers {
 }
 
 // What a run or a selection came to: the refusal, or 0; how many nodes were selected; the least node at which the table is wrong.
-#[derive(Drop)]
+#[derive(Clone, Copy)]
 pub struct RunNumbers {
     pub refusal: u8,
     pub count: usize,
@@ -25,14 +28,14 @@ pub struct RunNumbers {
 }
 
 // What a check of a table came to: the refusal, or 0; the least node at which the table is wrong.
-#[derive(Drop)]
+#[derive(Clone, Copy)]
 pub struct CheckNumbers {
     pub refusal: u8,
     pub node: usize,
 }
 
 // What the path of a node came to: the refusal, or 0; the path's length; the least node at which the table is wrong.
-#[derive(Drop)]
+#[derive(Clone, Copy)]
 pub struct PathNumbers {
     pub refusal: u8,
     pub size: usize,

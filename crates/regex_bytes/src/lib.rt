@@ -1,4 +1,7 @@
 // The reader of expressions over the bytes of a text: its scalar values first, and then the code of the expression.
+
+#![tactic(auto)]
+
 ghost use Rattle.std.specs.Prelude.{◌≡◌, ◌+◌, ◌*◌, ◌≤◌, ◌<◌, length, drop, true};
 ghost use Rattle.definition.specs.Bytes.{within};
 ghost use Rattle.definition.specs.Utf8.{is_utf8};

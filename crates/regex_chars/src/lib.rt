@@ -1,6 +1,9 @@
 // Single characters: of a UTF-8 text, the code point of the character at a place and the place behind its bytes; of a class in the
 // code of an expression, whether it has a character. Of other bytes and words nothing is said: they are read in bounds, and the
 // place in a text moves on.
+
+#![tactic(auto)]
+
 ghost use Rattle.std.specs.Prelude.{◌≡◌, ◌+◌, ◌-◌, ◌≤◌, ◌<◌, length};
 ghost use Rattle.regex_definition.specs.Chars.{within};
 ghost use Rattle.regex_chars.specs.Chars.{Stands};
@@ -9,7 +12,7 @@ ghost use Rattle.regex_chars.specs.Classes.{Hits, Holds, flip_of};
 use regex_code::wide as word;
 
 // A character: its code point, and the place behind it.
-#[derive(Drop)]
+#[derive(Clone, Copy)]
 pub struct Char {
     pub value: u32,
     pub next: usize,

@@ -1,4 +1,7 @@
 // The flat code of an expression, in words, and the place behind the code at a place. `specs/Flat.antt` has the code.
+
+#![tactic(auto)]
+
 ghost use Rattle.std.specs.Prelude.{◌≡◌, ◌<◌, ◌^◌, length};
 ghost use Rattle.regex_code.specs.Skips.{Skips, SkipsClass};
 

@@ -5,7 +5,7 @@ ghost use Rattle.regex_definition.specs.Read.{read_escape, read_bare, read_cccha
 ghost use Rattle.regex_leaves.specs.Reads.{Is, ReadChar};
 
 // The place behind a character, and the character; or none stands there.
-#[derive(Drop)]
+#[derive(Clone, Copy)]
 pub enum Char {
     Next(usize, u32),
     Stop,

@@ -7,7 +7,7 @@ ghost use Rattle.regex_leaves.specs.Reads.{ReadChar, ReadBraces, ReadQuantifier}
 use crate::chars::{Char, is, within};
 
 // A repeat and the place behind it, from one number to another or from one on; none is written; or what stands there is none.
-#[derive(Drop)]
+#[derive(Clone, Copy)]
 pub enum Quant {
     Upto(usize, u32, u32),
     Least(usize, u32),

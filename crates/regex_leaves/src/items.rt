@@ -6,7 +6,7 @@ ghost use Rattle.regex_leaves.specs.Reads.{ReadItem};
 use crate::chars::{Char, class_char, is};
 
 // The place behind an item, and its range; or none stands there.
-#[derive(Drop)]
+#[derive(Clone, Copy)]
 pub enum Item {
     Next(usize, u32, u32),
     Stop,

@@ -4,6 +4,9 @@
 //   items      the items of a class
 //   counts     quantifiers
 //   words      the words that are written
+
+#![tactic(auto)]
+
 pub mod chars;
 pub mod counts;
 pub mod items;

@@ -1,5 +1,8 @@
 // The fast matcher: one mark for each character position of the written-out expression; each character of the text is one pass over
 // the code. Nothing is written out: the copies of a repeat share their code and have marks of their own.
+
+#![tactic(auto)]
+
 mod passes;
 
 ghost use Rattle.std.specs.Prelude.{◌≡◌, true, ◌+◌, ◌-◌, ◌≤◌, ◌<◌, ◌^◌, length};
@@ -202,7 +205,7 @@ fn endless(
     pack(u)
 }
 
-#[derive(Drop)]
+#[derive(Clone, Copy)]
 pub struct Weight {
     pub next: usize,
     pub size: usize,

@@ -4,7 +4,7 @@ ghost use Rattle.regex_marks.specs.Passes.{flag_of, pass_of, empty_of, second_of
 
 // What a pass over a part says: the place behind its code, the number of its marks, whether it describes the empty word, and
 // whether a word of it may end here, before the character and after it.
-#[derive(Drop)]
+#[derive(Clone, Copy)]
 pub struct Pass {
     pub next: usize,
     pub size: usize,

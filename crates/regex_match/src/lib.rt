@@ -1,6 +1,9 @@
 // Whether a text is described by an expression in its flat code: a row of characters by comparison, any other by marks where there is
 // room for them, else by sets of places where the text is short, else by the total matcher. Right for every code and text; a search is
 // a test of the widened code.
+
+#![tactic(auto)]
+
 ghost use Rattle.std.specs.Prelude.{◌≡◌, true, ◌≤◌, min};
 ghost use Rattle.regex_match.specs.Tested.{Tested, Missed};
 

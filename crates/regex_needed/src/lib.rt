@@ -5,6 +5,9 @@
 //   - {0,64} around {0,64} is {0,4096}
 //   - an upper end that no short text reaches is none: {0,64} is *
 //   - a repeat whose texts are all too long is a class of no character
+
+#![tactic(auto)]
+
 ghost use Rattle.std.specs.Prelude.{◌≡◌, true, [], ◌∷◌, ◌+◌, ◌*◌, ◌≤◌, ◌<◌, ◌^◌, min, length};
 ghost use Rattle.std.proofs.Math.Seq.{slice};
 ghost use Rattle.regex_needed.specs.Needed.{WroteInRoom, Lessened, once, repeated, Asks, Closes, Misses, Needed, Joins, Endless, Headed};
@@ -14,14 +17,14 @@ use regex_code::{skip, small};
 use regex_total::{matches, measure};
 
 // The places behind what was read, and behind what was written. One more than the room has says that it is too small.
-#[derive(Drop)]
+#[derive(Clone, Copy)]
 pub struct Part {
     pub next: usize,
     pub end: usize,
 }
 
 // The counts of a repeat, if there are any.
-#[derive(Drop)]
+#[derive(Clone, Copy)]
 struct Counts {
     known: bool,
     lo: u32,

@@ -1,5 +1,8 @@
 // The matcher by sets of places: a part of an expression leads from each place of a text to others, and the places to which it leads from a set are worked
 // out at once. A repeat goes on until its set is empty or grows no more. A set is a byte for each place, 1 if it has it.
+
+#![tactic(auto)]
+
 ghost use Rattle.std.specs.Prelude.{◌≡◌, true, false, ◌+◌, ◌≤◌, ◌<◌, length, get_or};
 ghost use Rattle.regex_places.specs.Places.{Fits, IsRow, Reached, once, rows, most, Moves, Same, Adds, Both, None, Wider, Placed};
 ghost use Rattle.regex_code.specs.Flat.{Word};

@@ -1,5 +1,8 @@
 // Expressions that are a row of single characters: a match is a comparison, and a search looks for the row at one character of the
 // text after the other. Of any other expression nothing is said here.
+
+#![tactic(auto)]
+
 ghost use Rattle.std.specs.Prelude.{◌≡◌, true, ◌+◌, ◌*◌, ◌≤◌, ◌<◌, length};
 ghost use Rattle.regex_plain.specs.Rows.{Four, Letter, Free, Spelt, Plainly, Begins, Whole, Found, Sought, Known, Open};
 
@@ -49,7 +52,7 @@ fn free(code: &[u32], at: usize) -> bool
 }
 
 // How many characters stand in a row from `at` on, and the place behind them.
-#[derive(Drop)]
+#[derive(Clone, Copy)]
 pub struct Span {
     pub count: usize,
     pub next: usize,
@@ -71,7 +74,7 @@ fn letters(code: &[u32], at: usize) -> Span
 }
 
 // Whether the expression at `at` is a row of characters, how many, and the place behind it.
-#[derive(Drop)]
+#[derive(Clone, Copy)]
 pub struct Plain {
     pub is: bool,
     pub count: usize,
@@ -99,7 +102,7 @@ fn row_at(code: &[u32], at: usize) -> Plain
 }
 
 // Whether the text begins with the characters, and the place behind them.
-#[derive(Drop)]
+#[derive(Clone, Copy)]
 pub struct Begun {
     pub is: bool,
     pub next: usize,
@@ -161,7 +164,7 @@ fn find(code: &[u32], at: usize, n: usize, text: &[u8]) -> bool
 }
 
 // Whether the code is that of a search for a row of characters, which stands at 7, and how many.
-#[derive(Drop)]
+#[derive(Clone, Copy)]
 pub struct Search {
     pub is: bool,
     pub count: usize,
@@ -201,7 +204,7 @@ fn sought(code: &[u32]) -> Search
 }
 
 // The answer, where the expression is a row of characters or a search for one.
-#[derive(Drop)]
+#[derive(Clone, Copy)]
 pub struct Answer {
     pub known: bool,
     pub value: bool,

@@ -9,7 +9,7 @@ use regex_leaves::chars::is;
 use regex_leaves::items::{Item, first, one_item};
 
 // The place behind the "]" and the number of ranges behind the first; or there is none.
-#[derive(Drop)]
+#[derive(Clone, Copy)]
 pub enum More {
     Next(usize, usize),
     Stop,

@@ -10,7 +10,7 @@ use regex_leaves::counts::quantifier;
 use regex_leaves::words::insert;
 
 // The place behind the code; or the characters are no expression of the part.
-#[derive(Drop)]
+#[derive(Clone, Copy)]
 pub enum Reading {
     Code(usize),
     Outside,

@@ -2,6 +2,9 @@
 //
 //   reads   the code of an expression, widened for search
 //   marks   the test of a text by the code
+
+#![tactic(auto)]
+
 pub mod marks;
 pub mod reads;
 

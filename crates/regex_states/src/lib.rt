@@ -6,6 +6,9 @@
 // `edges` has for each ASCII character the number of the state that it leads to, or 0 where that is not known. State 1 is the start. Row 0 of
 // `sets` has the number of marks, 0 for an expression that has no states, the number of rows in use, whether the expression is open-ended, and
 // whether it has no character beyond ASCII; then all of those lead to one state, whose number stands at 125, or 0 where it is not known.
+
+#![tactic(auto)]
+
 ghost use Rattle.std.specs.Prelude.{◌≡◌, true, ◌&&◌, ◌+◌, ◌*◌, ◌≤◌, ◌<◌, eqb, length};
 ghost use Rattle.regex_match.specs.Tested.{Tested};
 ghost use Rattle.regex_marks.specs.Runs.{Clear};
@@ -55,7 +58,7 @@ fn both(a: bool, b: bool) -> bool
 }
 
 // A place of a text, and the state in which it is reached.
-#[derive(Drop)]
+#[derive(Clone, Copy)]
 pub struct Spot {
     pub place: usize,
     pub state: usize,
@@ -246,7 +249,7 @@ fn note(edges: &mut [u8], k: usize, c: u32, t: usize)
 }
 
 // A state, and whether a text may end there.
-#[derive(Drop)]
+#[derive(Clone, Copy)]
 pub struct Next {
     pub state: usize,
     pub told: bool,

@@ -1,6 +1,9 @@
 // The total matcher: a recursion over (expression, from, to), of which the last two are places in the bytes of the text. Right for
 // every expression and text; its depth is bounded by the nesting of the expression and the number of bits of a count, and it needs
 // no other room.
+
+#![tactic(auto)]
+
 ghost use Rattle.std.specs.Prelude.{◌≡◌, ◌+◌, ◌≤◌, ◌<◌, min, max, true, length, get_or};
 ghost use Rattle.regex_total.specs.Answers.{no_width, Inside, Matched, Repeated, Paired, Joined, Some, Enough, Widths, Capped, Apart, Reaches};
 
@@ -67,7 +70,7 @@ pub fn matches(code: &[u32], at: usize, text: &[u8], from: usize, to: usize) -> 
 }
 
 // How many bytes a word of the part at `at` has: least and most, where 2^31 is "as many as you like".
-#[derive(Drop)]
+#[derive(Clone, Copy)]
 pub struct Width {
     pub next: usize,
     pub least: usize,

@@ -1,6 +1,9 @@
 // Expressions, each with a text: read and tested, compared with the file stdout. make.py writes both files.
 // Each line of the input is an expression, a blank and a text, both UTF-8 in hexadecimal, a dash for an empty one.
 // For each line the program writes what holds: `match and search`, `search`, `match` or `neither`. With an expression outside the part that is `neither`.
+
+#![tactic(auto)]
+
 ghost use Rattle.std.specs.Prelude.{◌≡◌, true};
 ghost use Rattle.definition.specs.Utf8.{is_utf8};
 

@@ -13,7 +13,7 @@ const WANTED_ROOM: usize = 2048;
 const PLACES: usize = 1024;
 
 // What an example comes to.
-#[derive(Drop)]
+#[derive(Clone, Copy)]
 pub enum Verdict {
     // As the RFC says, and as this engine is to answer.
     Same,
@@ -23,7 +23,7 @@ pub enum Verdict {
 }
 
 // An answer that is wanted, by its word.
-#[derive(Drop)]
+#[derive(Clone, Copy)]
 enum Wanted {
     List,
     Members,

@@ -14,6 +14,9 @@
 // `wrong NAME` with what came instead, and at the end how many there were of each.
 //
 //     examples   what is read of a line, and how it is compared
+
+#![tactic(auto)]
+
 mod examples;
 
 use examples::Verdict;
@@ -23,7 +26,7 @@ use program_console::output;
 const LINES: u64 = 1048576;
 
 // How many examples came to each verdict.
-#[derive(Drop)]
+#[derive(Clone, Copy)]
 struct Tally {
     same: u64,
     other: u64,

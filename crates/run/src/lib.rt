@@ -1,11 +1,14 @@
 // Runs a plan on a table of values: the numbers of the nodes that it selects, into a list of the caller's from a start position on.
+
+#![tactic(auto)]
+
 ghost use Rattle.definition.specs.Outcomes.{Runs};
 ghost use Rattle.run.specs.Outcomes.{ran, Planned, RunsForm, AskPlacing, DonePlacing};
 
 use table::TableChecked;
 
 // What a run comes to.
-#[derive(Drop)]
+#[derive(Clone, Copy)]
 pub enum Ran {
     // So many nodes are selected, and their numbers stand in the list from the start position on.
     Selected(usize),

@@ -1,5 +1,8 @@
 // Select: the nodes of a table that a query selects, into a list of the caller's from a start position on.
 // The query is read in rooms of this crate's own, and its plan is run where it stands.
+
+#![tactic(auto)]
+
 ghost use Rattle.std.specs.Prelude.{◌≡◌, ◌≤◌, length};
 ghost use Rattle.definition.specs.Outcomes.{RunOutcome, Selects, early};
 ghost use Rattle.compile.specs.Steps.{Enough};
@@ -17,7 +20,7 @@ use parser_items::Step;
 use run::{Ran, run_form};
 
 // What a selection comes to.
-#[derive(Drop)]
+#[derive(Clone, Copy)]
 pub enum Selection {
     // The query is refused.
     Refused(Refusal),

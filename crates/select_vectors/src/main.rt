@@ -8,6 +8,9 @@
 // docs/DIFFERENCES.md by which document 01's answer, which stands here, differs from it. REFUSAL is 0 where the query selects, and the nodes follow in order.
 // For each line the program writes `ok` and the nodes, or `refused` and the number; and `differs` behind an answer that is not the line's.
 // The last line counts the cases and the answers that differ.
+
+#![tactic(auto)]
+
 use program_console::output;
 use program_lines::words;
 use program_lines::words::{ByteWord, NumberWord};

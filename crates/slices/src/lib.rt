@@ -1,6 +1,8 @@
 // Which elements of a list an index and a slice select: an index as one place or none, a slice as a walk over places.
 // Indices, bounds and steps are i64, as in the plan; places are usize. specs/Walks.antt has the words of the contracts.
 
+#![tactic(auto)]
+
 ghost use Rattle.std.specs.Prelude.{◌≡◌, true, suc, ◌≤◌, ◌<◌, pos, negsuc, nat_abs, neg_ℤ, ◌+ℤ◌, ◌-ℤ◌};
 ghost use Rattle.definition.specs.Limits.{max_nodes};
 ghost use Rattle.definition.specs.Literals.{in_range};
@@ -8,14 +10,14 @@ ghost use Rattle.definition.specs.Slices.{add_once, element_at, index_places, cl
 ghost use Rattle.slices.specs.Walks.{place_list, given, Inside, Between, Turns, Walks, Selects, Next};
 
 // What an index selects.
-#[derive(Drop)]
+#[derive(Clone, Copy)]
 pub enum Place {
     At(usize),
     Nothing,
 }
 
 // What a slice selects: `left` places, the first of them `at`, each of the others a `step` further up or down the list.
-#[derive(Drop)]
+#[derive(Clone, Copy)]
 pub struct Walk {
     pub at: usize,
     pub left: usize,

@@ -3,6 +3,8 @@
 //
 // A bound is written by a code of 0..11: 0 is absent, 1 to 9 are -4 to 4, 10 and 11 are the ends of the range, -(2^53-1) and 2^53-1.
 
+#![tactic(auto)]
+
 ghost use Rattle.std.specs.Prelude.{◌≡◌, true, ◌≤◌, ◌<◌};
 ghost use Rattle.definition.specs.Limits.{max_nodes};
 ghost use Rattle.definition.specs.Literals.{in_range};

@@ -11,6 +11,9 @@
 //   texts      the pass over the texts and keys alone, on any records
 //   pair       what the passes come to together
 //   named      the text and the key of a node
+
+#![tactic(auto)]
+
 ghost use Rattle.std.specs.Prelude.{◌≡◌};
 ghost use Rattle.definition.specs.Tables.{bad_size, low_word, key_start};
 ghost use Rattle.definition.specs.TableOutcomes.{records_outcome, texts_outcome, table_outcome, text_outcome, key_outcome};
@@ -37,7 +40,7 @@ const MAX_NODES: usize = 65535;
 const MAX_TEXT: usize = 16777216;
 
 // What a check of a table finds.
-#[derive(Drop)]
+#[derive(Clone, Copy)]
 pub enum TableChecked {
     // No rule fails.
     Accepted,

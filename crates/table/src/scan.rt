@@ -21,7 +21,7 @@ const FEW_NODES: usize = 128;
 const LONG_CHAIN: usize = 24;
 
 // A node with the range of its children, its kind and its depth, which are read once for all of them. `sure` is 1 where the keys of its members are known to differ.
-#[derive(Drop)]
+#[derive(Clone, Copy)]
 pub struct Cursor {
     pub parent: usize,
     pub from: usize,
@@ -40,7 +40,7 @@ pub const LONG: u8 = 2;
 
 // How far the check of a node's children came: to a node that is wrong; or to one before which all nodes are right, with the place where its children
 // must begin. There it may have stopped behind a node whose chain came to be long.
-#[derive(Drop)]
+#[derive(Clone, Copy)]
 pub struct Passed {
     pub node: usize,
     pub first: usize,

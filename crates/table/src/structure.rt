@@ -15,7 +15,7 @@ use crate::{records, rules};
 const MAX_MEMBERS: u32 = 1024;
 
 // What a pass over the nodes finds: that all are right, or the least that is not.
-#[derive(Drop)]
+#[derive(Clone, Copy)]
 pub enum Pass {
     Right,
     WrongAt(usize),

@@ -6,6 +6,9 @@
 //   escapes    how long a key and an index are in a path
 //   writing    their bytes, each before those that are written already
 //   climb      the steps from a node up to the root
+
+#![tactic(auto)]
+
 ghost use Rattle.std.specs.Prelude.{◌≡◌};
 ghost use Rattle.definition.specs.Paths.{path_outcome};
 ghost use Rattle.table_laws.specs.Accepted.{Accepted};
@@ -19,7 +22,7 @@ mod escapes;
 mod writing;
 
 // What is answered.
-#[derive(Drop)]
+#[derive(Clone, Copy)]
 pub enum PathWritten {
     // The path has so many bytes: the first of the room.
     Written(usize),

@@ -1,5 +1,8 @@
 // What plans consist of: the number of items of every kind over a series of plans, given one at a time, and the number of plans.
 // A plan is counted by itself first, in an array of counters of its own, so that a refusal leaves what was counted before as it is.
+
+#![tactic(auto)]
+
 ghost use Rattle.std.specs.Prelude.{◌≡◌, true, ◌≤◌, length};
 ghost use Rattle.tally_laws.specs.Items.{has_two, has_four, has_eight, has_one, body_length, kinds_of};
 ghost use Rattle.tally_laws.specs.Tallies.{TallyOutcome, Tallies};

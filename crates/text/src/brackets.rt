@@ -11,7 +11,7 @@ const MAX_BRACKETS: usize = 32;
 const LONG: usize = 96;
 
 // Where a byte stands: outside quoted text, inside text that the given quote opened, or there right behind a backslash.
-#[derive(Drop)]
+#[derive(Clone, Copy)]
 enum Place {
     Outside,
     Quoted(u8),

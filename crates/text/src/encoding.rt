@@ -32,7 +32,7 @@ const LOW_BITS: u64 = 0x0101010101010101;
 const BLOCK: usize = 31;
 
 // What may come behind the first byte of a character: another character; a byte in lo..hi and some more in 80..BF after it; or nothing.
-#[derive(Drop)]
+#[derive(Clone, Copy)]
 enum Wait {
     Ready,
     Tail(u8, u8, u8),

@@ -6,6 +6,9 @@
 //   placed     whether a long text is UTF-8, many bytes at once
 //   blocks     the tests of long texts, by the lengths of their characters beyond ASCII
 //   brackets   the bracket count of a query
+
+#![tactic(auto)]
+
 mod blocks;
 pub mod brackets;
 pub mod bytes;

@@ -8,7 +8,7 @@ ghost use Rattle.text.specs.Ends.{EndsOf};
 use crate::bytes;
 
 // How one text stands to another.
-#[derive(Drop)]
+#[derive(Clone, Copy)]
 pub enum Order {
     Less,
     Equal,
@@ -107,7 +107,7 @@ pub fn same_part(s: &[u8], a: usize, n: usize, t: &[u8], b: usize, m: usize) -> 
 }
 
 // The numbers that the first four and the last four bytes of a text stand for. Of a text of four to eight bytes they tell every byte.
-#[derive(Drop)]
+#[derive(Clone, Copy)]
 pub struct Ends {
     pub low: usize,
     pub high: usize,

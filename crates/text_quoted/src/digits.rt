@@ -4,7 +4,7 @@ ghost use Rattle.std.specs.Prelude.{◌≡◌, ◌+◌, ◌*◌, ◌≤◌, leng
 ghost use Rattle.text_quoted.specs.Pieces.{hex_or, Digits, LowDigits};
 
 // A number that four hexadecimal digits write, or no such digits.
-#[derive(Drop)]
+#[derive(Clone, Copy)]
 pub enum Hex {
     Value(u32),
     Nothing,

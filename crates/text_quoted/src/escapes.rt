@@ -9,7 +9,7 @@ use crate::digits;
 use crate::digits::Hex;
 
 // A code point and the place behind its escape, or no escape.
-#[derive(Drop)]
+#[derive(Clone, Copy)]
 pub enum Point {
     At(u32, usize),
     Nothing,

@@ -6,6 +6,8 @@
 //
 // specs/Quoted.antt has the words of unescape_string's contract, and specs/Pieces.antt those of its parts.
 
+#![tactic(auto)]
+
 mod digits;
 mod escapes;
 mod writing;
@@ -20,14 +22,14 @@ ghost use Rattle.text_quoted.specs.Pieces.{Turning};
 use escapes::Point;
 
 // The place behind the closing quote with the place behind the last byte written, or the place where the text is no quoted text.
-#[derive(Drop)]
+#[derive(Clone, Copy)]
 pub enum Unescaped {
     Done(usize, usize),
     Bad(usize),
 }
 
 // The same for a part of the text: it goes on, its closing quote is passed, or it is wrong.
-#[derive(Drop)]
+#[derive(Clone, Copy)]
 enum Turn {
     On(usize, usize),
     End(usize, usize),

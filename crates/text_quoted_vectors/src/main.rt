@@ -2,6 +2,8 @@
 // bytes follow its closing quote; or the place where it is no quoted text, counted from behind the opening quote.
 // make.py writes the input and what must be printed.
 
+#![tactic(auto)]
+
 ghost use Rattle.std.specs.Prelude.{◌≡◌, true, ◌≤◌, length};
 ghost use Rattle.definition.specs.Lexical.{own_byte};
 ghost use Rattle.definition.specs.Utf8.{is_utf8};

@@ -2,6 +2,9 @@
 // First it goes through texts of one to four bytes and writes for each whether it is UTF-8, four texts to a hexadecimal digit and 64 digits to a line:
 // every text of one byte and of two, and of three and four those over an alphabet of bytes at which a rule of UTF-8 changes.
 // Then it takes each line of its input as a query and writes the refusal that UTF-8 and the bracket count give it.
+
+#![tactic(auto)]
+
 ghost use Rattle.std.specs.Prelude.{◌+◌, ◌*◌, ◌^◌, ◌≤◌, ◌<◌, length};
 
 // Bytes at which a rule for characters of three bytes changes, with some on either side.
