@@ -38,7 +38,7 @@ mod rows;
 mod says;
 
 // One node with the segments at pc.
-#[cycle(apply_selector_apply_selectors_descend_flats_each_child_each_place_eval_filter_eval_filter_expr_eval_query_eval_test_evaluate_segment_next_kept_recursive_descent_keep_tell_turn)]
+#[cycle(evaluation)]
 fn evaluate_segment(
     lent: &[&[u8]; 4],
     state: &mut [usize; 3],
@@ -77,7 +77,7 @@ fn evaluate_segment(
 }
 
 // The descendant segment at pc on a node: "the node, then each child's descent, in table order".
-#[cycle(apply_selector_apply_selectors_descend_flats_each_child_each_place_eval_filter_eval_filter_expr_eval_query_eval_test_evaluate_segment_next_kept_recursive_descent_keep_tell_turn)]
+#[cycle(evaluation)]
 fn recursive_descent(
     lent: &[&[u8]; 4],
     state: &mut [usize; 3],
@@ -103,7 +103,7 @@ fn recursive_descent(
 }
 
 // The same where `pass_flats` may pass some of the children.
-#[cycle(apply_selector_apply_selectors_descend_flats_each_child_each_place_eval_filter_eval_filter_expr_eval_query_eval_test_evaluate_segment_next_kept_recursive_descent_keep_tell_turn)]
+#[cycle(evaluation)]
 fn descend_flats(
     lent: &[&[u8]; 4],
     state: &mut [usize; 3],
@@ -129,7 +129,7 @@ fn descend_flats(
 }
 
 // The selectors of the segment at pc on a node, one after the other. Of several, those at the front that `pick_front` knows are done by it.
-#[cycle(apply_selector_apply_selectors_descend_flats_each_child_each_place_eval_filter_eval_filter_expr_eval_query_eval_test_evaluate_segment_next_kept_recursive_descent_keep_tell_turn)]
+#[cycle(evaluation)]
 fn apply_selectors(
     lent: &[&[u8]; 4],
     state: &mut [usize; 3],
@@ -167,7 +167,7 @@ fn apply_selectors(
 }
 
 // The selector at p on a node, each selected node with the segments at rest.
-#[cycle(apply_selector_apply_selectors_descend_flats_each_child_each_place_eval_filter_eval_filter_expr_eval_query_eval_test_evaluate_segment_next_kept_recursive_descent_keep_tell_turn)]
+#[cycle(evaluation)]
 fn apply_selector(
     lent: &[&[u8]; 4],
     state: &mut [usize; 3],
@@ -214,7 +214,7 @@ fn apply_selector(
 }
 
 // The elements of a node at the places of the slice at p, each with the segments at rest.
-#[cycle(apply_selector_apply_selectors_descend_flats_each_child_each_place_eval_filter_eval_filter_expr_eval_query_eval_test_evaluate_segment_next_kept_recursive_descent_keep_tell_turn)]
+#[cycle(evaluation)]
 fn each_place(
     lent: &[&[u8]; 4],
     state: &mut [usize; 3],
@@ -250,7 +250,7 @@ fn each_place(
 }
 
 // The nodes from i up to e, each with the segments at rest. Where a wildcard alone follows, it calls itself with the children of each.
-#[cycle(apply_selector_apply_selectors_descend_flats_each_child_each_place_eval_filter_eval_filter_expr_eval_query_eval_test_evaluate_segment_next_kept_recursive_descent_keep_tell_turn)]
+#[cycle(evaluation)]
 fn each_child(
     lent: &[&[u8]; 4],
     state: &mut [usize; 3],
@@ -294,7 +294,7 @@ fn each_child(
 }
 
 // The children of a node for which the filter at p holds, each with the segments at rest. From the first on that meets match or search they go by cells.
-#[cycle(apply_selector_apply_selectors_descend_flats_each_child_each_place_eval_filter_eval_filter_expr_eval_query_eval_test_evaluate_segment_next_kept_recursive_descent_keep_tell_turn)]
+#[cycle(evaluation)]
 fn eval_filter(
     lent: &[&[u8]; 4],
     state: &mut [usize; 3],
@@ -336,7 +336,7 @@ fn eval_filter(
 
 // The first node from i on for which the test from p up to z holds, or that meets a call of match or search, or e. A node for which a query was evaluated in front of the
 // call is told to its end, so that nothing is evaluated twice, and those behind it go by cells.
-#[cycle(apply_selector_apply_selectors_descend_flats_each_child_each_place_eval_filter_eval_filter_expr_eval_query_eval_test_evaluate_segment_next_kept_recursive_descent_keep_tell_turn)]
+#[cycle(evaluation)]
 fn next_kept(lent: &[&[u8]; 4], root: usize, i: usize, e: usize, p: usize, z: usize) -> Next
     requires { AskNext lent.now root i e p z }
     ensures { DoneNext lent.now root i e p z result.node result.call }
@@ -364,7 +364,7 @@ fn next_kept(lent: &[&[u8]; 4], root: usize, i: usize, e: usize, p: usize, z: us
 
 // What a test's code from p up to e, with an answer before it, says of a node. A part that is not told without registers goes by them, but for a call of match or search,
 // at which it ends where `stop`.
-#[cycle(apply_selector_apply_selectors_descend_flats_each_child_each_place_eval_filter_eval_filter_expr_eval_query_eval_test_evaluate_segment_next_kept_recursive_descent_keep_tell_turn)]
+#[cycle(evaluation)]
 fn eval_filter_expr(
     lent: &[&[u8]; 4],
     root: usize,
@@ -412,7 +412,7 @@ fn eval_filter_expr(
 }
 
 // The answer of a test's code from p on, with an answer before it, by registers, up to where nothing stands in them, and the place behind; the code ends at e.
-#[cycle(apply_selector_apply_selectors_descend_flats_each_child_each_place_eval_filter_eval_filter_expr_eval_query_eval_test_evaluate_segment_next_kept_recursive_descent_keep_tell_turn)]
+#[cycle(evaluation)]
 fn eval_test(lent: &[&[u8]; 4], root: usize, node: usize, acc: bool, p: usize, e: usize) -> Told
     requires within { Within (plan_of lent.now) (pool_of lent.now) (table_of lent.now) (text_of lent.now) root node }
     requires ask_turn { AskTurn (plan_of lent.now) (pool_of lent.now) (table_of lent.now) (text_of lent.now) root node «acc» p e }
@@ -449,7 +449,7 @@ fn eval_test(lent: &[&[u8]; 4], root: usize, node: usize, acc: bool, p: usize, e
 
 // The query in a filter's code at s.q, with what is asked of it: "a query inside it is evaluated by the same rules". Where names and indices lead to its end, or
 // to nothing, no call is needed.
-#[cycle(apply_selector_apply_selectors_descend_flats_each_child_each_place_eval_filter_eval_filter_expr_eval_query_eval_test_evaluate_segment_next_kept_recursive_descent_keep_tell_turn)]
+#[cycle(evaluation)]
 fn eval_query(lent: &[&[u8]; 4], root: usize, node: usize, s: Regs) -> Regs
     requires within { Within (plan_of lent.now) (pool_of lent.now) (table_of lent.now) (text_of lent.now) root node }
     requires ask_query { AskQuery (plan_of lent.now) (pool_of lent.now) (table_of lent.now) (text_of lent.now) root node s }

@@ -39,7 +39,7 @@ fn chunk_end(i: usize, e: usize, n: usize) -> usize
 }
 
 // The nodes from i up to e for which the test from p up to z holds, each with the segments at rest.
-#[cycle(apply_selector_apply_selectors_descend_flats_each_child_each_place_eval_filter_eval_filter_expr_eval_query_eval_test_evaluate_segment_next_kept_recursive_descent_keep_tell_turn)]
+#[cycle(evaluation)]
 pub fn keep(
     lent: &[&[u8]; 4],
     state: &mut [usize; 3],
@@ -94,7 +94,7 @@ pub fn keep(
 }
 
 // The cells of the nodes from i up to e with the test from p up to z. Where they stand at a test that needs a query evaluated, with a call behind it, they go on by themselves.
-#[cycle(apply_selector_apply_selectors_descend_flats_each_child_each_place_eval_filter_eval_filter_expr_eval_query_eval_test_evaluate_segment_next_kept_recursive_descent_keep_tell_turn)]
+#[cycle(evaluation)]
 fn tell(lent: &[&[u8]; 4], root: usize, i: usize, e: usize, p: usize, z: usize, column: &mut [u32])
     requires { AskNext lent.now root i e p z × ((i < e) × (e - i ≤ length column.old)) }
     ensures { Column (plan_of lent.now) (pool_of lent.now) (table_of lent.now) (text_of lent.now) root i e p z column.new }
@@ -108,7 +108,7 @@ fn tell(lent: &[&[u8]; 4], root: usize, i: usize, e: usize, p: usize, z: usize, 
 }
 
 // The same with the nodes that stand at q told up to the next call.
-#[cycle(apply_selector_apply_selectors_descend_flats_each_child_each_place_eval_filter_eval_filter_expr_eval_query_eval_test_evaluate_segment_next_kept_recursive_descent_keep_tell_turn)]
+#[cycle(evaluation)]
 fn turn(
     lent: &[&[u8]; 4],
     root: usize,

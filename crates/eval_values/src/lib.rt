@@ -40,7 +40,7 @@ pub enum Operand {
 }
 
 // Whether two values are equal. Numbers and texts are told first, at one place, so that a compiler puts their comparison there.
-#[cycle(same_elements_same_members_same_nodes_same_values)]
+#[cycle(equality)]
 pub fn same_values(table: &[u8], text: &[u8], pool: &[u8], x: Operand, y: Operand) -> bool
     requires accepted { Accepted table.now text.now }
     requires pair { Pair table.now text.now pool.now x y }
@@ -65,7 +65,7 @@ pub fn same_values(table: &[u8], text: &[u8], pool: &[u8], x: Operand, y: Operan
 }
 
 // Whether the values of two nodes, lists or maps, are equal.
-#[cycle(same_elements_same_members_same_nodes_same_values)]
+#[cycle(equality)]
 fn same_nodes(table: &[u8], text: &[u8], pool: &[u8], i: usize, j: usize) -> bool
     requires accepted { Accepted table.now text.now }
     requires both { Both table.now i j }
@@ -85,7 +85,7 @@ fn same_nodes(table: &[u8], text: &[u8], pool: &[u8], i: usize, j: usize) -> boo
 }
 
 // Whether the elements of two lists with one count are equal, one by one.
-#[cycle(same_elements_same_members_same_nodes_same_values)]
+#[cycle(equality)]
 fn same_elements(table: &[u8], text: &[u8], pool: &[u8], i: usize, j: usize) -> bool
     requires accepted { Accepted table.now text.now }
     requires both { Both table.now i j × (child_count table.now i ≡ child_count table.now j) }
@@ -107,7 +107,7 @@ fn same_elements(table: &[u8], text: &[u8], pool: &[u8], i: usize, j: usize) -> 
 }
 
 // Whether each member of one map has an equal one of its name in another. Maps of one shape have their members in one order: each is looked for first behind the one that was found last.
-#[cycle(same_elements_same_members_same_nodes_same_values)]
+#[cycle(equality)]
 fn same_members(table: &[u8], text: &[u8], pool: &[u8], i: usize, j: usize) -> bool
     requires accepted { Accepted table.now text.now }
     requires both { Both table.now i j × (kind_at table.now i ≡ kind_map) × (kind_at table.now j ≡ kind_map) }

@@ -13,7 +13,7 @@ use parser_items::{Cursor, Step, begins_operator, moved, write_call};
 use parser_scan::{is, skip_blanks};
 
 // S [ arguments ] S ")", behind the name and "(" of a call of the function with the given number; tells its sort
-#[cycle(all_any_basic_behind_bracketed_argument_arguments_chained_function_more_filter_more_and_more_or_negation_operand_paren_query_right_segment_segments_selector_selectors)]
+#[cycle(grammar)]
 pub fn function(s: &[u8], plan: &mut [u8], pool: &mut [u8], st: Cursor, name: u8) -> Step
     requires { Asks 0 s.now plan.old pool.old st × (name ≤ 5) }
     ensures { Post spell_call (write_call name) (call_sort name) 0 s.now plan.old plan.new pool.old pool.new st result }
@@ -36,7 +36,7 @@ pub fn function(s: &[u8], plan: &mut [u8], pool: &mut [u8], st: Cursor, name: u8
 }
 
 // [ function-argument *( S "," S function-argument ) ]; tells the sorts
-#[cycle(all_any_basic_behind_bracketed_argument_arguments_chained_function_more_filter_more_and_more_or_negation_operand_paren_query_right_segment_segments_selector_selectors)]
+#[cycle(grammar)]
 pub fn arguments(s: &[u8], plan: &mut [u8], pool: &mut [u8], st: Cursor) -> Step
     requires { Asks 0 s.now plan.old pool.old st × (unblank (drop st.at s.now) ≡ drop st.at s.now) }
     ensures { Post spell_arguments write_arguments (λ t. arguments_from 0 (sorts_of t)) 6 s.now plan.old plan.new pool.old pool.new st result }
@@ -53,7 +53,7 @@ pub fn arguments(s: &[u8], plan: &mut [u8], pool: &mut [u8], st: Cursor) -> Step
 }
 
 // *( S "," S function-argument ), behind arguments of the given sorts
-#[cycle(all_any_basic_behind_bracketed_argument_arguments_chained_function_more_filter_more_and_more_or_negation_operand_paren_query_right_segment_segments_selector_selectors)]
+#[cycle(grammar)]
 pub fn more(s: &[u8], plan: &mut [u8], pool: &mut [u8], st: Cursor, sorts: usize) -> Step
     requires { Asks 0 s.now plan.old pool.old st × (sorts ≤ 31) }
     ensures { Post spell_more_arguments write_more_arguments (λ t. arguments_from sorts (sorts_more t)) 5 s.now plan.old plan.new pool.old pool.new st result }
@@ -78,7 +78,7 @@ pub fn more(s: &[u8], plan: &mut [u8], pool: &mut [u8], st: Cursor, sorts: usize
 }
 
 // function-argument = literal / filter-query / logical-expr / function-expr; tells its sort
-#[cycle(all_any_basic_behind_bracketed_argument_arguments_chained_function_more_filter_more_and_more_or_negation_operand_paren_query_right_segment_segments_selector_selectors)]
+#[cycle(grammar)]
 pub fn argument(s: &[u8], plan: &mut [u8], pool: &mut [u8], st: Cursor) -> Step
     requires { Asks 0 s.now plan.old pool.old st }
     ensures { Post spell_argument write_argument (λ t. sort_number (sort_argument t)) 4 s.now plan.old plan.new pool.old pool.new st result }
@@ -105,7 +105,7 @@ pub fn argument(s: &[u8], plan: &mut [u8], pool: &mut [u8], st: Cursor) -> Step
 }
 
 // what is left of a logical-expr behind its first operand, straight in an argument
-#[cycle(all_any_basic_behind_bracketed_argument_arguments_chained_function_more_filter_more_and_more_or_negation_operand_paren_query_right_segment_segments_selector_selectors)]
+#[cycle(grammar)]
 pub fn chained(s: &[u8], plan: &mut [u8], pool: &mut [u8], st: Cursor, flag: usize) -> Step
     requires { Asks 0 s.now plan.old pool.old st × Known flag }
     ensures { Post (spell_chained_of flag) (write_chained_of flag) (chained_of_sort flag) 4 s.now plan.old plan.new pool.old pool.new st result }

@@ -23,7 +23,7 @@ use plan_format::kinds;
 use text::bytes::put16;
 
 // segments = *( S segment ); tells whether all of them are those of a singular query
-#[cycle(all_any_basic_behind_bracketed_argument_arguments_chained_function_more_filter_more_and_more_or_negation_operand_paren_query_right_segment_segments_selector_selectors)]
+#[cycle(grammar)]
 fn segments(s: &[u8], plan: &mut [u8], pool: &mut [u8], st: Cursor) -> Step
     requires { Asks 0 s.now plan.old pool.old st }
     ensures { Post spell_segments write_segments segments_flag 1 s.now plan.old plan.new pool.old pool.new st result }
@@ -47,7 +47,7 @@ fn segments(s: &[u8], plan: &mut [u8], pool: &mut [u8], st: Cursor) -> Step
 }
 
 // segment = child-segment / descendant-segment
-#[cycle(all_any_basic_behind_bracketed_argument_arguments_chained_function_more_filter_more_and_more_or_negation_operand_paren_query_right_segment_segments_selector_selectors)]
+#[cycle(grammar)]
 fn segment(s: &[u8], plan: &mut [u8], pool: &mut [u8], st: Cursor) -> Step
     requires { Asks 0 s.now plan.old pool.old st }
     ensures { Post spell_segment write_segment segment_flag 0 s.now plan.old plan.new pool.old pool.new st result }
@@ -67,7 +67,7 @@ fn segment(s: &[u8], plan: &mut [u8], pool: &mut [u8], st: Cursor) -> Step
 }
 
 // bracketed-selection = "[" S selector *( S "," S selector ) S "]", of a segment of the given kind
-#[cycle(all_any_basic_behind_bracketed_argument_arguments_chained_function_more_filter_more_and_more_or_negation_operand_paren_query_right_segment_segments_selector_selectors)]
+#[cycle(grammar)]
 fn bracketed(s: &[u8], plan: &mut [u8], pool: &mut [u8], st: Cursor, kind: u8) -> Step
     requires { Asks 0 s.now plan.old pool.old st }
     ensures { Post spell_bracketed (write_selection kind) bracketed_flag 0 s.now plan.old plan.new pool.old pool.new st result }
@@ -100,7 +100,7 @@ fn bracketed(s: &[u8], plan: &mut [u8], pool: &mut [u8], st: Cursor, kind: u8) -
 }
 
 // *( S "," S selector ); tells how many
-#[cycle(all_any_basic_behind_bracketed_argument_arguments_chained_function_more_filter_more_and_more_or_negation_operand_paren_query_right_segment_segments_selector_selectors)]
+#[cycle(grammar)]
 fn selectors(s: &[u8], plan: &mut [u8], pool: &mut [u8], st: Cursor) -> Step
     requires { Asks 0 s.now plan.old pool.old st }
     ensures { LoosePost spell_selectors write_selectors count_more 0 5 s.now plan.old plan.new pool.old pool.new st result }
@@ -125,7 +125,7 @@ fn selectors(s: &[u8], plan: &mut [u8], pool: &mut [u8], st: Cursor) -> Step
 }
 
 // selector; tells whether it is a name or an index
-#[cycle(all_any_basic_behind_bracketed_argument_arguments_chained_function_more_filter_more_and_more_or_negation_operand_paren_query_right_segment_segments_selector_selectors)]
+#[cycle(grammar)]
 fn selector(s: &[u8], plan: &mut [u8], pool: &mut [u8], st: Cursor) -> Step
     requires { Asks 12 s.now plan.old pool.old st }
     ensures { LoosePost spell_selector write_selector plain_flag 1 4 s.now plan.old plan.new pool.old pool.new st result }
@@ -138,7 +138,7 @@ fn selector(s: &[u8], plan: &mut [u8], pool: &mut [u8], st: Cursor) -> Step
 }
 
 // S logical-expr, behind the "?" of a filter-selector
-#[cycle(all_any_basic_behind_bracketed_argument_arguments_chained_function_more_filter_more_and_more_or_negation_operand_paren_query_right_segment_segments_selector_selectors)]
+#[cycle(grammar)]
 fn filter(s: &[u8], plan: &mut [u8], pool: &mut [u8], st: Cursor) -> Step
     requires { Asks 3 s.now plan.old pool.old st }
     ensures { Post spell_filter write_filter no_flag 4 s.now plan.old plan.new pool.old pool.new st result }
@@ -158,7 +158,7 @@ fn filter(s: &[u8], plan: &mut [u8], pool: &mut [u8], st: Cursor) -> Step
 }
 
 // logical-or-expr = logical-and-expr *( S "||" S logical-and-expr ); tells its sort
-#[cycle(all_any_basic_behind_bracketed_argument_arguments_chained_function_more_filter_more_and_more_or_negation_operand_paren_query_right_segment_segments_selector_selectors)]
+#[cycle(grammar)]
 fn any(s: &[u8], plan: &mut [u8], pool: &mut [u8], st: Cursor, asked: bool) -> Step
     requires { Asks 0 s.now plan.old pool.old st }
     ensures { Post spell_logical_or (λ t. write_or_lem t asked) (λ t. sort_number (sort_or_lem t)) 4 s.now plan.old plan.new pool.old pool.new st result }
@@ -171,7 +171,7 @@ fn any(s: &[u8], plan: &mut [u8], pool: &mut [u8], st: Cursor, asked: bool) -> S
 }
 
 // *( S "||" S logical-and-expr ), behind an operand of the given sort
-#[cycle(all_any_basic_behind_bracketed_argument_arguments_chained_function_more_filter_more_and_more_or_negation_operand_paren_query_right_segment_segments_selector_selectors)]
+#[cycle(grammar)]
 fn more_or(s: &[u8], plan: &mut [u8], pool: &mut [u8], st: Cursor, sort: usize, asked: bool) -> Step
     requires { Asks 0 s.now plan.old pool.old st × (sort ≤ 4) }
     ensures { Post spell_more_or (λ t. write_more_or t (sort_of sort) asked) (λ t. sort_number (sort_more_or t (sort_of sort))) 4 s.now plan.old plan.new pool.old pool.new st result }
@@ -202,7 +202,7 @@ fn more_or(s: &[u8], plan: &mut [u8], pool: &mut [u8], st: Cursor, sort: usize, 
 }
 
 // logical-and-expr = basic-expr *( S "&&" S basic-expr ); tells its sort
-#[cycle(all_any_basic_behind_bracketed_argument_arguments_chained_function_more_filter_more_and_more_or_negation_operand_paren_query_right_segment_segments_selector_selectors)]
+#[cycle(grammar)]
 fn all(s: &[u8], plan: &mut [u8], pool: &mut [u8], st: Cursor, asked: bool) -> Step
     requires { Asks 0 s.now plan.old pool.old st }
     ensures { Post spell_logical_and (λ t. write_and_lem t asked) (λ t. sort_number (sort_and_lem t)) 3 s.now plan.old plan.new pool.old pool.new st result }
@@ -215,7 +215,7 @@ fn all(s: &[u8], plan: &mut [u8], pool: &mut [u8], st: Cursor, asked: bool) -> S
 }
 
 // *( S "&&" S basic-expr ), behind an operand of the given sort
-#[cycle(all_any_basic_behind_bracketed_argument_arguments_chained_function_more_filter_more_and_more_or_negation_operand_paren_query_right_segment_segments_selector_selectors)]
+#[cycle(grammar)]
 fn more_and(
     s: &[u8],
     plan: &mut [u8],
@@ -253,7 +253,7 @@ fn more_and(
 }
 
 // basic-expr = paren-expr / comparison-expr / test-expr; tells its sort
-#[cycle(all_any_basic_behind_bracketed_argument_arguments_chained_function_more_filter_more_and_more_or_negation_operand_paren_query_right_segment_segments_selector_selectors)]
+#[cycle(grammar)]
 fn basic(s: &[u8], plan: &mut [u8], pool: &mut [u8], st: Cursor) -> Step
     requires { Asks 0 s.now plan.old pool.old st }
     ensures { Post spell_basic write_basic (λ t. sort_number (sort_basic t)) 2 s.now plan.old plan.new pool.old pool.new st result }
@@ -273,7 +273,7 @@ fn basic(s: &[u8], plan: &mut [u8], pool: &mut [u8], st: Cursor) -> Step
 }
 
 // S ( paren / filter-query / function-expr ), behind a "!"
-#[cycle(all_any_basic_behind_bracketed_argument_arguments_chained_function_more_filter_more_and_more_or_negation_operand_paren_query_right_segment_segments_selector_selectors)]
+#[cycle(grammar)]
 fn negation(s: &[u8], plan: &mut [u8], pool: &mut [u8], st: Cursor) -> Step
     requires { Asks 0 s.now plan.old pool.old st }
     ensures { Post spell_negation write_negation (λ t. 4) 2 s.now plan.old plan.new pool.old pool.new st result }
@@ -298,7 +298,7 @@ fn negation(s: &[u8], plan: &mut [u8], pool: &mut [u8], st: Cursor) -> Step
 }
 
 // [ S comparison-op S comparable ], behind an operand with the given flag; tells the sort of the whole
-#[cycle(all_any_basic_behind_bracketed_argument_arguments_chained_function_more_filter_more_and_more_or_negation_operand_paren_query_right_segment_segments_selector_selectors)]
+#[cycle(grammar)]
 fn behind(s: &[u8], plan: &mut [u8], pool: &mut [u8], st: Cursor, flag: usize) -> Step
     requires { Asks 0 s.now plan.old pool.old st × Known flag }
     ensures { Post (spell_behind_of flag) (write_behind_of flag) (behind_of_sort flag) 2 s.now plan.old plan.new pool.old pool.new st result }
@@ -322,7 +322,7 @@ fn behind(s: &[u8], plan: &mut [u8], pool: &mut [u8], st: Cursor, flag: usize) -
 }
 
 // S comparable, behind a left side of the given sort and the operator op
-#[cycle(all_any_basic_behind_bracketed_argument_arguments_chained_function_more_filter_more_and_more_or_negation_operand_paren_query_right_segment_segments_selector_selectors)]
+#[cycle(grammar)]
 fn right(s: &[u8], plan: &mut [u8], pool: &mut [u8], st: Cursor, sort: usize, op: u8) -> Step
     requires { Asks 0 s.now plan.old pool.old st × Known sort }
     ensures { Post spell_side (write_side sort op) (λ t. 4) 2 s.now plan.old plan.new pool.old pool.new st result }
@@ -340,7 +340,7 @@ fn right(s: &[u8], plan: &mut [u8], pool: &mut [u8], st: Cursor, sort: usize, op
 }
 
 // "(" S logical-expr S ")"; tells the sort of what is inside
-#[cycle(all_any_basic_behind_bracketed_argument_arguments_chained_function_more_filter_more_and_more_or_negation_operand_paren_query_right_segment_segments_selector_selectors)]
+#[cycle(grammar)]
 fn paren(s: &[u8], plan: &mut [u8], pool: &mut [u8], st: Cursor) -> Step
     requires { Asks 0 s.now plan.old pool.old st × Opens 0x28 s.now st }
     ensures { Post spell_paren write_paren (λ t. sort_number (sort_paren t)) 0 s.now plan.old plan.new pool.old pool.new st result }
@@ -360,7 +360,7 @@ fn paren(s: &[u8], plan: &mut [u8], pool: &mut [u8], st: Cursor) -> Step
 }
 
 // literal / filter-query / function-expr; tells the flag: 0 a literal, 1 to 4 the sort, 5 a query that a singular-query spells
-#[cycle(all_any_basic_behind_bracketed_argument_arguments_chained_function_more_filter_more_and_more_or_negation_operand_paren_query_right_segment_segments_selector_selectors)]
+#[cycle(grammar)]
 fn operand(s: &[u8], plan: &mut [u8], pool: &mut [u8], st: Cursor) -> Step
     requires { Asks 0 s.now plan.old pool.old st }
     ensures { Post spell_operand write_operand operand_flag 1 s.now plan.old plan.new pool.old pool.new st result }
@@ -382,7 +382,7 @@ fn operand(s: &[u8], plan: &mut [u8], pool: &mut [u8], st: Cursor) -> Step
 }
 
 // segments behind "@" or "$", as a query that starts with the given item; tells the flag of an operand
-#[cycle(all_any_basic_behind_bracketed_argument_arguments_chained_function_more_filter_more_and_more_or_negation_operand_paren_query_right_segment_segments_selector_selectors)]
+#[cycle(grammar)]
 pub fn query(s: &[u8], plan: &mut [u8], pool: &mut [u8], st: Cursor, start: u8) -> Step
     requires { Asks 2 s.now plan.old pool.old st }
     ensures { Post spell_segments (λ t. write_from start (write_segments t)) query_flag 1 s.now plan.old plan.new pool.old pool.new st result }

@@ -41,7 +41,7 @@ fn single(before: usize, k: usize, n: usize, sort: usize) -> usize
 }
 
 // A selector.
-#[cycle(base_basis_framed_more_oper_segs_sel_sels_side_test)]
+#[cycle(forms)]
 fn sel(plan: &[u8], pool: &[u8], at: usize, p: usize, room: usize) -> Step
     requires { Asks plan.now pool.now at p room }
     ensures { Post selector_part room plan.now pool.now at p result }
@@ -71,7 +71,7 @@ fn sel(plan: &[u8], pool: &[u8], at: usize, p: usize, room: usize) -> Step
 }
 
 // A test behind the length of its code.
-#[cycle(base_basis_framed_more_oper_segs_sel_sels_side_test)]
+#[cycle(forms)]
 fn framed(plan: &[u8], pool: &[u8], at: usize, p: usize, room: usize) -> Step
     requires { Asks plan.now pool.now at p room }
     ensures { Post framed_part room plan.now pool.now at p result }
@@ -100,7 +100,7 @@ fn framed(plan: &[u8], pool: &[u8], at: usize, p: usize, room: usize) -> Step
 }
 
 // The n selectors of a segment.
-#[cycle(base_basis_framed_more_oper_segs_sel_sels_side_test)]
+#[cycle(forms)]
 fn sels(plan: &[u8], pool: &[u8], from: usize, start: usize, room: usize, n: usize) -> Step
     requires { Asks plan.now pool.now from start room × (1 ≤ n) }
     ensures { Post (counted n) room plan.now pool.now from start result }
@@ -131,7 +131,7 @@ fn sels(plan: &[u8], pool: &[u8], from: usize, start: usize, room: usize, n: usi
 }
 
 // The segments of a query, up to its end.
-#[cycle(base_basis_framed_more_oper_segs_sel_sels_side_test)]
+#[cycle(forms)]
 fn segs(plan: &[u8], pool: &[u8], from: usize, start: usize, room: usize) -> Step
     requires { Asks plan.now pool.now from start room }
     ensures { Post segments_part room plan.now pool.now from start result }
@@ -175,7 +175,7 @@ fn segs(plan: &[u8], pool: &[u8], from: usize, start: usize, room: usize) -> Ste
 }
 
 // What an operand begins with: a literal or a query.
-#[cycle(base_basis_framed_more_oper_segs_sel_sels_side_test)]
+#[cycle(forms)]
 fn basis(plan: &[u8], pool: &[u8], at: usize, p: usize, room: usize) -> Step
     requires { Asks plan.now pool.now at p room }
     ensures { Post basis_part room plan.now pool.now at p result }
@@ -191,7 +191,7 @@ fn basis(plan: &[u8], pool: &[u8], at: usize, p: usize, room: usize) -> Step
 }
 
 // An operand, with the functions that are called on it.
-#[cycle(base_basis_framed_more_oper_segs_sel_sels_side_test)]
+#[cycle(forms)]
 fn oper(plan: &[u8], pool: &[u8], at: usize, p: usize, room: usize) -> Step
     requires { Asks plan.now pool.now at p room }
     ensures { Post operand_part room plan.now pool.now at p result }
@@ -203,7 +203,7 @@ fn oper(plan: &[u8], pool: &[u8], at: usize, p: usize, room: usize) -> Step
 }
 
 // The second of two values of which the first is a, and what is asked of both.
-#[cycle(base_basis_framed_more_oper_segs_sel_sels_side_test)]
+#[cycle(forms)]
 fn side(plan: &[u8], pool: &[u8], a: Got, room: usize) -> Step
     requires { Asks plan.now pool.now a.at a.p room × (a.h ≤ room) }
     ensures { Post (side_part a.h a.sort) room plan.now pool.now a.at a.p result }
@@ -239,7 +239,7 @@ fn side(plan: &[u8], pool: &[u8], a: Got, room: usize) -> Step
 }
 
 // What a test begins with: a test of a query, a test of two values, or a test of a value function with its not.
-#[cycle(base_basis_framed_more_oper_segs_sel_sels_side_test)]
+#[cycle(forms)]
 fn base(plan: &[u8], pool: &[u8], p: usize, room: usize) -> Step
     requires { Asks plan.now pool.now 0 p room }
     ensures { Post base_part room plan.now pool.now 0 p result }
@@ -290,7 +290,7 @@ fn tested(plan: &[u8], a: Got, room: usize) -> Step
 }
 
 // The nots and right operands behind a test, up to the end of its code.
-#[cycle(base_basis_framed_more_oper_segs_sel_sels_side_test)]
+#[cycle(forms)]
 fn more(plan: &[u8], pool: &[u8], a: Got, room: usize) -> Step
     requires { Asks plan.now pool.now a.at a.p room × (a.h ≤ room) }
     ensures { Post (ops_part a.h) room plan.now pool.now a.at a.p result }
@@ -326,7 +326,7 @@ fn more(plan: &[u8], pool: &[u8], a: Got, room: usize) -> Step
 }
 
 // A test that fills a plan to its end.
-#[cycle(base_basis_framed_more_oper_segs_sel_sels_side_test)]
+#[cycle(forms)]
 fn test(plan: &[u8], pool: &[u8], p: usize, room: usize) -> Step
     requires { Asks plan.now pool.now 0 p room }
     ensures { Post test_part room plan.now pool.now 0 p result }

@@ -49,7 +49,7 @@ fn spot(code: &[u32], at: usize, marks: &mut [u8], base: usize, enter: bool, c: 
 }
 
 // The marks of the part at `at`, from `base` on, read c.
-#[cycle(copies_counted_endless_least_shift_two)]
+#[cycle(copying)]
 pub fn shift(code: &[u32], at: usize, marks: &mut [u8], base: usize, enter: bool, c: u32) -> usize
     requires { Fits code.now at marks.old base }
     ensures { ShiftedBy code.now at enter c base marks.old marks.new (pass_of result) }
@@ -81,7 +81,7 @@ pub fn shift(code: &[u32], at: usize, marks: &mut [u8], base: usize, enter: bool
 }
 
 // Two parts: in a row behind the word 2, one of them behind the word 3.
-#[cycle(copies_counted_endless_least_shift_two)]
+#[cycle(copying)]
 fn two(code: &[u32], at: usize, k: u32, marks: &mut [u8], base: usize, enter: bool, c: u32) -> usize
     requires { (Fits code.now at marks.old base) × ((Word code.now at k) × ((2 ≤ k) × (k ≤ 3))) }
     ensures { ShiftedBy code.now at enter c base marks.old marks.new (pass_of result) }
@@ -98,7 +98,7 @@ fn two(code: &[u32], at: usize, k: u32, marks: &mut [u8], base: usize, enter: bo
 }
 
 // A part that is repeated from one number to another.
-#[cycle(copies_counted_endless_least_shift_two)]
+#[cycle(copying)]
 fn counted(code: &[u32], at: usize, marks: &mut [u8], base: usize, enter: bool, c: u32) -> usize
     requires { (Fits code.now at marks.old base) × (Word code.now at 4) }
     ensures { ShiftedBy code.now at enter c base marks.old marks.new (pass_of result) }
@@ -118,7 +118,7 @@ fn counted(code: &[u32], at: usize, marks: &mut [u8], base: usize, enter: bool, 
 }
 
 // A part that is repeated from one number on.
-#[cycle(copies_counted_endless_least_shift_two)]
+#[cycle(copying)]
 fn least(code: &[u32], at: usize, marks: &mut [u8], base: usize, enter: bool, c: u32) -> usize
     requires { (Fits code.now at marks.old base) × (Word code.now at 5) }
     ensures { ShiftedBy code.now at enter c base marks.old marks.new (pass_of result) }
@@ -131,7 +131,7 @@ fn least(code: &[u32], at: usize, marks: &mut [u8], base: usize, enter: bool, c:
     endless(code, at + 2, marks, base, lo, enter, c)
 }
 
-#[cycle(copies_counted_endless_least_shift_two)]
+#[cycle(copying)]
 fn copies(
     code: &[u32],
     at: usize,
@@ -165,7 +165,7 @@ fn copies(
     pack(u)
 }
 
-#[cycle(copies_counted_endless_least_shift_two)]
+#[cycle(copying)]
 fn endless(
     code: &[u32],
     at: usize,
@@ -220,7 +220,7 @@ fn capped(n: usize, cap: usize) -> usize
 }
 
 // The number of marks of the part at `at`, or cap + 1 for more than cap.
-#[cycle(weigh_weigh_counted_weigh_least_weigh_two)]
+#[cycle(weighing)]
 pub fn weigh(code: &[u32], at: usize, cap: usize) -> Weight
     requires { cap < 2 ^ 31 }
     ensures { Weighs code.now at cap result.next result.size }
@@ -253,7 +253,7 @@ pub fn weigh(code: &[u32], at: usize, cap: usize) -> Weight
     Weight { next: at, size: 0 }
 }
 
-#[cycle(weigh_weigh_counted_weigh_least_weigh_two)]
+#[cycle(weighing)]
 fn weigh_two(code: &[u32], at: usize, k: u32, cap: usize) -> Weight
     requires { (cap < 2 ^ 31) × ((Word code.now at k) × ((2 ≤ k) × (k ≤ 3))) }
     ensures { Weighs code.now at cap result.next result.size }
@@ -267,7 +267,7 @@ fn weigh_two(code: &[u32], at: usize, k: u32, cap: usize) -> Weight
     }
 }
 
-#[cycle(weigh_weigh_counted_weigh_least_weigh_two)]
+#[cycle(weighing)]
 fn weigh_counted(code: &[u32], at: usize, cap: usize) -> Weight
     requires { (cap < 2 ^ 31) × (Word code.now at 4) }
     ensures { Weighs code.now at cap result.next result.size }
@@ -289,7 +289,7 @@ fn weigh_counted(code: &[u32], at: usize, cap: usize) -> Weight
     }
 }
 
-#[cycle(weigh_weigh_counted_weigh_least_weigh_two)]
+#[cycle(weighing)]
 fn weigh_least(code: &[u32], at: usize, cap: usize) -> Weight
     requires { (cap < 2 ^ 31) × (Word code.now at 5) }
     ensures { Weighs code.now at cap result.next result.size }

@@ -223,7 +223,7 @@ fn behind(code: &[u32], p: Part) -> Part
 }
 
 // Writes an expression for lo to hi times what stands at `at`.
-#[cycle(least_lessen_pair_plain)]
+#[cycle(lessening)]
 pub fn lessen(
     code: &[u32],
     at: usize,
@@ -257,7 +257,7 @@ pub fn lessen(
 }
 
 // Writes an expression for what stands at `at`.
-#[cycle(least_lessen_pair_plain)]
+#[cycle(lessening)]
 fn plain(code: &[u32], at: usize, k: u32, text: &[u8], out: &mut [u32], to: usize) -> Part
     requires { (Word code.now at k) × (Asks text.now out.old to) }
     ensures { Lessened code.now at once (length text.now) out.old to out.new result.next result.end }
@@ -284,7 +284,7 @@ fn plain(code: &[u32], at: usize, k: u32, text: &[u8], out: &mut [u32], to: usiz
 }
 
 // Two parts: in a row behind the word 2, one of them behind the word 3.
-#[cycle(least_lessen_pair_plain)]
+#[cycle(lessening)]
 fn pair(code: &[u32], at: usize, k: u32, text: &[u8], out: &mut [u32], to: usize) -> Part
     requires { (Word code.now at k) × ((Asks text.now out.old to) × ((2 ≤ k) × (k ≤ 3))) }
     ensures { Lessened code.now at once (length text.now) out.old to out.new result.next result.end }
@@ -297,7 +297,7 @@ fn pair(code: &[u32], at: usize, k: u32, text: &[u8], out: &mut [u32], to: usize
 }
 
 // A part that is repeated from one number on.
-#[cycle(least_lessen_pair_plain)]
+#[cycle(lessening)]
 fn least(code: &[u32], at: usize, text: &[u8], out: &mut [u32], to: usize) -> Part
     requires { (Word code.now at 5) × ((at + 3 ≤ length code.now) × (Asks text.now out.old to)) }
     ensures { Lessened code.now at once (length text.now) out.old to out.new result.next result.end }

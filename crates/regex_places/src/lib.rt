@@ -118,7 +118,7 @@ fn is_row(code: &[u32], at: usize) -> bool
 }
 
 // The places to which the part at `at` leads. Parts in a row are a loop, so that the depth is that of groups, alternatives and repeats.
-#[cycle(again_counted_either_grow_least_part_reach_wider)]
+#[cycle(growing)]
 pub fn reach(code: &[u32], at: usize, text: &[u32], set: &mut [u8])
     requires { Fits text.now set.old }
     ensures { Reached code.now at text.now once set.old set.new }
@@ -134,7 +134,7 @@ pub fn reach(code: &[u32], at: usize, text: &[u32], set: &mut [u8])
 }
 
 // .. where no two parts in a row stand.
-#[cycle(again_counted_either_grow_least_part_reach_wider)]
+#[cycle(growing)]
 fn part(code: &[u32], at: usize, text: &[u32], set: &mut [u8])
     requires { (IsRow code.now at false) × (Fits text.now set.old) }
     ensures { Reached code.now at text.now once set.old set.new }
@@ -167,7 +167,7 @@ fn part(code: &[u32], at: usize, text: &[u32], set: &mut [u8])
 }
 
 // One part or the other.
-#[cycle(again_counted_either_grow_least_part_reach_wider)]
+#[cycle(growing)]
 fn either(code: &[u32], at: usize, text: &[u32], set: &mut [u8])
     requires { (Word code.now at 3) × (Fits text.now set.old) }
     ensures { Reached code.now at text.now once set.old set.new }
@@ -182,7 +182,7 @@ fn either(code: &[u32], at: usize, text: &[u32], set: &mut [u8])
 }
 
 // A part that is repeated from one number to another.
-#[cycle(again_counted_either_grow_least_part_reach_wider)]
+#[cycle(growing)]
 fn counted(code: &[u32], at: usize, text: &[u32], set: &mut [u8])
     requires { (Word code.now at 4) × ((at + 3 ≤ length code.now) × (Fits text.now set.old)) }
     ensures { Reached code.now at text.now once set.old set.new }
@@ -198,7 +198,7 @@ fn counted(code: &[u32], at: usize, text: &[u32], set: &mut [u8])
 }
 
 // A part that is repeated from one number on: each word beyond is one for a character.
-#[cycle(again_counted_either_grow_least_part_reach_wider)]
+#[cycle(growing)]
 fn least(code: &[u32], at: usize, text: &[u32], set: &mut [u8])
     requires { (Word code.now at 5) × ((at + 3 ≤ length code.now) × (Fits text.now set.old)) }
     ensures { Reached code.now at text.now once set.old set.new }
@@ -209,7 +209,7 @@ fn least(code: &[u32], at: usize, text: &[u32], set: &mut [u8])
 }
 
 // A part n times.
-#[cycle(again_counted_either_grow_least_part_reach_wider)]
+#[cycle(growing)]
 fn again(code: &[u32], at: usize, n: usize, text: &[u32], set: &mut [u8])
     requires { Fits text.now set.old }
     ensures { Reached code.now at text.now (rows n) set.old set.new }
@@ -225,7 +225,7 @@ fn again(code: &[u32], at: usize, n: usize, text: &[u32], set: &mut [u8])
 }
 
 // A part up to n times.
-#[cycle(again_counted_either_grow_least_part_reach_wider)]
+#[cycle(growing)]
 fn grow(code: &[u32], at: usize, n: usize, text: &[u32], set: &mut [u8])
     requires { Fits text.now set.old }
     ensures { Reached code.now at text.now (most n) set.old set.new }
@@ -240,7 +240,7 @@ fn grow(code: &[u32], at: usize, n: usize, text: &[u32], set: &mut [u8])
 }
 
 // The places besides to which a part leads once; whether there are any.
-#[cycle(again_counted_either_grow_least_part_reach_wider)]
+#[cycle(growing)]
 fn wider(code: &[u32], at: usize, text: &[u32], set: &mut [u8]) -> bool
     requires { Fits text.now set.old }
     ensures { Wider code.now at text.now set.old set.new result }

@@ -16,7 +16,7 @@ pub enum Reading {
     Outside,
 }
 
-#[cycle(alts_atom_branch_piece)]
+#[cycle(expressions)]
 fn atom(s: &[u32], code: &mut [u32], st: Cursor) -> Step
     requires { Room s.now code.old st 2 × (st.at < length s.now) }
     ensures { Post (out_atom s.now st) 1 0 s.now code.old code.new st result }
@@ -42,7 +42,7 @@ fn atom(s: &[u32], code: &mut [u32], st: Cursor) -> Step
     }
 }
 
-#[cycle(alts_atom_branch_piece)]
+#[cycle(expressions)]
 fn piece(s: &[u32], code: &mut [u32], st: Cursor) -> Step
     requires { Room s.now code.old st 2 × (st.at < length s.now) }
     ensures { Post (out_piece s.now st) 2 0 s.now code.old code.new st result }
@@ -58,7 +58,7 @@ fn piece(s: &[u32], code: &mut [u32], st: Cursor) -> Step
     }
 }
 
-#[cycle(alts_atom_branch_piece)]
+#[cycle(expressions)]
 fn branch(s: &[u32], code: &mut [u32], st: Cursor) -> Step
     requires { Room s.now code.old st 3 }
     ensures { Post (out_branch s.now st) 3 2 s.now code.old code.new st result }
@@ -81,7 +81,7 @@ fn branch(s: &[u32], code: &mut [u32], st: Cursor) -> Step
     }
 }
 
-#[cycle(alts_atom_branch_piece)]
+#[cycle(expressions)]
 fn alts(s: &[u32], code: &mut [u32], st: Cursor) -> Step
     requires { Room s.now code.old st 3 }
     ensures { Post (out_alternatives s.now st) 4 2 s.now code.old code.new st result }

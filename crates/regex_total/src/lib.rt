@@ -28,7 +28,7 @@ fn one(code: &[u32], at: usize, text: &[u8], from: usize, to: usize) -> bool
 }
 
 // Whether the part from..to of the text is described by the code at `at`.
-#[cycle(both_cuts_matches_pair_row_times)]
+#[cycle(matching)]
 pub fn matches(code: &[u32], at: usize, text: &[u8], from: usize, to: usize) -> bool
     requires { Inside text.now from to }
     ensures { Matched code.now at text.now from to result }
@@ -125,7 +125,7 @@ fn no_width(at: usize) -> Width
     }
 }
 
-#[cycle(copied_in_a_row_looped_measure_one_of)]
+#[cycle(measuring)]
 pub fn measure(code: &[u32], at: usize) -> Width
     ensures { Widths code.now at result.next result.least result.most }
 {
@@ -159,7 +159,7 @@ pub fn measure(code: &[u32], at: usize) -> Width
 }
 
 // One function for each operator, so that a call of `measure` has no more on the stack than one of them needs.
-#[cycle(copied_in_a_row_looped_measure_one_of)]
+#[cycle(measuring)]
 fn in_a_row(code: &[u32], at: usize) -> Width
     requires { (at < length code.now) × (get_or code.now at 0 ≡ 2) }
     ensures { Widths code.now at result.next result.least result.most }
@@ -174,7 +174,7 @@ fn in_a_row(code: &[u32], at: usize) -> Width
     }
 }
 
-#[cycle(copied_in_a_row_looped_measure_one_of)]
+#[cycle(measuring)]
 fn one_of(code: &[u32], at: usize) -> Width
     requires { (at < length code.now) × (get_or code.now at 0 ≡ 3) }
     ensures { Widths code.now at result.next result.least result.most }
@@ -189,7 +189,7 @@ fn one_of(code: &[u32], at: usize) -> Width
     }
 }
 
-#[cycle(copied_in_a_row_looped_measure_one_of)]
+#[cycle(measuring)]
 fn copied(code: &[u32], at: usize) -> Width
     requires { (at < length code.now) × (get_or code.now at 0 ≡ 4) }
     ensures { Widths code.now at result.next result.least result.most }
@@ -214,7 +214,7 @@ fn copied(code: &[u32], at: usize) -> Width
     }
 }
 
-#[cycle(copied_in_a_row_looped_measure_one_of)]
+#[cycle(measuring)]
 fn looped(code: &[u32], at: usize) -> Width
     requires { (at < length code.now) × (get_or code.now at 0 ≡ 5) }
     ensures { Widths code.now at result.next result.least result.most }
@@ -262,7 +262,7 @@ fn enough(lo: usize, hi: usize, d: usize) -> usize
 
 // .. by it lo to hi times. A count is halved, so its depth is its number of bits. There are few branches before the call of `cuts`,
 // so that LLVM joins it into this function: a halving takes one call on the stack.
-#[cycle(both_cuts_matches_pair_row_times)]
+#[cycle(matching)]
 fn times(code: &[u32], at: usize, lo: usize, hi: usize, text: &[u8], from: usize, to: usize) -> bool
     requires { Inside text.now from to }
     ensures { Repeated code.now at lo hi text.now from to result }
@@ -293,7 +293,7 @@ fn times(code: &[u32], at: usize, lo: usize, hi: usize, text: &[u8], from: usize
     cuts(code, at, l, h, lo - l, top - h, text, from, to)
 }
 
-#[cycle(both_cuts_matches_pair_row_times)]
+#[cycle(matching)]
 fn pair(
     code: &[u32],
     at: usize,
@@ -316,7 +316,7 @@ fn pair(
 }
 
 // .. by it l to h times, and then m to n times.
-#[cycle(both_cuts_matches_pair_row_times)]
+#[cycle(matching)]
 fn cuts(
     code: &[u32],
     at: usize,
@@ -342,7 +342,7 @@ fn cuts(
     pair(code, at, l, h, m, n, text, from, to, to)
 }
 
-#[cycle(both_cuts_matches_pair_row_times)]
+#[cycle(matching)]
 fn both(code: &[u32], a: usize, b: usize, text: &[u8], from: usize, mid: usize, to: usize) -> bool
     requires { (Inside text.now from mid) × ((Inside text.now mid to) × (a ≤ b)) }
     ensures { Paired code.now a 1 1 b 1 1 text.now from mid to result }
@@ -354,7 +354,7 @@ fn both(code: &[u32], a: usize, b: usize, text: &[u8], from: usize, mid: usize, 
 }
 
 // .. by the code at a, and then by that at b.
-#[cycle(both_cuts_matches_pair_row_times)]
+#[cycle(matching)]
 fn row(code: &[u32], a: usize, b: usize, text: &[u8], from: usize, to: usize) -> bool
     requires { (Inside text.now from to) × (a ≤ b) }
     ensures { Joined code.now a 1 1 b 1 1 text.now from to result }

@@ -1,0 +1,375 @@
+#!/usr/bin/env python3
+"""Turns the Proof.antt files of a crate, whose proofs are tied by `tie.spec`, to Invariants.antt and Answers.antt.
+
+usage: python3 tools/answers.py CRATE NAMES.json [FUNCTION..]
+
+NAMES.json is what `rt check --generated DIR --old-names` writes in the crate's folder. An answer `search rules` goes, since the check tries that
+itself. What is proved elsewhere in the file stays beside the answers. It goes by text: rt check decides.
+"""
+
+import json
+import os
+import re
+import sys
+
+W = r"[^\s(){}.;,@\"«»\[\]\\]+"
+CHAIN = re.compile(r"(?<![\w.'-])([A-Za-z_][\w'′₀-₉-]*)((?:\." + W + r")+)")
+norm = lambda s: s.replace("-", "_")
+PREFIX = re.compile(r"^(overflow|nonzero|offset|slice)[-_](?!of)")
+
+
+def blocks(text):
+    """The header's comment lines, the use lines, and the declarations, each with the comment lines above it."""
+    lines = text.rstrip("\n").split("\n")
+    head, uses, decls, i = [], [], [], 0
+    while i < len(lines) and (lines[i].startswith("--") or not lines[i].strip()):
+        if lines[i].strip():
+            head.append(lines[i])
+        i += 1
+    cur, comments = None, []
+    while i < len(lines):
+        l = lines[i]
+        if re.match(r"(pub )?use ", l):
+            uses.append(l)
+        elif l.startswith("--"):
+            comments.append(l)
+            cur = None
+        elif not l.strip():
+            if cur is not None and i + 1 < len(lines) and not lines[i + 1].startswith(" "):
+                cur = None
+        elif l.startswith(" ") or l.startswith(")"):
+            (cur if cur is not None else decls[-1][1]).append(l)
+        else:
+            m = re.match(r"(?:(?:abbrev|unfoldable|pub) )*(\S+) ", l)
+            name = m[1] if m else l.split()[0]
+            if cur is not None and cur_name == name or l.startswith("unfolding"):
+                cur.append(l)
+            else:
+                cur, cur_name = [l], name
+                decls.append((comments, cur))
+                comments = []
+        i += 1
+    return head, uses, decls
+
+
+class Names:
+    def __init__(self, d):
+        self.needs = {}
+        for old, new in d["needs"]:
+            self.needs.setdefault(norm(old), new)
+        self.settled = set(d.get("settled", []))
+        self.labels, self.arms, self.clauses = {}, {}, {}
+        for place in d["places"]:
+            old, new = place[2]
+            if old:
+                self.labels.setdefault(norm(old), new)
+        # What an arm knows, by the step that gave it in the older form.
+        for arm in d["arms"]:
+            if arm:
+                for field, label, rest in arm[2]:
+                    if rest:
+                        self.arms[(norm(label), tuple(rest))] = arm[0] + "." + field
+        for arm in d["arms"]:
+            if arm:
+                for field, label, rest in arm[2]:
+                    self.arm_labels = getattr(self, "arm_labels", {})
+                    self.arm_labels.setdefault(norm(label), arm[0])
+        self.typed = {}
+        for row in d["typed"]:
+            for var, label in row:
+                self.typed.setdefault(norm(label), var)
+        self.loops = {}
+        for (old, new), variables in d["loops"]:
+            self.loops[norm(old)] = (new, variables)
+        self.changed = d["changed"]
+        self.pre = d["pre"]["fields"] if d["pre"] else None
+        self.asked = d["asked"]
+        for place, row in zip(d["places"], d["clauses"]):
+            if row:
+                self.clauses[norm(place[2][0])] = row
+
+    def path(self, fields):
+        """The new path of the fields below c."""
+        f = [x for x in fields if x != "before"]
+        if not f:
+            return []
+        out = []
+        key = norm(f[0])
+        if key in ("args", "ranges", "fits"):
+            return [f[0]] + [norm(x) if i == 0 else x for i, x in enumerate(f[1:])]
+        if key in ("requires", "pre"):
+            if self.pre and len(f) > 1 and f[1].isdigit() and int(f[1]) < len(self.pre):
+                return ["requires", self.pre[int(f[1])]] + f[2:]
+            return ["requires"] + f[1:]
+        for n in range(min(len(f), 5), 0, -1):
+            hit = self.arms.get((key, tuple(f[1:n])))
+            if hit and n > 1:
+                return hit.split(".") + f[n:]
+        if key in self.typed and key not in self.loops and not (len(f) > 1 and norm(f[1]) in ("ensures", "result", "new", "auto")):
+            return ["type_inv", self.typed[key]] + f[1:]
+        label = self.labels.get(key)
+        out = [label if label else f[0]]
+        rest = f[1:]
+        if rest and rest[0] == "type-inv":
+            rest[0] = "type_inv"
+        if rest and key in self.loops and rest[0] in [v.replace("_", "-") for v in self.loops[key][1]]:
+            rest[0] = norm(rest[0])
+        return out + rest
+
+
+def inline(body, names, root="c"):
+    """Rewrites the paths of a body; a let that only names a path goes, and the path stands where the name stood."""
+    alias = {root: []}
+    lets = re.compile(r"let ([\w'′₀-₉-]+) = (" + W + r"(?:\." + W + r")*) in(?=\s|\()")
+    out, lines = [], body.split("\n")
+    text = "\n".join(lines)
+    while True:
+        for m in lets.finditer(text):
+            chain = m[2].split(".")
+            if chain[0] in alias:
+                alias[m[1]] = alias[chain[0]] + chain[1:]
+                end = m.end()
+                if m.start() == 0 or text[m.start() - 1] in " \n(":
+                    rest = text[end:]
+                    before = text[: m.start()]
+                    # Drop the let and the blank that it leaves.
+                    if rest.startswith("\n") or rest.startswith(" "):
+                        stripped = rest.lstrip()
+                        pad = re.search(r"\n( *)$", before)
+                        text = before + stripped if (before.endswith(" ") or before.endswith("(") or pad) else before + " " + stripped
+                    break
+        else:
+            break
+
+    def chain(m):
+        rootname, fields = m[1], m[2][1:].split(".")
+        if rootname not in alias:
+            return m[0]
+        p = names.path(alias[rootname] + fields)
+        return ".".join(["c"] + p)
+
+    text = CHAIN.sub(chain, text)
+    for a, p in alias.items():
+        if a != root:
+            text = re.sub(r"(?<![\w.'′-])" + re.escape(a) + r"(?![\w.'′₀-₉-])", lambda _: "c" + "".join("." + x for x in names.path(p)), text)
+    return text
+
+
+def answer(decl, old, new, names, measured):
+    """The answer new of the declaration of old."""
+    sig = decl[0]
+    unfold = [l for l in decl[1:] if l.startswith("unfolding")]
+    clauses = [l for l in decl[1:] if not l.startswith("unfolding")]
+    body = "\n".join(clauses)
+    # A signature may go over lines.
+    while clauses and clauses[0].startswith(" "):
+        clauses.pop(0)
+    body = "\n".join(clauses)
+    m = re.match(re.escape(old) + r"((?: [^\s=]+)*) =\s*", body)
+    if not m:
+        return None
+    params = m[1].split()
+    rest = body[m.end():]
+    root = params[0] if params else "c"
+    if rest.strip() in ("search rules", "search needs"):
+        return ""
+    if root == "_":
+        root = "c"
+    rest = inline(rest, names, root)
+    fields = names.asked.get(new)
+    whole = rest.strip()
+    if fields and len(fields) > 1 and whole.startswith("(") and whole.endswith(")"):
+        parts = split(whole[1:-1])
+        if len(parts) == len(fields):
+            rest = "record { " + "; ".join(f"{f} = {p.strip()}" for f, p in zip(fields, parts)) + " }"
+    head = f"{new} {'t ' if measured else ''}c ="
+    sep = "\n" if rest.startswith(" ") or "\n" in rest else " "
+    text = f"pub {new} : goal.{new}\n" + "".join(u + "\n" for u in unfold) + head + (("\n    " + rest.strip()) if "\n" in rest.strip() else " " + rest.strip())
+    return text
+
+
+def split(text):
+    parts, depth, cur = [], 0, ""
+    for ch in text:
+        if ch in "([{":
+            depth += 1
+        if ch in ")]}":
+            depth -= 1
+        if ch == "," and depth == 0:
+            parts.append(cur)
+            cur = ""
+        else:
+            cur += ch
+    if cur.strip():
+        parts.append(cur)
+    return parts
+
+
+def invariant(decl, old, kind, names, measured):
+    m = re.match(r"(invariant|decreases)-(.*)$", old)
+    key = norm(m[2])
+    if key not in names.loops:
+        return None
+    new, variables = names.loops[key]
+    index = list(names.loops).index(key)
+    changed = names.changed[index] if index < len(names.changed) else [True] * len(variables)
+    clauses = [l for l in decl[1:]]
+    unfold = [l for l in clauses if l.startswith("unfolding")]
+    clauses = [l for l in clauses if not l.startswith("unfolding")]
+    while clauses and clauses[0].startswith(" "):
+        clauses.pop(0)
+    body = "\n".join(clauses)
+    m2 = re.match(re.escape(old) + r"((?: [^\s=]+)*) =\s*", body)
+    if not m2:
+        return None
+    params, rest = m2[1].split(), body[m2.end():]
+    now = [v for v, c in zip(variables, changed) if c]
+    if len(params) != len(variables) + len(now):
+        return None
+    to = {}
+    for p, v, c in zip(params, variables, changed):
+        to[p] = f"l.initial.{v}" if c else f"l.{v}"
+    for p, v in zip(params[len(variables):], now):
+        to[p] = f"l.{v}"
+    bound = set(re.findall(r"λ ([^.]*)\.", rest)) | set(re.findall(r"\(([\w ]+) : ", rest))
+    names_bound = {w for b in bound for w in re.findall(r"[\w'′₀-₉-]+", b)}
+    rest = re.sub(r"(?<![\w.'′-])([^\s(){}.;,@\"«»\[\]\\]+)", lambda m: to[m[1]] if m[1] in to and m[1] not in names_bound and m[1] != "_" else m[1], rest)
+    name = f"{m[1]}-{new}"
+    t = "t " if measured else ""
+    pad = "\n    " + rest.strip() if "\n" in rest.strip() else " " + rest.strip()
+    return f"abbrev pub {name} : goal.{name}\n" + "".join(u + "\n" for u in unfold) + f"{name} {t}l =" + pad
+
+
+def plain_uses(uses, drop):
+    return [u for u in uses if not re.search(r"\.(Statement|Tie|Reads|Kinds)\b|\.\+\w+(\.|$)", u) and not re.search(r"borrow\.Fn\.", u)]
+
+
+def turn(path, crate, names_all, measured=False):
+    folder = os.path.dirname(path)
+    rel = os.path.relpath(folder, os.path.join("crates", crate, "proofs")).replace("/", ".")
+    text = open(path, encoding="utf-8").read()
+    head, uses, decls = blocks(text)
+    if measured:
+        f = rel.split(".")[-1][1:]
+        where = ".".join(rel.split(".")[:-1] + ["+" + f])
+        d = names_all.get(f"Rattle-{crate}-proofs.{where}.Lts-{f}") or names_all.get(f"Rattle-{crate}-proofs.{where}.Lts")
+        if d is None:
+            print("no names for", rel, [k for k in names_all if f in k][:3])
+            return False
+    else:
+        d = names_all.get(f"Rattle-{crate}-proofs.{rel}.Lts")
+        if d is None:
+            print("no names for", rel)
+            return False
+    names = Names(d)
+    inv, ans, own, lost = [], [], [], []
+    for comments, decl in decls:
+        sig = decl[0]
+        m = re.match(r"(?:(?:abbrev|unfoldable|pub) )*(\S+) : *(.*)", sig)
+        name = m[1] if m else ""
+        typ = m[2] if m else ""
+        if typ == "" and len(decl) > 1:
+            typ = decl[1].strip()
+        if re.match(r"(invariant|decreases)-", name) and re.match(r"(tie|lts)\.", typ):
+            t = invariant(decl, name, None, names, measured)
+            if t is None:
+                lost.append(decl)
+            else:
+                inv.append((comments, t))
+        elif re.match(r"\(?(tie|lts)\.Need-", typ):
+            need = re.match(r"\(?(?:tie|lts)\.Need-(\S+)", typ)[1].rstrip(")")
+            key = norm(need)
+            new = None
+            for k in (key, norm(PREFIX.sub("", need)), norm(name)):
+                if k in names.needs:
+                    new = names.needs[k]
+                    break
+            if new is None or new in names.settled:
+                if new is None:
+                    lost.append(decl)
+                continue
+            t = answer(decl, name, new, names, measured)
+            if t is None:
+                lost.append(decl)
+            elif t:
+                ans.append((comments, t))
+        elif "_spec :" in sig or name.endswith("-spec"):
+            continue
+        else:
+            own.append((comments, "\n".join(decl)))
+    keep = plain_uses(uses, crate)
+    where = f"Rattle.{crate}.proofs.{rel}"
+    intro = [re.sub(r" Assumes nothing\.$", "", h) for h in head]
+    used_in_inv = [o for o in own if any(re.search(r"(?<![\w-])" + re.escape(re.match(r"(?:(?:abbrev|unfoldable|pub) )*(\S+)", o[1])[1]) + r"(?![\w-])", t) for _, t in inv)]
+    if inv:
+        out = intro + keep + [f"use {where}.Given as goal", ""]
+        for c, t in used_in_inv:
+            t = re.sub(r"^((?:abbrev )?)(?!pub)", r"\1pub ", t) if not re.match(r"(abbrev )?pub", t) else t
+            out += c + [t, ""]
+        for c, t in inv:
+            out += c + [t, ""]
+        with open(os.path.join(folder, "Invariants.antt"), "w", encoding="utf-8") as f:
+            f.write("\n".join(out).rstrip("\n") + "\n")
+    rest_own = [o for o in own if o not in used_in_inv]
+    if ans or lost:
+        extra = []
+        if used_in_inv:
+            ns = [re.match(r"(?:(?:abbrev|unfoldable|pub) )*(\S+)", o[1])[1] for o in used_in_inv]
+            extra = [f"use {where}.Invariants.{{{', '.join(ns)}}}"]
+        out = intro + keep + extra + [f"use {where}.Goals as goal", ""]
+        for c, t in rest_own:
+            out += c + [t, ""]
+        for c, t in ans:
+            out += c + [t, ""]
+        for d in lost:
+            out += ["-- LOST: the older form had, for which no goal was found:"] + ["-- " + l for l in d] + [""]
+        with open(os.path.join(folder, "Answers.antt"), "w", encoding="utf-8") as f:
+            f.write("\n".join(out).rstrip("\n") + "\n")
+    os.makedirs("/tmp/old-proofs", exist_ok=True)
+    os.rename(path, os.path.join("/tmp/old-proofs", crate + "." + rel + ".antt"))
+    return True
+
+
+def main(argv):
+    crate, file, only = argv[0], argv[1], argv[2:]
+    names_all = json.load(open(file, encoding="utf-8"))
+    n = 0
+    for folder, dirs, files in os.walk(os.path.join("crates", crate, "proofs")):
+        if "Proof.antt" in files:
+            p = os.path.join(folder, "Proof.antt")
+            t = open(p, encoding="utf-8").read()
+            last = os.path.basename(folder)
+            if only and last not in only:
+                continue
+            if "tie.close" in t and "Tie as tie" in t:
+                n += turn(p, crate, names_all)
+            elif last.startswith("+") and "Tie.{close}" in t:
+                n += bool(single(p, crate, names_all))
+            else:
+                print("by hand:", p)
+    print("turned", n)
+
+
+def single(path, crate, names_all):
+    """A function that calls itself: its goals stand in a module over the measure."""
+    text = open(path, encoding="utf-8").read()
+    out, inside = [], False
+    for l in text.split("\n"):
+        if l.startswith("module _ (t :"):
+            inside = True
+            continue
+        if inside and l.startswith("  "):
+            l = l[2:]
+        elif inside and l.strip() and not l.startswith(" "):
+            inside = False
+        out.append(l)
+    t = "\n".join(out)
+    t = re.sub(r"(lts\.(?:Need-)?\S+) \(calls t\) \(at t\) \S+", r"\1", t)
+    t = re.sub(r"\(lts\.(\S+) \(calls t\) \(at t\)\)", r"lts.\1", t)
+    with open(path, "w", encoding="utf-8") as f:
+        f.write(t)
+    return turn(path, crate, names_all, True)
+
+
+if __name__ == "__main__":
+    main(sys.argv[1:])
