@@ -74,6 +74,7 @@ class Names:
                 for field, label, rest in arm[2]:
                     self.arm_labels = getattr(self, "arm_labels", {})
                     self.arm_labels.setdefault(norm(label), arm[0])
+        self.place = {norm(p[0]): n for p, n in zip(d["places"], d["places_by_name"])}
         self.typed = {}
         for row in d["typed"]:
             for var, label in row:
@@ -94,7 +95,7 @@ class Names:
         if not f:
             return []
         out = []
-        key = norm(f[0])
+        key = norm(re.sub(r"_lem\d*$", "", f[0]))
         if key in ("args", "ranges", "fits"):
             return [f[0]] + [norm(x) if i == 0 else x for i, x in enumerate(f[1:])]
         if key in ("requires", "pre"):
@@ -106,8 +107,8 @@ class Names:
             if hit and n > 1:
                 return hit.split(".") + f[n:]
         if key in self.typed and key not in self.loops and not (len(f) > 1 and norm(f[1]) in ("ensures", "result", "new", "auto")):
-            return ["type_inv", self.typed[key]] + f[1:]
-        label = self.labels.get(key)
+            return ["type_inv", self.typed[key]] + (f[2:] if len(f) > 1 and f[1] == "given" else f[1:])
+        label = self.labels.get(key) or self.labels.get(norm(f[0]))
         out = [label if label else f[0]]
         rest = f[1:]
         if rest and rest[0] == "type-inv":
@@ -117,7 +118,7 @@ class Names:
         return out + rest
 
 
-def inline(body, names, root="c"):
+def inline(body, names, root="c", places=False):
     """Rewrites the paths of a body; a let that only names a path goes, and the path stands where the name stood."""
     alias = {root: []}
     lets = re.compile(r"let ([\w'′₀-₉-]+) = (" + W + r"(?:\." + W + r")*) in(?=\s|\()")
@@ -146,16 +147,29 @@ def inline(body, names, root="c"):
         if rootname not in alias:
             return m[0]
         p = names.path(alias[rootname] + fields)
-        return ".".join(["c"] + p)
+        if not p and places:
+            return ".".join([root] + alias[rootname] + fields)
+        if len(p) == 2 and p[0].startswith("if-not-") and p[1] in ("true", "false"):
+            return "(ap not " + ".".join([root] + p) + ")"
+        return ".".join([root] + p)
 
     text = CHAIN.sub(chain, text)
     for a, p in alias.items():
-        if a != root:
-            text = re.sub(r"(?<![\w.'′-])" + re.escape(a) + r"(?![\w.'′₀-₉-])", lambda _: "c" + "".join("." + x for x in names.path(p)), text)
+        if a == root:
+            continue
+        put = ".".join([root] + (p if places and not names.path(p) else names.path(p)))
+
+        def bare(m, put=put):
+            # The name of a record's field stays.
+            if re.match(r" = ", m.string[m.end():]) and re.search(r"(?:[{;]|^|\n)\s*$", m.string[: m.start()]):
+                return m[0]
+            return put
+
+        text = re.sub(r"(?<![\w.'′-])" + re.escape(a) + r"(?![\w.'′₀-₉-])", bare, text)
     return text
 
 
-def answer(decl, old, new, names, measured):
+def answer(decl, old, new, names, measured, places):
     """The answer new of the declaration of old."""
     sig = decl[0]
     unfold = [l for l in decl[1:] if l.startswith("unfolding")]
@@ -175,14 +189,15 @@ def answer(decl, old, new, names, measured):
         return ""
     if root == "_":
         root = "c"
-    rest = inline(rest, names, root)
+    rest = inline(rest, names, root, places)
     fields = names.asked.get(new)
     whole = rest.strip()
     if fields and len(fields) > 1 and whole.startswith("(") and whole.endswith(")"):
         parts = split(whole[1:-1])
         if len(parts) == len(fields):
             rest = "record { " + "; ".join(f"{f} = {p.strip()}" for f, p in zip(fields, parts)) + " }"
-    head = f"{new} {'t ' if measured else ''}c ="
+    more = "".join(" " + x for x in params[1:] if x != "κs")
+    head = f"{new} {'t ' if measured else ''}{root}{more} ="
     sep = "\n" if rest.startswith(" ") or "\n" in rest else " "
     text = f"pub {new} : goal.{new}\n" + "".join(u + "\n" for u in unfold) + head + (("\n    " + rest.strip()) if "\n" in rest.strip() else " " + rest.strip())
     return text
@@ -263,6 +278,7 @@ def turn(path, crate, names_all, measured=False):
             return False
     names = Names(d)
     inv, ans, own, lost = [], [], [], []
+    places = any(re.search(r"\b(tie|lts)\.(?!Need|spec|close|invariant|decreases)[A-Z]", l) for _, decl in decls for l in decl)
     for comments, decl in decls:
         sig = decl[0]
         m = re.match(r"(?:(?:abbrev|unfoldable|pub) )*(\S+) : *(.*)", sig)
@@ -288,7 +304,7 @@ def turn(path, crate, names_all, measured=False):
                 if new is None:
                     lost.append(decl)
                 continue
-            t = answer(decl, name, new, names, measured)
+            t = answer(decl, name, new, names, measured, places)
             if t is None:
                 lost.append(decl)
             elif t:
@@ -296,7 +312,11 @@ def turn(path, crate, names_all, measured=False):
         elif "_spec :" in sig or name.endswith("-spec"):
             continue
         else:
-            own.append((comments, "\n".join(decl)))
+            text_of = "\n".join(decl)
+            if re.search(r"\b(tie|lts)\.[A-Z]", text_of):
+                text_of = re.sub(r"\b(?:tie|lts)\.([\w-]+)(?: (?:invariant|decreases)-loop\w*)*", lambda m: "goal." + names.place.get(norm(m[1]), m[1]), text_of)
+                text_of = inline(text_of, names, "c", True)
+            own.append((comments, text_of))
     keep = plain_uses(uses, crate)
     where = f"Rattle.{crate}.proofs.{rel}"
     intro = [re.sub(r" Assumes nothing\.$", "", h) for h in head]
@@ -311,6 +331,12 @@ def turn(path, crate, names_all, measured=False):
         with open(os.path.join(folder, "Invariants.antt"), "w", encoding="utf-8") as f:
             f.write("\n".join(out).rstrip("\n") + "\n")
     rest_own = [o for o in own if o not in used_in_inv]
+    if any("(ap not " in t for _, t in ans + rest_own):
+        have = " ".join(keep)
+        if not re.search(r"[{ ]ap[,}]", have):
+            keep = keep + ["use mathlib.Core.Path.{ap}"]
+        if not re.search(r"[{ ]not[,}]", have):
+            keep = keep + ["use mathlib.Core.Bool.{not}"]
     if ans or lost:
         extra = []
         if used_in_inv:
