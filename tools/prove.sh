@@ -21,7 +21,7 @@ needed() {
             print name
         }
         { sub(/#.*/, "") }
-        /:/ { at = index($0, ":"); name = substr($0, 1, at - 1); gsub(/[ \t]/, "", name); needs[name] = substr($0, at + 1) }
+        /:/ { at = index($0, ":"); name = substr($0, 1, at - 1); sub(/ .*/, "", name); needs[name] = substr($0, at + 1) }
         END { count = split(wanted, names, " "); for (i = 1; i <= count; i++) visit(names[i]) }' crates.txt
 }
 
