@@ -218,7 +218,7 @@ module _ {n : ℕ} (fits : n ≤ max_plan) (tests : Unique test_part n) where
       let c = plan_left h.first in
       let d = pool_left h.first in
       let e' : many_selectors xs ≡ many_selectors xs' = omega arith in
-      let g = many_same xs xs' e' (omega arith) (omega arith) h.rest (move k.rest (sym (plan_rest h.first k.first f)) (sym (pool_rest h.first k.first f)) (ap (λ y. p + length (pool_selector y)) (sym f))) in
+      let g = many_same {p = p + length (pool_selector x)} xs xs' e' (omega arith) (omega arith) h.rest (move k.rest (sym (plan_rest h.first k.first f)) (sym (pool_rest h.first k.first f)) (ap (λ y. p + length (pool_selector y)) (sym f))) in
       cc (f, g)
 
 -- ---- segments
@@ -341,7 +341,7 @@ module _ {n : ℕ} (fits : n ≤ max_plan) (tests : Unique test_part n) where
       let x = many_fits true h in
       let y = plan_left h.first in
       let z = pool_left h.first in
-      let f = segments_same q q' (omega arith) (omega arith) h.rest (move k.rest (sym (plan_rest h.first w e.0)) (sym (pool_rest h.first w e.0)) (ap (λ o. p + length (pool_selectors o)) (sym e.0))) in
+      let f = segments_same {p = p + length (pool_selectors ss)} q q' (omega arith) (omega arith) h.rest (move k.rest (sym (plan_rest h.first w e.0)) (sym (pool_rest h.first w e.0)) (ap (λ o. p + length (pool_selectors o)) (sym e.0))) in
       cc (e.0, f)
   segments_same {p = p} (descendant ss q) (descendant ss' q') a b u v =
       let h = into_segment false u in
@@ -351,7 +351,7 @@ module _ {n : ℕ} (fits : n ≤ max_plan) (tests : Unique test_part n) where
       let x = many_fits false h in
       let y = plan_left h.first in
       let z = pool_left h.first in
-      let f = segments_same q q' (omega arith) (omega arith) h.rest (move k.rest (sym (plan_rest h.first w e.0)) (sym (pool_rest h.first w e.0)) (ap (λ o. p + length (pool_selectors o)) (sym e.0))) in
+      let f = segments_same {p = p + length (pool_selectors ss)} q q' (omega arith) (omega arith) h.rest (move k.rest (sym (plan_rest h.first w e.0)) (sym (pool_rest h.first w e.0)) (ap (λ o. p + length (pool_selectors o)) (sym e.0))) in
       cc (e.0, f)
 
   pub unique_segments : Unique segments_part (suc n)

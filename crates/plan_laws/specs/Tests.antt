@@ -243,11 +243,11 @@ module _ {n : ℕ} (fits : n ≤ max_plan) (tests : Unique test_part n) where
   ops_same op_end (op_not o') a b u v = absurd (nil_not (into_nothing u).0 (into_not v).is)
   ops_same op_end (op_right d' y' o') a b u v = absurd (nil_not (into_nothing u).0 (into_right d' v).is)
   ops_same (op_not o) op_end a b u v = absurd (nil_not (into_nothing v).0 (into_not u).is)
-  ops_same {s = s} (op_not o) (op_not o') a b u v =
+  ops_same {h = i} {h' = i'} {s = s} (op_not o) (op_not o') a b u v =
       let h = into_not u in
       let k = into_not v in
       let z : length s ≡ suc (length h.start) = ap length h.is in
-      ap op_not (ops_same o o' (omega arith) b h.rest (move k.rest (same_tail k.is h.is) refl refl))
+      ap op_not (ops_same {h = suc i} {h' = suc i'} o o' (omega arith) b h.rest (move k.rest (same_tail k.is h.is) refl refl))
   ops_same (op_not o) (op_right d' y' o') a b u v = absurd (right_differ d' (into_right d' v).is (into_not u).is)
   ops_same (op_right d y o) op_end a b u v = absurd (nil_not (into_nothing v).0 (into_right d u).is)
   ops_same (op_right d y o) (op_not o') a b u v = absurd (right_differ d (into_right d u).is (into_not v).is)
@@ -260,7 +260,7 @@ module _ {n : ℕ} (fits : n ≤ max_plan) (tests : Unique test_part n) where
       let f = (unique_framed fits tests).same y y' (omega arith) b h.first w in
       let c = plan_left h.first in
       let i = pool_left h.first in
-      let g = ops_same o o' (omega arith) (omega arith) h.rest (move k.rest (sym (plan_rest h.first w f)) (sym (pool_rest h.first w f)) (ap (λ x. p + length (pool_test x)) (sym f))) in
+      let g = ops_same {p = p + length (pool_test y)} o o' (omega arith) (omega arith) h.rest (move k.rest (sym (plan_rest h.first w f)) (sym (pool_rest h.first w f)) (ap (λ x. p + length (pool_test x)) (sym f))) in
       cc (e, f, g)
 
 -- ---- a whole test

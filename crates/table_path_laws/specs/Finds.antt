@@ -94,26 +94,26 @@ module _ (T X : List ℕ) (a : Accepted T X) where
   step_more p i l g ss r = rw (step_finds p i l g r)
 
   -- the steps to a node, and then those behind it
-  steps_up : (f i : ℕ) → i ≤ f → i < node_count T → (ss : List Step) (r : Json)
+  steps_up_lem : (f i : ℕ) → i ≤ f → i < node_count T → (ss : List Step) (r : Json)
       → eval_segments (steps_form (steps_up f T X i ss)) r (node_at T X 0 ∷ []) ≡ eval_segments (steps_form ss) r (node_at T X i ∷ [])
   unfolding steps_up parent_below
-  steps_up zero zero h l ss r = refl
-  steps_up zero (suc i) h l ss r = absurd (omega arith)
-  steps_up (suc f) zero h l ss r = refl
-  steps_up (suc f) (suc i) h l ss r =
+  steps_up_lem zero zero h l ss r = refl
+  steps_up_lem zero (suc i) h l ss r = absurd (omega arith)
+  steps_up_lem (suc f) zero h l ss r = refl
+  steps_up_lem (suc f) (suc i) h l ss r =
       let w = a.later (suc i) l in
       let q = parent_some T (suc i) (omega arith) (omega arith) in
       let p : ℕ = q.0 in
       let below = q.1 in
       let e = parent_is T p (suc i) q.1 q.2 in
       ap (λ (o : Option ℕ). eval_segments (steps_form (elim o [ none ↦ ss | some y ↦ steps_up f T X y (step_at T X y (suc i) ∷ ss) ])) r (node_at T X 0 ∷ [])) e
-      ∙ steps_up f p (omega arith) (omega arith) (step_at T X p (suc i) ∷ ss) r
+      ∙ steps_up_lem f p (omega arith) (omega arith) (step_at T X p (suc i) ∷ ss) r
       ∙ step_more p (suc i) (omega arith) q.2 ss r
 
   -- the steps to a node find that node alone
   pub steps_find : (i : ℕ) → i < node_count T → selected (form_of T X i) (tree T X) ≡ i ∷ []
   unfolding selected form_of steps_to eval_query eval_segments steps_form tree
-  steps_find i l = rw (steps_up i i (omega arith) l [] (node_at T X 0), id_node T X a i l)
+  steps_find i l = rw (steps_up_lem i i (omega arith) l [] (node_at T X 0), id_node T X a i l)
 
 -- nodes of one table to which the same steps lead are one node
 pub steps_differ : (T X : List ℕ) → Accepted T X → (i j : ℕ) → i < node_count T → j < node_count T → steps_to T X i ≡ steps_to T X j → i ≡ j

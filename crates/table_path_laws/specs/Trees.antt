@@ -141,20 +141,20 @@ module _ (T X : List ℕ) (a : Accepted T X) where
       by true e = key (good (eqb-true (kind_at T p) kind_map e))
       by false e = let f = a.size.few in place {n = i - first_child T p} (omega arith)
 
-  steps_up : (f i : ℕ) → i ≤ f → i < node_count T → (ss : List Step) → StepsRight ss → StepsRight (steps_up f T X i ss)
+  steps_up_lem : (f i : ℕ) → i ≤ f → i < node_count T → (ss : List Step) → StepsRight ss → StepsRight (steps_up f T X i ss)
   unfolding steps_up parent_below
-  steps_up zero i h l ss r = r
-  steps_up (suc f) zero h l ss r = r
-  steps_up (suc f) (suc i) h l ss r =
+  steps_up_lem zero i h l ss r = r
+  steps_up_lem (suc f) zero h l ss r = r
+  steps_up_lem (suc f) (suc i) h l ss r =
       let w = a.later (suc i) l in
       let q = parent_some T (suc i) (omega arith) (omega arith) in
       let p : ℕ = q.0 in
       let below = q.1 in
       let e = parent_is T p (suc i) q.1 q.2 in
       subst (λ (o : Option ℕ). StepsRight (elim o [ none ↦ ss | some y ↦ steps_up f T X y (step_at T X y (suc i) ∷ ss) ])) (sym e)
-      (steps_up f p (omega arith) (omega arith) (step_at T X p (suc i) ∷ ss) (more_steps (step_right p (suc i) (omega arith) l q.2) r))
+      (steps_up_lem f p (omega arith) (omega arith) (step_at T X p (suc i) ∷ ss) (more_steps (step_right p (suc i) (omega arith) l q.2) r))
 
   -- the steps to a node of an accepted table can be named
   pub steps_right : (i : ℕ) → i < node_count T → StepsRight (steps_to T X i)
   unfolding steps_to
-  steps_right i l = steps_up i i (omega arith) l [] no_step
+  steps_right i l = steps_up_lem i i (omega arith) l [] no_step
