@@ -1,0 +1,8 @@
+-- `text::bytes::word32` meets its contract: a word in two pieces.
+use borrow.Author.Rules.{rules}
+use native.Mathlib.Omega.{arith}
+use Rattle.text.proofs.Numbers.{word_halves}
+use Rattle.text.proofs.bytes.word32.Goals as goal
+
+pub returns : goal.returns
+returns c = word_halves (omega arith) c.word16-low.ensures c.word16-high.ensures

@@ -1,0 +1,7 @@
+-- `text::placed::agrees` meets its contract.
+use borrow.Author.Rules.{rules}
+use Rattle.text.proofs.Along.{same_answer}
+use Rattle.text.proofs.placed.agrees.Goals as goal
+
+pub returns : goal.returns
+returns c = same_answer c.args.p c.args.q

@@ -1,0 +1,7 @@
+-- `text::placed::is_bounded` meets its contract.
+use borrow.Author.Rules.{rules}
+use Rattle.text.proofs.Along.{bounded_by}
+use Rattle.text.proofs.placed.is_bounded.Goals as goal
+
+pub returns : goal.returns
+returns c = bounded_by c.args.c c.args.x
