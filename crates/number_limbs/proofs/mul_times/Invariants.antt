@@ -1,0 +1,18 @@
+-- `number_limbs::mul_times` meets its contract: each turn is one product, and nothing runs over the end.
+use native.Mathlib.Nat.{pow-zero}
+use mathlib.Core.Path.{◌≡◌, refl, sym, ◌∙◌, ap, subst}
+use Prim.Native.Nat.{ℕ, ◌-◌, ◌*◌, ◌^◌, ◌≤◌, ◌<◌}
+use native.Mathlib.Nat.{mul-one}
+use native.Mathlib.Omega.{arith}
+use lib.ListN.{length}
+use borrow.Author.Rules.{rules}
+use Rattle.number_limbs.specs.Limbs.{value, Limbs}
+use Rattle.number_limbs.proofs.Steps.{K}
+use Rattle.number_limbs.proofs.Whole.{no_carry}
+use Rattle.number_limbs.proofs.mul_times.Given as goal
+
+abbrev pub invariant-loop-j : goal.invariant-loop-j
+invariant-loop-j l = (length l.x ≡ length l.initial.x) × Limbs l.x × (value l.x ≡ value l.initial.x * l.m ^ l.j) × (l.j ≤ l.e)
+
+abbrev pub decreases-loop-j : goal.decreases-loop-j
+decreases-loop-j l = l.e - l.j
