@@ -1,5 +1,8 @@
-// Lines of standard input. A line ends at a line feed, or where the input ends; every other byte belongs to it.
-use libc::STDIN_FILENO;
+// Lines of an input. A line ends at a line feed, or where the input ends; every other byte belongs to it. Each function that reads fails where a read does.
+ghost use Rattle.std.specs.Prelude.{◌≤◌, length, IfOk};
+
+use std::io;
+use std::io::Read;
 
 const NEWLINE: u8 = b'\n';
 // How many bytes of a line are taken at most.
@@ -27,6 +30,21 @@ pub struct Line {
     pub end: usize,
 }
 
+// Reads until a room is full or the input ends, and answers how many bytes stand at the start of the room then.
+pub fn full(reader: &mut impl Read, room: &mut [u8]) -> io::Result<usize>
+    ensures { IfOk result (λ n. n ≤ length room.new) }
+{
+    let mut done = 0;
+    while done < room.len() {
+        let n = reader.read(&mut room[done..])?;
+        if n == 0 {
+            return Ok(done);
+        }
+        done += n;
+    }
+    Ok(done)
+}
+
 // Takes the byte at a place of what was read.
 fn take(buffer: &[u8], at: usize, end: usize) -> Taken {
     if at < end {
@@ -48,13 +66,17 @@ fn take(buffer: &[u8], at: usize, end: usize) -> Taken {
 }
 
 // Takes the next byte, and reads where all that was read is taken.
-fn take_next(buffer: &mut [u8], at: usize, end: usize) -> Taken {
+fn take_next(
+    reader: &mut impl Read,
+    buffer: &mut [u8],
+    at: usize,
+    end: usize,
+) -> io::Result<Taken> {
     if at < end {
-        return take(buffer, at, end);
+        return Ok(take(buffer, at, end));
     }
-    let got = libc::read(STDIN_FILENO, buffer);
-    let n = io::count(got, buffer);
-    take(buffer, 0, n)
+    let n = reader.read(buffer)?;
+    Ok(take(buffer, 0, n))
 }
 
 // Puts a byte behind the first `used` of a line, and answers how many there are then, or one more than there is room for.
@@ -67,38 +89,44 @@ fn put(line: &mut [u8], used: usize, b: u8) -> usize {
 }
 
 // Takes the next line: as many of its first bytes as there is room for.
-pub fn next(buffer: &mut [u8], from: usize, to: usize, line: &mut [u8]) -> Line {
+pub fn next(
+    reader: &mut impl Read,
+    buffer: &mut [u8],
+    from: usize,
+    to: usize,
+    line: &mut [u8],
+) -> io::Result<Line> {
     let mut at = from;
     let mut end = to;
     let mut used = 0;
     let mut left = BYTES;
     while 0 < left {
-        let taken = take_next(buffer, at, end);
+        let taken = take_next(reader, buffer, at, end)?;
         at = taken.at;
         end = taken.end;
         if !taken.more {
-            return Line {
+            return Ok(Line {
                 found: 0 < used,
                 used,
                 at,
                 end,
-            };
+            });
         }
         if taken.byte == NEWLINE {
-            return Line {
+            return Ok(Line {
                 found: true,
                 used,
                 at,
                 end,
-            };
+            });
         }
         used = put(line, used, taken.byte);
         left -= 1;
     }
-    Line {
+    Ok(Line {
         found: true,
         used,
         at,
         end,
-    }
+    })
 }

@@ -1,55 +1,54 @@
-// The words of an answer, on standard output.
-use libc::STDOUT_FILENO;
+// The words of an answer, on standard output. Each function fails where a write does.
+use std::io;
 
 // Room for the digits of 65,536 bytes.
 const DIGITS_ROOM: usize = 131072;
 
-pub fn text(s: &[u8]) {
-    io::write_all(STDOUT_FILENO, s);
+pub fn text(rt: &impl Print, s: &[u8]) -> io::Result<()> {
+    rt.write_all(s)
 }
 
-pub fn newline() {
-    text(b"\n");
+pub fn newline(rt: &impl Print) -> io::Result<()> {
+    text(rt, b"\n")
 }
 
-pub fn number(n: usize) {
-    io::print_decimal(STDOUT_FILENO, n as u64);
+pub fn number(rt: &impl Print, n: usize) -> io::Result<()> {
+    print!(rt; "{n}")
 }
 
 // A number behind a blank.
-pub fn next_number(n: usize) {
-    text(b" ");
-    number(n);
+pub fn next_number(rt: &impl Print, n: usize) -> io::Result<()> {
+    text(rt, b" ")?;
+    number(rt, n)
 }
 
 // A node behind a blank.
-fn node(n: u32) {
-    next_number(n as usize);
+fn node(rt: &impl Print, n: u32) -> io::Result<()> {
+    next_number(rt, n as usize)
 }
 
 // The nodes at the first n places of a list, each behind a blank.
-pub fn nodes(list: &[u32], n: usize) {
+pub fn nodes(rt: &impl Print, list: &[u32], n: usize) -> io::Result<()> {
     let mut i = 0;
     while i < n {
         if list.len() <= i {
-            return;
+            return Ok(());
         }
-        node(list[i]);
+        node(rt, list[i])?;
         i += 1;
     }
+    Ok(())
 }
 
 // A byte string in hexadecimal, or a dash if it is empty. Of more than 65,536 bytes three dots are written.
-pub fn bytes(s: &[u8]) {
+pub fn bytes(rt: &impl Print, s: &[u8]) -> io::Result<()> {
     if s.len() == 0 {
-        text(b"-");
-        return;
+        return text(rt, b"-");
     }
     let mut digits = [0u8; DIGITS_ROOM];
     if digits.len() / 2 < s.len() {
-        text(b"...");
-        return;
+        return text(rt, b"...");
     }
     let n = program_lines::encode(s, &mut digits);
-    text(&digits[0..n]);
+    text(rt, &digits[0..n])
 }
