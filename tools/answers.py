@@ -75,6 +75,8 @@ class Names:
                     self.arm_labels = getattr(self, "arm_labels", {})
                     self.arm_labels.setdefault(norm(label), arm[0])
         self.place = {norm(p[0]): n for p, n in zip(d["places"], d["places_by_name"])}
+        # The function that a step calls, and the names of its parameters.
+        self.callee = {norm(p[2][0]): d["params"].get(p[3], []) for p in d["places"] if len(p) > 3 and p[3]}
         self.typed = {}
         for row in d["typed"]:
             for var, label in row:
@@ -98,6 +100,8 @@ class Names:
         key = norm(re.sub(r"_lem\d*$", "", f[0]))
         if key in ("args", "ranges", "fits"):
             return [f[0]] + [norm(x) if i == 0 else x for i, x in enumerate(f[1:])]
+        if key == "well_formed":
+            return [key] + f[1:]
         if key in ("requires", "pre"):
             if self.pre and len(f) > 1 and f[1].isdigit() and int(f[1]) < len(self.pre):
                 return ["requires", self.pre[int(f[1])]] + f[2:]
@@ -113,6 +117,15 @@ class Names:
         rest = f[1:]
         if rest and rest[0] == "type-inv":
             rest[0] = "type_inv"
+        # What a call leaves in its parameter: by its place in the older form, now by its name.
+        called = self.callee.get(norm(f[0])) or self.callee.get(key)
+        if called and len(rest) > 1 and rest[0] in ("new", "auto") and rest[1] in ("0", "1"):
+            n, at = 0, 1
+            while at < len(rest) and rest[at] == "1" and n < len(called) - 1:
+                n, at = n + 1, at + 1
+            if at < len(rest) and rest[at] == "0":
+                at += 1
+            rest = [rest[0], called[n]] + rest[at:]
         if rest and key in self.loops and rest[0] in [v.replace("_", "-") for v in self.loops[key][1]]:
             rest[0] = norm(rest[0])
         return out + rest

@@ -21,9 +21,9 @@ mul_add-requires c = (c.loop-j.invariant.1, c.requires.1, omega arith)
 
 pub loop-j-preserved : goal.loop-j-preserved
 loop-j-preserved c = (
-  c.mul_add.auto.0 ∙ c.loop-j.invariant.0,
+  c.mul_add.auto.x ∙ c.loop-j.invariant.0,
   c.mul_add.ensures.1,
-  no_carry (value c.args.x.now) (value c.loop-j.x) (value c.mul_add.new.0) c.mul_add.result c.args.m c.args.e c.loop-j.j (K ^ length c.loop-j.x) c.mul_add.ensures.0 c.loop-j.invariant.2 (subst (λ (w : ℕ). value c.args.x.now * c.args.m ^ c.args.e < K ^ w) (sym c.loop-j.invariant.0) c.requires.3) c.requires.2 c.loop-j-test.true,
+  no_carry (value c.args.x.now) (value c.loop-j.x) (value c.mul_add.new.x) c.mul_add.result c.args.m c.args.e c.loop-j.j (K ^ length c.loop-j.x) c.mul_add.ensures.0 c.loop-j.invariant.2 (subst (λ (w : ℕ). value c.args.x.now * c.args.m ^ c.args.e < K ^ w) (sym c.loop-j.invariant.0) c.requires.3) c.requires.2 c.loop-j-test.true,
   omega arith,
 )
 

@@ -14,10 +14,10 @@ pub loop-i-init : goal.loop-i-init
 loop-i-init c = (le_refl _, drop_of_length-le c.args.x.now (le_refl _) ∙ sym (drop_of_length-le c.args.y.now (le_of_eq (sym c.requires.2))))
 
 pub offset_bounds-x-i : goal.offset_bounds-x-i
-offset_bounds-x-i c = scaled_Fits (c.loop-i.i - 1) (length c.args.x.now) 8 (omega arith) c.well-formed.0.1
+offset_bounds-x-i c = scaled_Fits (c.loop-i.i - 1) (length c.args.x.now) 8 (omega arith) c.well_formed.0.1
 
 pub offset_bounds-y-i : goal.offset_bounds-y-i
-offset_bounds-y-i c = scaled_Fits (c.loop-i.i - 1) (length c.args.y.now) 8 (omega arith) c.well-formed.1.0.1
+offset_bounds-y-i c = scaled_Fits (c.loop-i.i - 1) (length c.args.y.now) 8 (omega arith) c.well_formed.1.0.1
 
 pub returns-then-a-b : goal.returns-then-a-b
 returns-then-a-b c = decides_down c.args.x.now c.args.y.now c.loop-i.i c.requires.0 c.requires.1 c.loop-i-test.true c.loop-i.invariant.0 (omega arith) c.loop-i.invariant.1 c.if-a-b.true

@@ -13,7 +13,7 @@ pub mul_times-requires : goal.mul_times-requires
 mul_times-requires c = (c.requires.0, c.requires.2, subst (λ (n : ℕ). 0 < n) (sym c.requires.1) (one-le-pow c.args.width c.args.base c.requires.4), chunks_fit (value c.args.x.now) c.args.base c.args.chunk c.args.width c.args.e c.requires.1 (K ^ length c.args.x.now) c.requires.4 c.requires.6)
 
 pub mul_times-requires-2 : goal.mul_times-requires-2
-mul_times-requires-2 c = (c.mul_times.ensures.1, c.requires.3, c.requires.4, rest_fits (value c.args.x.now) c.args.base c.args.chunk c.args.width c.args.e c.requires.1 (value c.mul_times.new.0) (length c.mul_times.new.0) (length c.args.x.now) c.mul_times.ensures.0 c.mul_times.auto.0 c.requires.6)
+mul_times-requires-2 c = (c.mul_times.ensures.1, c.requires.3, c.requires.4, rest_fits (value c.args.x.now) c.args.base c.args.chunk c.args.width c.args.e c.requires.1 (value c.mul_times.new.x) (length c.mul_times.new.x) (length c.args.x.now) c.mul_times.ensures.0 c.mul_times.auto.x c.requires.6)
 
 pub returns : goal.returns
-returns c = (raised (value c.args.x.now) c.args.base c.args.chunk c.args.width c.args.e c.requires.1 (value c.mul_times.new.0) (value c.mul_times-2.new.0) c.mul_times.ensures.0 c.mul_times-2.ensures.0, c.mul_times-2.ensures.1)
+returns c = (raised (value c.args.x.now) c.args.base c.args.chunk c.args.width c.args.e c.requires.1 (value c.mul_times.new.x) (value c.mul_times-2.new.x) c.mul_times.ensures.0 c.mul_times-2.ensures.0, c.mul_times-2.ensures.1)

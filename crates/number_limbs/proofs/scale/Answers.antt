@@ -9,7 +9,7 @@ use Rattle.number_limbs.proofs.Powers.{first_fits, second_fits}
 use Rattle.number_limbs.proofs.scale.Goals as goal
 
 pub raise-requires : goal.raise-requires
-raise-requires c = (c.fill.ensures.1, refl, omega arith, omega arith, omega arith, omega arith, first_fits (value c.fill.new.0) c.args.m c.args.p c.args.e (length c.fill.new.0) (length c.args.x.now) c.fill.ensures.0 c.fill.auto.0 c.requires.3)
+raise-requires c = (c.fill.ensures.1, refl, omega arith, omega arith, omega arith, omega arith, first_fits (value c.fill.new.x) c.args.m c.args.p c.args.e (length c.fill.new.x) (length c.args.x.now) c.fill.ensures.0 c.fill.auto.x c.requires.3)
 
 pub raise-requires-2 : goal.raise-requires-2
 raise-requires-2 c = (
@@ -19,7 +19,7 @@ raise-requires-2 c = (
   omega arith,
   omega arith,
   omega arith,
-  second_fits (value c.raise.new.0) (value c.fill.new.0) c.args.m c.args.p c.args.e (length c.raise.new.0) (length c.args.x.now) c.raise.ensures.0 c.fill.ensures.0 (c.raise.auto.0 ∙ c.fill.auto.0) c.requires.3,
+  second_fits (value c.raise.new.x) (value c.fill.new.x) c.args.m c.args.p c.args.e (length c.raise.new.x) (length c.args.x.now) c.raise.ensures.0 c.fill.ensures.0 (c.raise.auto.x ∙ c.fill.auto.x) c.requires.3,
 )
 
 pub returns : goal.returns
