@@ -128,6 +128,8 @@ class Names:
             rest = [rest[0], called[n]] + rest[at:]
         if rest and key in self.loops and rest[0] in [v.replace("_", "-") for v in self.loops[key][1]]:
             rest[0] = norm(rest[0])
+        if rest and out[0].startswith("if") and rest[0] in ("taken", "left"):
+            rest[0] = {"taken": "true", "left": "false"}[rest[0]]
         return out + rest
 
 
@@ -261,7 +263,8 @@ def invariant(decl, old, kind, names, measured):
         to[p] = f"l.{v}"
     bound = set(re.findall(r"λ ([^.]*)\.", rest)) | set(re.findall(r"\(([\w ]+) : ", rest))
     names_bound = {w for b in bound for w in re.findall(r"[\w'′₀-₉-]+", b)}
-    rest = re.sub(r"(?<![\w.'′-])([^\s(){}.;,@\"«»\[\]\\]+)", lambda m: to[m[1]] if m[1] in to and m[1] not in names_bound and m[1] != "_" else m[1], rest)
+    field = lambda m: re.match(r" = ", m.string[m.end():]) and re.search(r"[{;]\s*$", m.string[: m.start()])
+    rest = re.sub(r"(?<![\w.'′-])([^\s(){}.;,@\"«»\[\]\\]+)", lambda m: to[m[1]] if m[1] in to and m[1] not in names_bound and m[1] != "_" and not field(m) else m[1], rest)
     name = f"{m[1]}-{new}"
     t = "t " if measured else ""
     pad = "\n    " + rest.strip() if "\n" in rest.strip() else " " + rest.strip()
@@ -269,7 +272,7 @@ def invariant(decl, old, kind, names, measured):
 
 
 def plain_uses(uses, drop):
-    return [u for u in uses if not re.search(r"\.(Statement|Tie|Reads|Kinds)\b|\.\+\w+(\.|$)", u) and not re.search(r"borrow\.Fn\.", u)]
+    return [u for u in uses if not (re.search(r"\.(Statement|Tie|Reads|Kinds)\b|\.\+\w+(\.|$)", u) and ".specs." not in u) and not re.search(r"borrow\.Fn\.", u)]
 
 
 def turn(path, crate, names_all, measured=False):

@@ -132,6 +132,8 @@ def turn(folder, crate, names_all):
                 old = typ.split(".")[1].split()[0]
                 decl = [re.sub(r"(?<![\w'′.-])" + re.escape(name) + r"(?![\w'′-])", old, l) for l in decl]
                 i = invariant(decl, old, None, names, False)
+                if i and stem:
+                    i = re.sub(r"(?<![\w-])(invariant|decreases)-(?=loop)", r"\1-" + stem, i)
                 if i is None:
                     lost.append(decl)
                 else:
@@ -150,6 +152,9 @@ def turn(folder, crate, names_all):
                         lost.append(decl)
                     continue
                 a = answer(decl, name, new, names, True, False)
+                if a and stem:
+                    a = re.sub(r"(?m)^(pub )?" + re.escape(new) + r"(?= )", r"\1" + stem + new, a)
+                    a = a.replace(f": goal.{new}\n", f": goal.{stem}{new}\n", 1)
                 if a is None:
                     lost.append(decl)
                 elif a:
@@ -214,7 +219,7 @@ def public(b):
 
 
 def keep(uses):
-    return [u for u in uses if not re.search(r"\.(Statement|Tie|Reads|Kinds)\b|\.\+[\w-]+(\.|$)|borrow\.Fn\.", u)]
+    return [u for u in uses if ".specs." in u or not re.search(r"\.(Statement|Tie|Reads|Kinds)\b|\.\+[\w-]+(\.|$)|borrow\.Fn\.", u)]
 
 
 def unique(uses):
