@@ -207,15 +207,81 @@ def answer(decl, old, new, names, measured, places):
     rest = inline(rest, names, root, places)
     fields = names.asked.get(new)
     whole = rest.strip()
-    if fields and len(fields) > 1 and whole.startswith("(") and whole.endswith(")"):
-        parts = split(whole[1:-1])
-        if len(parts) == len(fields):
-            rest = "record { " + "; ".join(f"{f} = {p.strip()}" for f, p in zip(fields, parts)) + " }"
+    if fields and len(fields) > 1 and whole.endswith(")"):
+        at = opening(whole)
+        before = whole[:at]
+        parts = split(whole[at + 1 : -1])
+        if (not before or re.search(r"\bin\s+$", before)) and len(parts) == len(fields):
+            rest = before + "record { " + "; ".join(f"{f} = {p.strip()}" for f, p in zip(fields, parts)) + " }"
     more = "".join(" " + x for x in params[1:] if x != "κs")
     head = f"{new} {'t ' if measured else ''}{root}{more} ="
     sep = "\n" if rest.startswith(" ") or "\n" in rest else " "
     text = f"pub {new} : goal.{new}\n" + "".join(u + "\n" for u in unfold) + head + (("\n    " + rest.strip()) if "\n" in rest.strip() else " " + rest.strip())
     return text
+
+
+def opening(text):
+    """Where the parenthesis that ends a text opens."""
+    depth = 0
+    for i in range(len(text) - 1, -1, -1):
+        depth += (text[i] == ")") - (text[i] == "(")
+        if depth == 0:
+            return i
+    return 0
+
+
+def placed(decl):
+    """The parts of a lemma over a place alone: its name, its type, its parameters, its body and what it unfolds."""
+    lines = decl.split("\n")
+    m = re.match(r"(?:(?:abbrev|unfoldable|pub) )*(\S+) : *\(c : goal\.\S+\) →\s*(.*)$", lines[0])
+    if not m:
+        return None
+    name, typ, i = m[1], m[2], 1
+    while i < len(lines) and lines[i].startswith(" "):
+        typ, i = typ + " " + lines[i].strip(), i + 1
+    unfold = []
+    while i < len(lines) and lines[i].startswith("unfolding "):
+        unfold += lines[i].split()[1:]
+        i += 1
+    body = "\n".join(lines[i:])
+    m = re.match(re.escape(name) + r" c((?: [\w'′₀-₉-]+)*) =\s*", body)
+    if not m or re.search(r"(?m)^" + re.escape(name) + " ", body[m.end():]):
+        return None
+    return name, typ.strip(), m[1].split(), body[m.end():].strip(), unfold
+
+
+def within(text, lemmas):
+    """An answer with the lemmas over places that it cites, each as a let."""
+    def cites(t):
+        return [l for l in lemmas if re.search(r"(?<![\w.'′-])" + re.escape(l[0]) + r" c(?:\.before)*(?![\w.'′-])", t)]
+
+    def drop(t, ls):
+        for l in ls:
+            t = re.sub(r"\(" + re.escape(l[0]) + r" c(?:\.before)*\)", l[0], t)
+            t = re.sub(r"(?<![\w.'′-])" + re.escape(l[0]) + r" c(?:\.before)*(?![\w.'′-])", l[0], t)
+        return t
+
+    need, todo = [], cites(text)
+    while todo:
+        l = todo.pop(0)
+        if l in need:
+            need.remove(l)
+        need.append(l)
+        todo += cites(l[3])
+    if not need:
+        return text
+    need.reverse()
+    lines = text.split("\n")
+    unfold = [u for l in need for u in l[4]]
+    if lines[1].startswith("unfolding "):
+        unfold = lines[1].split()[1:] + [u for u in unfold if u not in lines[1].split()]
+        lines.pop(1)
+    if unfold:
+        lines.insert(1, "unfolding " + " ".join(dict.fromkeys(unfold)))
+    i = 2 if unfold else 1
+    m = re.match(r"([^=]*=)\s*(.*)", "\n".join(lines[i:]), re.S)
+    lets = "".join(f"    let {l[0]} : {drop(l[1], need)} = {('λ ' + ' '.join(l[2]) + '. ') if l[2] else ''}{drop(l[3], need)} in\n" for l in need)
+    return "\n".join(lines[:i]) + "\n" + m[1] + "\n" + lets + "    " + drop(m[2], need)
 
 
 def split(text):
@@ -347,6 +413,9 @@ def turn(path, crate, names_all, measured=False):
         with open(os.path.join(folder, "Invariants.antt"), "w", encoding="utf-8") as f:
             f.write("\n".join(out).rstrip("\n") + "\n")
     rest_own = [o for o in own if o not in used_in_inv]
+    lemmas = [l for l in (placed(t) for _, t in rest_own) if l]
+    ans = [(c, within(t, lemmas)) for c, t in ans]
+    rest_own = [o for o in rest_own if not placed(o[1])]
     if any("(ap not " in t for _, t in ans + rest_own):
         have = " ".join(keep)
         if not re.search(r"[{ ]ap[,}]", have):
