@@ -233,12 +233,13 @@ def opening(text):
 def placed(decl):
     """The parts of a lemma over a place alone: its name, its type, its parameters, its body and what it unfolds."""
     lines = decl.split("\n")
-    m = re.match(r"(?:(?:abbrev|unfoldable|pub) )*(\S+) : *\(c : goal\.\S+\) →\s*(.*)$", lines[0])
+    whole, i = lines[0], 1
+    while i < len(lines) and lines[i].startswith(" "):
+        whole, i = whole + " " + lines[i].strip(), i + 1
+    m = re.match(r"(?:(?:abbrev|unfoldable|pub) )*(\S+) : *\(c : goal\.\S+\)\s*→\s*(.*)$", whole)
     if not m:
         return None
-    name, typ, i = m[1], m[2], 1
-    while i < len(lines) and lines[i].startswith(" "):
-        typ, i = typ + " " + lines[i].strip(), i + 1
+    name, typ = m[1], m[2]
     unfold = []
     while i < len(lines) and lines[i].startswith("unfolding "):
         unfold += lines[i].split()[1:]
