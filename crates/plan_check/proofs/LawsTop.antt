@@ -81,5 +81,5 @@ module _ {S L : List ℕ} where
         top_pool_end i false j = C.refused (λ q t. let c = ap length (top_same q t).1 in let d = length-drop g.p L in let h = rd.held in eqb-false g.p (length L) j (omega arith))
 
 -- both statements of an answer
-pub told : {plan pool : List ℕ} {r : Bool} → Accepts plan pool r → Accepts plan pool r × ChecksPlan plan pool (refusal r)
-told a = (a, checks_of a)
+pub told : {plan pool : List ℕ} {r : Bool} → Accepts plan pool r → record { accepts : Accepts plan pool r; checks_plan : ChecksPlan plan pool (refusal r) }
+told a = record { accepts = a; checks_plan = checks_of a }

@@ -1,0 +1,27 @@
+-- `plan_check::check_plan` meets its contract.
+use borrow.Author.Rules.{rules}
+use Rattle.plan_check.proofs.LawsTop.{told, top_plan_long, top_pool_long, top_kind, top_start, top_stop, top_plan_rest, top_pool_end}
+use Rattle.plan_check.proofs.Steps.{read_of, none_of}
+use mathlib.Core.Path.{refl}
+use Rattle.plan_check.proofs.check_plan.Goals as goal
+
+pub returns-then-plan-gt-MAX_PLAN : goal.returns-then-plan-gt-MAX_PLAN
+returns-then-plan-gt-MAX_PLAN c = told (top_plan_long c.if-plan-gt-MAX_PLAN.true)
+
+pub returns-then-pool-gt-MAX_PLAN : goal.returns-then-pool-gt-MAX_PLAN
+returns-then-pool-gt-MAX_PLAN c = told (top_pool_long c.if-pool-gt-MAX_PLAN.true)
+
+pub returns-then-kind-ne-ROOT : goal.returns-then-kind-ne-ROOT
+returns-then-kind-ne-ROOT c = told (top_kind c.kind.ensures c.if-kind-ne-ROOT.true)
+
+pub segs-requires : goal.segs-requires
+segs-requires c = top_start c.kind.ensures c.if-kind-ne-ROOT.false c.if-plan-gt-MAX_PLAN.false c.if-pool-gt-MAX_PLAN.false
+
+pub returns-then-at-plan : goal.returns-then-at-plan
+returns-then-at-plan c = told (top_plan_rest c.kind.ensures c.if-kind-ne-ROOT.false c.if-plan-gt-MAX_PLAN.false c.if-pool-gt-MAX_PLAN.false (read_of c.segs.ensures c.in-Next.is) c.if-at-plan.true)
+
+pub returns-in-Stop : goal.returns-in-Stop
+returns-in-Stop c = told (top_stop c.kind.ensures c.if-kind-ne-ROOT.false (none_of c.segs.ensures c.in-Stop.is))
+
+pub returns-else-at-plan : goal.returns-else-at-plan
+returns-else-at-plan c = told (top_pool_end c.kind.ensures c.if-kind-ne-ROOT.false c.if-plan-gt-MAX_PLAN.false c.if-pool-gt-MAX_PLAN.false (read_of c.segs.ensures c.in-Next.is) c.if-at-plan.false _ refl)
