@@ -11,6 +11,7 @@ ghost use Rattle.definition.specs.Literals.{in_range};
 ghost use Rattle.slices.specs.Walks.{Inside};
 
 use slices::{Place, Walk};
+use std::io;
 
 const MAX_INT: i64 = 9007199254740991;
 
@@ -48,52 +49,50 @@ fn value(code: usize) -> i64
 }
 
 // Writes a code's bound: `_` for absent, `L` and `H` for the ends of the range.
-fn print_code(code: usize) -> bool {
+fn print_code(rt: &impl Print, code: usize) -> io::Result<()> {
     if code == 0 {
-        return io::write_all(1, b"_");
+        return print!(rt; "_");
     }
     if code == 10 {
-        return io::write_all(1, b"L");
+        return print!(rt; "L");
     }
     if code == 11 {
-        return io::write_all(1, b"H");
+        return print!(rt; "H");
     }
     if code < 5 {
-        io::write_all(1, b"-");
-        return io::print_decimal(1, 5 - code as u64);
+        return print!(rt; "-{}", 5 - code);
     }
-    io::print_decimal(1, code as u64 - 5)
+    print!(rt; "{}", code - 5)
 }
 
 // Writes a blank and a number.
-fn print_place(at: usize) -> bool {
-    io::write_all(1, b" ");
-    io::print_decimal(1, at as u64)
+fn print_place(rt: &impl Print, at: usize) -> io::Result<()> {
+    print!(rt; " {at}")
 }
 
 // Writes the places that are left of a walk.
-fn print_walk(n: usize, walk: Walk)
+fn print_walk(rt: &impl Print, n: usize, walk: Walk) -> io::Result<()>
     requires { (n ≤ max_nodes) × Inside n walk }
 {
     let mut w = walk;
     while 0 < w.left {
-        print_place(w.at);
+        print_place(rt, w.at)?;
         w = slices::next_place(w);
     }
+    Ok(())
 }
 
 // One line: a list's length, the bounds and the step, and what the slice selects.
-fn print_slice(n: usize, start: usize, stop: usize, step: usize)
+fn print_slice(rt: &impl Print, n: usize, start: usize, stop: usize, step: usize) -> io::Result<()>
     requires { n ≤ max_nodes }
 {
-    io::print_decimal(1, n as u64);
-    io::write_all(1, b" ");
-    print_code(start);
-    io::write_all(1, b":");
-    print_code(stop);
-    io::write_all(1, b":");
-    print_code(step);
-    io::write_all(1, b" ->");
+    print!(rt; "{n} ")?;
+    print_code(rt, start)?;
+    print!(rt; ":")?;
+    print_code(rt, stop)?;
+    print!(rt; ":")?;
+    print_code(rt, step)?;
+    print!(rt; " ->")?;
     let w = slices::slice_walk(
         n,
         start != 0,
@@ -103,44 +102,51 @@ fn print_slice(n: usize, start: usize, stop: usize, step: usize)
         step != 0,
         value(step),
     );
-    print_walk(n, w);
-    io::write_all(1, b"\n");
+    print_walk(rt, n, w)?;
+    println!(rt; "")
 }
 
 // One line: a list's length, the index, and what it selects.
-fn print_index(n: usize, code: usize)
+fn print_index(rt: &impl Print, n: usize, code: usize) -> io::Result<()>
     requires { n ≤ max_nodes }
 {
-    io::print_decimal(1, n as u64);
-    io::write_all(1, b" ");
-    print_code(code);
-    io::write_all(1, b" ->");
+    print!(rt; "{n} ")?;
+    print_code(rt, code)?;
+    print!(rt; " ->")?;
     match slices::index_place(n, value(code)) {
-        Place::At(k) => print_place(k),
-        Place::Nothing => true,
-    };
-    io::write_all(1, b"\n");
+        Place::At(k) => print_place(rt, k)?,
+        Place::Nothing => {}
+    }
+    println!(rt; "")
 }
 
 // Every index on every list: no index is absent.
-fn indices() {
+fn indices(rt: &impl Print) -> io::Result<()> {
     let mut t = 0;
     while t < INDICES {
-        print_index(t / GIVEN, t % GIVEN + 1);
+        print_index(rt, t / GIVEN, t % GIVEN + 1)?;
         t += 1;
     }
+    Ok(())
 }
 
 // Every slice on every list.
-fn all_slices() {
+fn all_slices(rt: &impl Print) -> io::Result<()> {
     let mut t = 0;
     while t < SLICES {
-        print_slice(t / TRIPLES, t / PAIRS % CODES, t / CODES % CODES, t % CODES);
+        print_slice(
+            rt,
+            t / TRIPLES,
+            t / PAIRS % CODES,
+            t / CODES % CODES,
+            t % CODES,
+        )?;
         t += 1;
     }
+    Ok(())
 }
 
-fn main() {
-    indices();
-    all_slices();
+fn main(rt: HostRuntime) -> io::Result<()> {
+    indices(&rt)?;
+    all_slices(&rt)
 }
