@@ -34,12 +34,12 @@ every_same (suc n) p q h = rw (every_same n p q (λ k l. h k (omega arith)), h n
 module _ (P L C : List ℕ) (n : ℕ) (b : Bool) (h : ChecksPlan P L (refusal b)) where
   -- o is the outcome, and there is no other
   abbrev Only : TallyOutcome → Type 0
-  Only o = Tallies P L C n o × ((o' : TallyOutcome) → Tallies P L C n o' → o' ≡ o)
+  Only o = record { answers : Tallies P L C n o; only : (o' : TallyOutcome) → Tallies P L C n o' → o' ≡ o }
 
   only : {m : ℕ} {o : TallyOutcome} → refusal b ≡ m → o ≡ tally_by m P C n → Only o
   only {m} {o} e f =
       let k : ChecksPlan P L m = subst (ChecksPlan P L) e h in
-      (record { checked = m; checks = k; is = f }, λ o' t. t.is ∙ ap (λ (z : ℕ). tally_by z P C n) (checks_one t.checks k) ∙ sym f)
+      record { answers = record { checked = m; checks = k; is = f }; only = λ o' t. t.is ∙ ap (λ (z : ℕ). tally_by z P C n) (checks_one t.checks k) ∙ sym f }
 
   pub not_taken : b ≡ false → Only (record { refusal = 11; counts = C; plans = n })
   not_taken e = only (ap refusal e) refl
