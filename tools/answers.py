@@ -52,6 +52,44 @@ def blocks(text):
     return head, uses, decls
 
 
+def clause(pre, f):
+    """The path within a requires of several clauses, which were a pair of the first and the rest, or a tuple."""
+    if not pre or len(pre) < 2 or not f or not f[0].isdigit():
+        return f
+    n, i, rest = len(pre), 0, f
+    if n > 2 and f[0] == "1" and len(f) > 1 and f[1] in ("0", "1") or n == 2 or f[0] == "0":
+        while rest and rest[0] == "1" and i < n - 1:
+            i, rest = i + 1, rest[1:]
+        if i < n - 1:
+            if not rest or rest[0] != "0":
+                return f
+            rest = rest[1:]
+        return [pre[i]] + rest
+    return [pre[int(f[0])]] + f[1:] if int(f[0]) < n else f
+
+
+def as_record(whole, fields):
+    """A tuple or nested pairs as a record of the fields, or None."""
+    if not fields or len(fields) < 2 or not (whole.startswith("(") and whole.endswith(")")) or not closes(whole):
+        return None
+    parts = [p.strip() for p in split(whole[1:-1])]
+    while len(parts) < len(fields) and len(parts) > 1 and parts[-1].startswith("(") and closes(parts[-1]) and len(split(parts[-1][1:-1])) > 1:
+        parts = parts[:-1] + [p.strip() for p in split(parts[-1][1:-1])]
+    if len(parts) != len(fields):
+        return None
+    return "record { " + "; ".join(f"{f} = {p}" for f, p in zip(fields, parts)) + " }"
+
+
+def closes(text):
+    """Whether the first parenthesis closes at the end."""
+    depth = 0
+    for i, ch in enumerate(text):
+        depth += (ch in "([{") - (ch in ")]}")
+        if depth == 0:
+            return i == len(text) - 1
+    return False
+
+
 class Names:
     def __init__(self, d):
         self.needs = {}
@@ -87,9 +125,19 @@ class Names:
         self.changed = d["changed"]
         self.pre = d["pre"]["fields"] if d["pre"] else None
         self.asked = d["asked"]
+        # The same by the new name of the goal; an older name may have a number behind it.
+        self.asked_by = {}
+        for old, new in d["needs"]:
+            for k in (old, re.sub(r"-\d+$", "", old), re.sub(r"\d*-requires", "-requires", re.sub(r"-\d+$", "", old))):
+                if k in d["asked"]:
+                    self.asked_by.setdefault(new, d["asked"][k])
         for place, row in zip(d["places"], d["clauses"]):
             if row:
                 self.clauses[norm(place[2][0])] = row
+
+    def member(self, new):
+        """Whether the goal is what a call within the cycle requires."""
+        return False
 
     def path(self, fields):
         """The new path of the fields below c."""
@@ -103,9 +151,7 @@ class Names:
         if key == "well_formed":
             return [key] + f[1:]
         if key in ("requires", "pre"):
-            if self.pre and len(f) > 1 and f[1].isdigit() and int(f[1]) < len(self.pre):
-                return ["requires", self.pre[int(f[1])]] + f[2:]
-            return ["requires"] + f[1:]
+            return ["requires"] + clause(self.pre, f[1:])
         for n in range(min(len(f), 5), 0, -1):
             hit = self.arms.get((key, tuple(f[1:n])))
             if hit and n > 1:
@@ -205,14 +251,19 @@ def answer(decl, old, new, names, measured, places):
     if root == "_":
         root = "c"
     rest = inline(rest, names, root, places)
-    fields = names.asked.get(new)
+    fields = names.asked.get(new) or names.asked_by.get(new)
     whole = rest.strip()
     if fields and len(fields) > 1 and whole.endswith(")"):
         at = opening(whole)
-        before = whole[:at]
-        parts = split(whole[at + 1 : -1])
-        if (not before or re.search(r"\bin\s+$", before)) and len(parts) == len(fields):
-            rest = before + "record { " + "; ".join(f"{f} = {p.strip()}" for f, p in zip(fields, parts)) + " }"
+        before, tuple_ = whole[:at], whole[at:]
+        if not before or re.search(r"\bin\s+$", before):
+            if measured and names.member(new):
+                parts = [p.strip() for p in split(tuple_[1:-1])]
+                second = as_record(parts[1], fields) if len(parts) == 2 else None
+                rest = f"{before}({parts[0]}, {second})" if second else rest
+            else:
+                tuple_ = as_record(tuple_, fields)
+                rest = before + tuple_ if tuple_ else rest
     more = "".join(" " + x for x in params[1:] if x != "κs")
     head = f"{new} {'t ' if measured else ''}{root}{more} ="
     sep = "\n" if rest.startswith(" ") or "\n" in rest else " "

@@ -21,16 +21,18 @@ from answers import Names, W, answer, blocks, invariant, norm, PREFIX
 class CycleNames(Names):
     """In a cycle the older `requires` is the pair of the measure's equation and what the member asks."""
 
+    members = ()
+
+    def member(self, new):
+        return any(norm(new).startswith(norm(m) + "_") for m in self.members)
+
     def path(self, fields):
         f = [x for x in fields if x != "before"]
         if f and norm(f[0]) in ("requires", "pre"):
             if len(f) > 1 and f[1] == "0":
                 return ["decreases"] + f[2:]
             if len(f) > 1 and f[1] == "1":
-                rest = f[2:]
-                if self.pre and rest and rest[0].isdigit() and int(rest[0]) < len(self.pre):
-                    return ["requires", self.pre[int(rest[0])]] + rest[1:]
-                return ["requires"] + rest
+                return ["requires"] + answers.clause(self.pre, f[2:])
         return Names.path(self, fields)
 
 
@@ -66,8 +68,7 @@ def member_measures(folder):
     for f in sorted(os.listdir(folder)):
         t = open(os.path.join(folder, f), encoding="utf-8").read()
         for m in re.finditer(r"^μ-(\S+) κs a = *((?:.*\n)(?: .*\n)*)", t, re.M):
-            if not m[1].startswith("loop"):
-                found[m[1]] = m[2].rstrip()
+            found[m[1]] = m[2].rstrip()
         if not re.search(r"\.Lts-\S+ as lts", t):
             bases.append((f, t))
     return found, bases
@@ -113,6 +114,7 @@ def turn(folder, crate, names_all):
             print("no names for", rel, member)
             return False
         names = CycleNames(d)
+        names.members = tuple(members)
         stem = d.get("stem") or ""
         text, timed = outside(t)
         more = r"(?: (?:Inv|μ)-loop\w*)*"
