@@ -287,7 +287,7 @@ def placed(decl):
     whole, i = lines[0], 1
     while i < len(lines) and lines[i].startswith(" "):
         whole, i = whole + " " + lines[i].strip(), i + 1
-    m = re.match(r"(?:(?:abbrev|unfoldable|pub) )*(\S+) : *\(c : goal\.\S+\)\s*→\s*(.*)$", whole)
+    m = re.match(r"(?:(?:abbrev|unfoldable|pub) )*(\S+) : *\(c : goal\.[^\s()]+\)\s*(?:→\s*)?(.*)$", whole)
     if not m:
         return None
     name, typ = m[1], m[2]
