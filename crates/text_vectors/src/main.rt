@@ -7,6 +7,9 @@
 
 ghost use Rattle.std.specs.Prelude.{◌+◌, ◌*◌, ◌^◌, ◌≤◌, ◌<◌, length};
 
+use program_console::{input, output, rooms};
+use std::io;
+
 // Bytes at which a rule for characters of three bytes changes, with some on either side.
 const EDGES3: [u8; 16] = [
     0x7F, 0x80, 0x8F, 0x90, 0x9F, 0xA0, 0xBF, 0xC0, 0xC2, 0xDF, 0xE0, 0xEC, 0xED, 0xEE, 0xEF, 0xF4,
@@ -84,56 +87,56 @@ fn put_digits(out: &mut [u8], alphabet: &[u8], k: usize, v: usize)
 }
 
 // A line of digits of the texts from number v on is written.
-fn line(alphabet: &[u8], k: usize, v: usize)
+fn line(rt: &impl Print, alphabet: &[u8], k: usize, v: usize) -> io::Result<()>
     requires { (k ≤ 4) × (0 < length alphabet.now) × (v < 2 ^ 31) }
 {
     let mut out = [b'\n'; 65];
     put_digits(&mut out, alphabet, k, v);
-    io::write_all(1, &out);
+    output::text(rt, &out)
 }
 
 // The lines of all texts of k bytes over an alphabet, of which there are as many as `lines` hold.
-fn sweep(alphabet: &[u8], k: usize, lines: usize)
+fn sweep(rt: &impl Print, alphabet: &[u8], k: usize, lines: usize) -> io::Result<()>
     requires { (k ≤ 4) × (0 < length alphabet.now) × (lines ≤ 256) }
 {
     let mut i = 0;
     while i < lines {
-        line(alphabet, k, i * PER_LINE);
+        line(rt, alphabet, k, i * PER_LINE)?;
         i += 1;
     }
+    Ok(())
 }
 
 // The verdict on a query is written: the refusal 2 or 3, or none of the two.
-fn verdict(query: &[u8]) {
+fn verdict(rt: &impl Print, query: &[u8]) -> io::Result<()> {
     if !text::encoding::is_utf8(query) {
-        io::write_all(1, b"refused 2\n");
-        return;
+        return output::text(rt, b"refused 2\n");
     }
     if text::brackets::too_deep(query) {
-        io::write_all(1, b"refused 3\n");
-        return;
+        return output::text(rt, b"refused 3\n");
     }
-    io::write_all(1, b"passed\n");
+    output::text(rt, b"passed\n")
 }
 
 // The verdict on each line of the input.
-fn verdicts(s: &[u8]) {
+fn verdicts(rt: &impl Print, s: &[u8]) -> io::Result<()> {
     let mut at = 0;
     while at < s.len() {
         let e = program_lines::find(s, at, s.len(), b'\n');
-        verdict(&s[at..e]);
+        verdict(rt, &s[at..e])?;
         at = e + 1;
     }
+    Ok(())
 }
 
-fn main() {
+fn main(rt: HostRuntime) -> io::Result<()> {
     let mut all = [0u8; 256];
     put_all(&mut all);
-    sweep(&all, 1, 1);
-    sweep(&all, 2, 256);
-    sweep(&EDGES3, 3, 16);
-    sweep(&EDGES4, 4, 256);
-    let mut input = io::large_buffer();
-    let n = io::read_full(0, &mut input);
-    verdicts(&input[..n]);
+    sweep(&rt, &all, 1, 1)?;
+    sweep(&rt, &all, 2, 256)?;
+    sweep(&rt, &EDGES3, 3, 16)?;
+    sweep(&rt, &EDGES4, 4, 256)?;
+    let mut room = rooms::large_buffer();
+    let n = input::full(&mut rt.reader(), &mut room)?;
+    verdicts(&rt, &room[..n])
 }
