@@ -506,6 +506,8 @@ def main(argv):
                 continue
             if "tie.close" in t and "Tie as tie" in t:
                 n += turn(p, crate, names_all)
+            elif last.startswith("+") and "Proof" in dirs:
+                print("a cycle of calls, for tools/cycles.py:", p)
             elif last.startswith("+") and "Tie.{close}" in t:
                 n += bool(single(p, crate, names_all))
             else:
