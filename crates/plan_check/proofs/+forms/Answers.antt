@@ -1,17 +1,14 @@
 -- The answers of the cycle of calls {base, basis, framed, more, oper, segs, sel, sels, side, test}.
-use Prim.Native.Nat.{ℕ, ◌<◌, ◌+◌, ◌-◌, ◌*◌}
-use lib.ListN.{length}
-use Rattle.plan_check.proofs.LawsTest.{base_none, base_side, base_tested, GoMore, more_start, more_end, more_deep, more_not, more_none, more_behind, more_stop, more_right, RightOf, test_none, test_more}
+use Prim.Native.Nat.{ℕ, ◌+◌}
+use Rattle.plan_check.proofs.LawsTest.{base_none, base_side, base_tested, more_start, more_end, more_deep, more_not, more_none, more_behind, more_stop, more_right, test_none, test_more}
 use Rattle.plan_check.proofs.Steps.{read_of, none_of, low_of, short_of, asks_on, small_read, small_none}
 use Rattle.plan_items.proofs.Words.{kind_in_at}
-use borrow.Author.Rules.{rules}
 use native.Mathlib.Omega.{arith}
 use Rattle.plan_check.proofs.LawsOper.{basis_root, basis_current, basis_literal_lem, oper_next, oper_none, relation_small, side_flat, side_none, side_plural, side_unasked, side_deep, side_found}
-use Rattle.plan_check.proofs.LawsSel.{sel_start, lent_long, framed_short, framed_flat, framed_long, framed_start, framed_none, framed_found, sel_name, sel_index, sel_slice, sel_filter, sel_within, sel_wildcard, sel_none, GoSels, sels_start, sels_none, sels_last, sels_more}
+use Rattle.plan_check.proofs.LawsSel.{sel_start, lent_long, framed_short, framed_flat, framed_long, framed_start, framed_none, framed_found, sel_name, sel_index, sel_slice, sel_filter, sel_within, sel_wildcard, sel_none, sels_start, sels_none, sels_last, sels_more}
 use mathlib.Core.Path.{refl, ap}
-use mathlib.Core.Logic.{⊎_elim}
 use mathlib.Core.Bool.{true, false}
-use Rattle.plan_check.proofs.LawsSegs.{sort_of_lem, GoSegs, segs_start, segs_end, segs_none, segs_short, segs_zero, segs_stop, segs_more, SegmentKind, segs_behind}
+use Rattle.plan_check.proofs.LawsSegs.{sort_of_lem, segs_start, segs_end, segs_none, segs_short, segs_zero, segs_stop, segs_more, segs_behind}
 use Rattle.plan_check.proofs.+forms.Goals as goal
 use Rattle.plan_check.proofs.+forms.Goals.{more-then-k-ne-AND+else-k-ne-OR, more-else-k-ne-AND, segs-then-k-ne-CHILD+else-k-ne-DESCENDANT, segs-else-k-ne-CHILD}
 

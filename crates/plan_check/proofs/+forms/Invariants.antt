@@ -1,15 +1,9 @@
 -- The measures and invariants of the cycle of calls {base, basis, framed, more, oper, segs, sel, sels, side, test}.
-use Prim.Native.Nat.{ℕ, ◌<◌, ◌+◌, ◌-◌, ◌*◌}
+use Prim.Native.Nat.{◌+◌, ◌-◌, ◌*◌}
 use lib.ListN.{length}
-use Rattle.plan_check.proofs.LawsTest.{GoMore, more_start, more_end, more_deep, more_not, more_none, more_behind, more_stop, more_right, RightOf}
-use Rattle.plan_check.proofs.Steps.{read_of, none_of}
-use Rattle.plan_items.proofs.Words.{kind_in_at}
-use borrow.Author.Rules.{rules}
-use mathlib.Core.Logic.{⊎_elim}
-use mathlib.Core.Bool.{true, false}
-use native.Mathlib.Omega.{arith}
-use Rattle.plan_check.proofs.LawsSegs.{sort_of_lem, GoSegs, segs_start, segs_end, segs_none, segs_short, segs_zero, segs_stop, segs_more, SegmentKind, segs_behind}
-use Rattle.plan_check.proofs.LawsSel.{GoSels, sels_start, sels_none, sels_last, sels_more}
+use Rattle.plan_check.proofs.LawsTest.{GoMore}
+use Rattle.plan_check.proofs.LawsSegs.{GoSegs}
+use Rattle.plan_check.proofs.LawsSel.{GoSels}
 use Rattle.plan_check.proofs.+forms.Given as goal
 
 abbrev pub decreases-base : goal.decreases-base

@@ -1,5 +1,4 @@
 -- `plan_check::check_plan` meets its contract.
-use borrow.Author.Rules.{rules}
 use Rattle.plan_check.proofs.LawsTop.{told, top_plan_long, top_pool_long, top_kind, top_start, top_stop, top_plan_rest, top_pool_end}
 use Rattle.plan_check.proofs.Steps.{read_of, none_of}
 use mathlib.Core.Path.{refl}

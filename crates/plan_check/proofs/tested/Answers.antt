@@ -1,5 +1,4 @@
 -- `plan_check::tested` meets its contract.
-use borrow.Author.Rules.{rules}
 use Rattle.plan_check.proofs.LawsTest.{tested_literal, tested_alone, tested_deep, tested_value_lem}
 use Rattle.plan_check.specs.Loops.{tested_query}
 use Rattle.plan_check.proofs.tested.Goals as goal

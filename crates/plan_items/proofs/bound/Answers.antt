@@ -1,5 +1,4 @@
 -- `plan_items::bound` meets its contract.
-use borrow.Author.Rules.{rules}
 use Rattle.plan_items.proofs.Sliced.{bound_absent, bound_given}
 use mathlib.Core.Path.{refl, sym}
 use native.Mathlib.Omega.{arith}

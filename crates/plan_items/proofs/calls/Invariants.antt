@@ -1,12 +1,7 @@
 -- `plan_items::calls` meets its contract.
-use borrow.Author.Rules.{rules}
-use Rattle.plan_items.proofs.Called.{Going, going_start, going_below, going_above, going_refused, going_deep, going_more}
-use Rattle.plan_items.proofs.Words.{kind_in}
-use borrow.Author.Tests.{not-true, not-false}
+use Rattle.plan_items.proofs.Called.{Going}
 use lib.ListN.{length}
 use Prim.Native.Nat.{◌-◌}
-use mathlib.Core.Path.{sym, ◌∙◌}
-use native.Mathlib.Omega.{arith}
 use Rattle.plan_items.proofs.calls.Given as goal
 
 abbrev pub invariant-loop-room : goal.invariant-loop-room

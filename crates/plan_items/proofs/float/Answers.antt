@@ -1,5 +1,4 @@
 -- `plan_items::float` meets its contract.
-use borrow.Author.Rules.{rules}
 use Rattle.plan_items.proofs.Laws.{float_short, float_wrong, float_found}
 use borrow.Author.Tests.{not-true, not-false}
 use mathlib.Core.Path.{sym, ◌∙◌}

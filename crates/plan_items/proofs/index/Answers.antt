@@ -1,5 +1,4 @@
 -- `plan_items::index` meets its contract.
-use borrow.Author.Rules.{rules}
 use Rattle.plan_items.proofs.Laws.{integer_short, integer_wrong, integer_found}
 use Rattle.definition.specs.Literals.{in_range}
 use Rattle.definition_bytes.specs.Numbers.{range_inside}

@@ -1,5 +1,4 @@
 -- `plan_items::integer` meets its contract.
-use borrow.Author.Rules.{rules}
 use Rattle.plan_items.proofs.Laws.{integer_short, integer_found, signed_inside}
 use Rattle.definition.specs.QueryForms.{inside_i64}
 use native.Mathlib.Omega.{arith}

@@ -1,5 +1,4 @@
 -- `plan_items::kind` meets its contract.
-use borrow.Author.Rules.{rules}
 use Rattle.plan_items.proofs.Words.{kind_byte, kind_end}
 use native.Mathlib.Omega.{arith}
 use Rattle.plan_items.proofs.kind.Goals as goal

@@ -1,5 +1,4 @@
 -- `plan_items::literal` meets its contract.
-use borrow.Author.Rules.{rules}
 use Rattle.plan_items.proofs.Words.{kind_in_at}
 use Rattle.plan_items.proofs.Called.{literal_integer, literal_float, literal_text, literal_constant, literal_none}
 use native.Mathlib.Omega.{arith}

@@ -1,5 +1,4 @@
 -- `plan_items::relation` meets its contract.
-use borrow.Author.Rules.{rules}
 use Rattle.plan_items.proofs.Words.{kind_in_at}
 use Rattle.plan_items.proofs.Related.{relation_compares, relation_match, relation_search, relation_none}
 use native.Mathlib.Omega.{arith}

@@ -1,5 +1,4 @@
 -- `plan_items::slice` meets its contract.
-use borrow.Author.Rules.{rules}
 use Rattle.plan_items.proofs.Sliced.{slice_short, slice_flags, slice_start_lem, slice_stop_lem, slice_step_lem, slice_found, bound_of, no_bound_of}
 use borrow.Author.Tests.{not-true, not-false}
 use native.Mathlib.Omega.{arith}

@@ -1,5 +1,4 @@
 -- `plan_items::small` meets its contract.
-use borrow.Author.Rules.{rules}
 use Rattle.plan_items.proofs.Laws.{small_short, small_wrong, small_found}
 use native.Mathlib.Omega.{arith}
 use Rattle.plan_items.proofs.small.Goals as goal

@@ -1,5 +1,4 @@
 -- `plan_items::text` meets its contract.
-use borrow.Author.Rules.{rules}
 use Rattle.plan_items.proofs.Laws.{text_short, text_elsewhere, text_long, text_wrong, text_found}
 use borrow.Author.Tests.{not-true, not-false}
 use mathlib.Core.Path.{sym, ◌∙◌}

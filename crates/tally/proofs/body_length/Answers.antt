@@ -2,7 +2,6 @@
 use native.Mathlib.Omega.{arith}
 use mathlib.Core.Path.{sym, ◌∙◌}
 use Rattle.tally.proofs.Laws.{body_two, body_four, body_eight, body_one, body_slice, body_none}
-use borrow.Author.Rules.{rules}
 use Rattle.tally.proofs.body_length.Goals as goal
 
 pub returns-then-has_two : goal.returns-then-has_two

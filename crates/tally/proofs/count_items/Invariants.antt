@@ -1,10 +1,7 @@
 -- `tally::count_items` meets its contract: what was counted and what is left come to all items.
-use native.Mathlib.Omega.{arith}
-use mathlib.Core.Path.{refl}
 use Prim.Native.Nat.{◌+◌, ◌-◌, ◌≤◌}
-use lib.ListN.{length, get_or}
-use Rattle.tally.proofs.Laws.{Going, going_start, going_on, going_end}
-use borrow.Author.Rules.{rules}
+use lib.ListN.{length}
+use Rattle.tally.proofs.Laws.{Going}
 use Rattle.tally.proofs.count_items.Given as goal
 
 abbrev pub invariant-loop-at : goal.invariant-loop-at

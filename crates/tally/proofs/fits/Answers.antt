@@ -2,14 +2,13 @@
 use native.Mathlib.Omega.{arith}
 use mathlib.Core.Path.{◌≡◌, sym, subst}
 use mathlib.Core.Bool.{true}
-use Prim.Native.Nat.{ℕ, ◌+◌, ◌-◌, ◌≤◌}
+use Prim.Native.Nat.{ℕ, ◌+◌}
 use lib.Dec.{leb}
 use lib.ListN.{get_or}
 use borrow.Author.Tests.{le-leb, lt-leb}
 use Rattle.definition.specs.Limits.{max_int}
 use Rattle.tally_laws.specs.Tallies.{every_below}
 use Rattle.tally.proofs.Laws.{every_none, every_more, every_not}
-use borrow.Author.Rules.{rules}
 use Rattle.tally.proofs.fits.Goals as goal
 
 pub loop-i-init : goal.loop-i-init

@@ -1,15 +1,11 @@
 -- `tally::fits` meets its contract: no sum below the present place passes the largest count.
-use native.Mathlib.Omega.{arith}
-use mathlib.Core.Path.{◌≡◌, sym, subst}
+use mathlib.Core.Path.{◌≡◌}
 use mathlib.Core.Bool.{true}
-use Prim.Native.Nat.{ℕ, ◌+◌, ◌-◌, ◌≤◌}
+use Prim.Native.Nat.{◌+◌, ◌-◌, ◌≤◌}
 use lib.Dec.{leb}
 use lib.ListN.{get_or}
-use borrow.Author.Tests.{le-leb, lt-leb}
 use Rattle.definition.specs.Limits.{max_int}
 use Rattle.tally_laws.specs.Tallies.{every_below}
-use Rattle.tally.proofs.Laws.{every_none, every_more, every_not}
-use borrow.Author.Rules.{rules}
 use Rattle.tally.proofs.fits.Given as goal
 
 abbrev pub invariant-loop-i : goal.invariant-loop-i

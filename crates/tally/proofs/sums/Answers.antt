@@ -1,13 +1,12 @@
 -- `tally::sums` meets its contract: the sums stand below the present place.
 use native.Mathlib.Omega.{arith}
 use mathlib.Core.Path.{sym}
-use Prim.Native.Nat.{◌+◌, ◌-◌, ◌≤◌}
+use Prim.Native.Nat.{◌+◌}
 use lib.Dec.{leb}
 use lib.ListN.{get_or}
 use borrow.Author.Tests.{leb-true}
 use Rattle.definition.specs.Limits.{max_int}
-use Rattle.tally.proofs.Laws.{every_at, Adding, adding_start, adding_on, adding_end}
-use borrow.Author.Rules.{rules}
+use Rattle.tally.proofs.Laws.{every_at, adding_start, adding_on, adding_end}
 use Rattle.tally.proofs.sums.Goals as goal
 
 pub loop-i-init : goal.loop-i-init

@@ -1,7 +1,6 @@
 -- `tally::tally` meets its contract: one outcome for each input.
 use mathlib.Core.Path.{sym, ◌∙◌}
 use Rattle.tally.proofs.Outcomes.{plan_short, not_taken, too_many, no_room, taken}
-use borrow.Author.Rules.{rules}
 use Rattle.tally.proofs.tally.Goals as goal
 
 pub returns-then-not-check_plan : goal.returns-then-not-check_plan
