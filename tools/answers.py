@@ -18,6 +18,9 @@ norm = lambda s: s.replace("-", "_")
 PREFIX = re.compile(r"^(overflow|nonzero|offset|slice)[-_](?!of)")
 
 
+REST = re.compile(r"(?<![\w.'-])[\w'-]+\.in[-_][\w-]+\.rest(?:\.[01])+(?![\w.])")
+
+
 def blocks(text):
     """The header's comment lines, the use lines, and the declarations, each with the comment lines above it."""
     lines = text.rstrip("\n").split("\n")
@@ -389,6 +392,55 @@ def invariant(decl, old, kind, names, measured):
     return f"abbrev pub {name} : goal.{name}\n" + "".join(u + "\n" for u in unfold) + f"{name} {t}l =" + pad
 
 
+def inline_own(own, ans):
+    """A lemma over a place stands in the answers that use it, since a place may have no name of its own any more."""
+    out, lemmas = [], []
+    for comments, t in own:
+        m = re.match(r"(?:(?:abbrev|unfoldable|pub) )*(\S+) : \((\S+) : goal\.\S+\) →\s*", t)
+        lines = t.split("\n")
+        if not m:
+            out.append((comments, t))
+            continue
+        name = m[1]
+        rest = t[m.end():]
+        d = re.search(r"^" + re.escape(name) + r"((?: [^\s=]+)*) =\s*", rest, re.M)
+        if not d or "\nunfolding" in rest or len(re.findall(r"^" + re.escape(name) + r" ", rest, re.M)) > 1:
+            out.append((comments, t))
+            continue
+        typ, params, body = rest[: d.start()].strip(), d[1].split(), rest[d.end():].strip()
+        for prev in lemmas:
+            body = put_lemma(body, prev, d[1].split()[0])
+        if len(params) > 1:
+            body = "λ " + " ".join(params[1:]) + ". " + body
+        lemmas.append((name, m[2], params[0], typ, body))
+    ans2 = []
+    for comments, t in ans:
+        for lemma in reversed(lemmas):
+            lines = t.split("\n")
+            for i, l in enumerate(lines):
+                m = re.match(r"\S+ (?:t )?(\S+)(?: \S+)* =", l)
+                if i and m and not l.startswith("unfolding"):
+                    body = "\n".join(lines[i:])[m.end():]
+                    new = put_lemma(body.strip(), lemma, m[1])
+                    if new != body.strip():
+                        t = "\n".join(lines[:i] + [m[0] + "\n    " + new])
+                    break
+        ans2.append((comments, t))
+    return out, ans2
+
+
+def put_lemma(body, lemma, root):
+    name, var, param, typ, text = lemma
+    call = r"(?<![\w.'-])" + re.escape(name) + r" " + re.escape(root) + r"(?:\.before)*(?![\w.'-])"
+    if not re.search(call, body):
+        return body
+    short = re.sub(r"\(" + call + r"\)", name, body)
+    short = re.sub(call, name, short)
+    sub = lambda t, v: re.sub(r"(?<![\w.'-])" + re.escape(v) + r"(?=\.)", root, t)
+    flat = lambda t: re.sub(r"\s*\n\s*", " ", t) if "record" not in t else t
+    return f"let {name} : {flat(sub(typ, var))} = {flat(sub(text, param))} in\n    {short}"
+
+
 def plain_uses(uses, drop):
     return [u for u in uses if not (re.search(r"\.(Statement|Tie|Reads|Kinds)\b|\.\+\w+(\.|$)", u) and ".specs." not in u) and not re.search(r"borrow\.Fn\.", u)]
 
@@ -451,7 +503,13 @@ def turn(path, crate, names_all, measured=False):
                 text_of = re.sub(r"\b(?:tie|lts)\.([\w-]+)(?: (?:invariant|decreases)-loop\w*)*", lambda m: "goal." + names.place.get(norm(m[1]), m[1]), text_of)
                 text_of = inline(text_of, names, "c", True)
             own.append((comments, text_of))
+    own, ans = inline_own(own, ans)
     keep = plain_uses(uses, crate)
+    # That a number is none of an earlier arm's has no name any more, but a tactic finds it.
+    if any(REST.search(t) for _, t in ans):
+        ans = [(c, REST.sub("(λ e. omega arith)", t)) for c, t in ans]
+        if not re.search(r"[{ ]arith[,}]", " ".join(keep)):
+            keep = keep + ["use native.Mathlib.Omega.{arith}"]
     where = f"Rattle.{crate}.proofs.{rel}"
     intro = [re.sub(r" Assumes nothing\.$", "", h) for h in head]
     used_in_inv = [o for o in own if any(re.search(r"(?<![\w-])" + re.escape(re.match(r"(?:(?:abbrev|unfoldable|pub) )*(\S+)", o[1])[1]) + r"(?![\w-])", t) for _, t in inv)]
