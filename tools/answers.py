@@ -155,7 +155,7 @@ class Names:
             return [key] + f[1:]
         if key in ("requires", "pre"):
             return ["requires"] + clause(self.pre, f[1:])
-        for n in range(min(len(f), 5), 0, -1):
+        for n in range(min(len(f), 40), 0, -1):
             hit = self.arms.get((key, tuple(f[1:n])))
             if hit and n > 1:
                 return hit.split(".") + f[n:]
