@@ -4,7 +4,7 @@
 #   tools/program.sh bin/NAME [ARGUMENT...]
 #
 # A line that begins with a byte order mark or ends in a carriage return is told of and ends the run: a program would take these bytes for a part of the line.
-# Programs are for x86-64, and run under the toolchain's own loader; on another processor the toolchain has an emulator beside its compiler.
+# Programs are for Linux on x86-64, as the toolchain is.
 set -euo pipefail
 root=$(cd "$(dirname "$0")/.." && pwd -P)
 script=$1 name=$(basename "$1")
@@ -20,11 +20,8 @@ fi
 "$root/tools/prove.sh" "$name"
 [ ! -t 0 ] || head_of_script >&2
 
-tools=$(dirname "$(dirname "$(rt doc)")")/on/$(uname -m)/toolchain
-emulator=$tools/bin/qemu-x86_64
-[ -x "$emulator" ] || emulator=''
 set +e
-LC_ALL=C sed -u -e '/^\xEF\xBB\xBF/Q3' -e '/\r$/Q4' | ${emulator:+"$emulator"} "$tools/lib/ld-linux-x86-64.so.2" --library-path "$tools/lib" "$root/target/bin/$name"
+LC_ALL=C sed -u -e '/^\xEF\xBB\xBF/Q3' -e '/\r$/Q4' | "$root/crates/$name/out/$name"
 ended=("${PIPESTATUS[@]}")
 case ${ended[0]} in
 3) echo "bin/$name: the next line begins with a byte order mark (the bytes EF BB BF), which is no part of it. Save the file as UTF-8 without one. The lines before it are answered." >&2 ;;

@@ -4,7 +4,8 @@
 #   tools/prove.sh NAME...
 #   tools/prove.sh --needed NAME...      only lists them, one to a line
 #
-# It writes to standard error alone. What the prover prints is kept in target/prove.log. A program among the crates is built, and run on its stored input.
+# It writes to standard error alone. What the prover prints is kept in target/prove.log. Of a program among the named crates it makes crates/NAME/out/NAME, and runs it
+# on no input; `rt ci` runs each on its stored input.
 set -euo pipefail
 cd "$(dirname "$0")/.."
 source tools/progress.sh
@@ -31,44 +32,46 @@ if [ "$1" = --needed ]; then
     exit
 fi
 command -v rt >/dev/null || { echo "The Rattle toolchain is needed, and there is no rt on the PATH." >&2; exit 2; }
-mkdir -p target/log target/stamp
+mkdir -p target
 log=target/prove.log
-mark=target/prove.mark
+for name in "$@"; do [ -d "crates/$name" ] || { echo "There is no crate $name." >&2; exit 2; }; done
 
 crates=$(needed "$@")
 total=$(wc -l <<<"$crates")
+# What was never proved in this clone; what has changed since is found by rt.
 missing=0
-for crate in $crates; do [ -f "target/stamp/$crate" ] || missing=$((missing + 1)); done
+for crate in $crates; do [ -d "crates/$crate/out" ] || missing=$((missing + 1)); done
 if [ "$missing" -gt 0 ]; then
-    echo "$missing of $total crates are to be proved first. From nothing this takes some 13 minutes; when nothing has changed, a second." >&2
+    echo "$missing of $total crates are to be proved first. From nothing this takes long (README.md); when nothing has changed, some seconds." >&2
     echo "The prover's log is $log." >&2
 fi
 
-# A crate's file target/log/NAME.out is begun when its turn comes, and stays empty until its proof has ended. It has a stamp once it is proved and, if it is a
-# program, was run.
-progress() {
-    local crate ended=0 proving='' running=''
-    for crate in $crates; do
-        [ "target/log/$crate.out" -nt "$mark" ] || continue
-        if [ -s "target/log/$crate.out" ]; then
-            ended=$((ended + 1))
-            [ -f "target/stamp/$crate" ] || running="$running $crate"
-        else
-            [ -f "target/stamp/$crate" ] || proving="$proving $crate"
-        fi
+# Each crate by `rt check` in its folder, which proves first what it needs, and a program by `rt run`, which builds it too.
+prove() {
+    local name verb
+    for name in "$@"; do
+        verb=check
+        [ ! -f "crates/$name/src/main.rt" ] || verb=run
+        (cd "crates/$name" && rt $verb) || return
     done
-    if [ -n "$proving" ]; then
-        line "$ended of $total crates, $(minutes $SECONDS), proving$proving"
-    elif [ $ended -eq "$total" ] && [ -n "$running" ]; then
-        line "$ended of $total crates, $(minutes $SECONDS), running$running on stored input"
+}
+
+# rt takes what a crate needs in the order of `needed`, and names each that it proves anew.
+progress() {
+    local proving before
+    proving=$(sed -n 's/^rt: chose --jobs [0-9]* for //p' "$log" | tail -n 1)
+    before=$(grep -nx "${proving:-.}" <<<"$crates" | head -n 1 | cut -d: -f1) || before=
+    if [ -n "$before" ]; then
+        line "$((before - 1)) of $total crates, $(minutes $SECONDS), proving $proving"
+    else
+        line "$total crates, $(minutes $SECONDS), reading them"
     fi
 }
 
-touch "$mark"
 status=0
-watched "$log" rt check "$@" || status=$?
+watched "$log" prove "$@" || status=$?
 if [ $status -ne 0 ]; then
-    grep -E '^rt: .*(NOT PROVED|FAILED)|: error' "$log" | awk 'NR <= 10 { print substr($0, 1, 240) }' >&2 || tail -n 5 "$log" >&2
+    grep -E '(^|: )error|: not proved|: no proof|^rt: ' "$log" | grep -v '^rt: chose' | awk 'NR <= 10 { print substr($0, 1, 240) }' >&2 || tail -n 5 "$log" >&2
     echo "Not proved. The whole log is $log." >&2
 elif [ $SECONDS -ge 5 ]; then
     echo "$total crates are proved, in $(minutes $SECONDS)." >&2

@@ -84,7 +84,7 @@ def below(modules):
         module = todo.pop()
         if module not in all_of:
             all_of.add(module)
-            todo += re.findall(r"^use Rattle·definition_examples·specs\.specs\.(\w+)", read(os.path.join(ROOT, EXAMPLES, module + ".antt")), re.M)
+            todo += re.findall(r"^use Rattle\.definition_examples\.specs\.(\w+)", read(os.path.join(ROOT, EXAMPLES, module + ".antt")), re.M)
     return all_of
 
 
@@ -100,21 +100,36 @@ def keep(where, modules):
     write(os.path.join(where, EXAMPLES, "Lib.antt"), "".join(f"{line}\n" for line in lines if line[len("pub mod "):] in modules))
 
 
+def check(where, crate):
+    """The first place that refuses a crate of the copy or one below it, as CRATE/FILE:LINE, or None."""
+    ran = subprocess.run(["rt", "check"], cwd=os.path.join(where, "crates", crate), stdout=subprocess.PIPE, stderr=subprocess.STDOUT, text=True)
+    if not ran.returncode:
+        return None
+    for line in ran.stdout.splitlines():
+        # rt names the crate whose turn it is, and then the files by their place in it
+        begun = re.match(r"rt: chose --jobs \d+ for (\w+)", line)
+        place = re.match(r"(?:\S*/crates/(\w+)/|\./)?((?:src|specs|proofs)/\S*?:\d+)\S*: error", line)
+        if place:
+            return f"{place[1] or crate}/{place[2]}"
+        crate = begun[1] if begun else crate
+    return ran.stdout.strip().splitlines()[-1]
+
+
 def refused_by(where, module):
     """The first place that refuses the copy with an edit of a module, or None."""
     every = {line[len("pub mod "):] for line in read(os.path.join(ROOT, EXAMPLES, "Lib.antt")).splitlines()}
     steps = (
-        (below([FIRST[module]]), ["dev", "definition_examples"]),
-        (every - {SLOW}, ["check", "definition_examples"]),
-        (every - {SLOW}, ["check", "standards", "laws"]),
-        (every, ["check", "definition_examples"]),
+        (below([FIRST[module]]), ["definition_examples"]),
+        (every - {SLOW}, ["definition_examples"]),
+        (every - {SLOW}, ["definition_standards", "definition_laws"]),
+        (every, ["definition_examples"]),
     )
-    for modules, words in steps:
+    for modules, crates in steps:
         keep(where, modules)
-        ran = subprocess.run(["rt", *words], cwd=where, stdout=subprocess.PIPE, stderr=subprocess.STDOUT, text=True)
-        if ran.returncode:
-            place = re.search(r"crates/([\w/]*\.antt:\d+)\S*: error", ran.stdout)
-            return place[1] if place else ran.stdout.strip().splitlines()[-1]
+        for crate in crates:
+            place = check(where, crate)
+            if place:
+                return place
     return None
 
 
