@@ -60,6 +60,8 @@ def clause(pre, f):
     if not pre or len(pre) < 2 or not f or not f[0].isdigit():
         return f
     n, i, rest = len(pre), 0, f
+    if n > 2 and f == ["1"]:
+        return f
     if n > 2 and f[0] == "1" and len(f) > 1 and f[1] in ("0", "1") or n == 2 or f[0] == "0":
         while rest and rest[0] == "1" and i < n - 1:
             i, rest = i + 1, rest[1:]
@@ -78,9 +80,36 @@ def as_record(whole, fields):
     parts = [p.strip() for p in split(whole[1:-1])]
     while len(parts) < len(fields) and len(parts) > 1 and parts[-1].startswith("(") and closes(parts[-1]) and len(split(parts[-1][1:-1])) > 1:
         parts = parts[:-1] + [p.strip() for p in split(parts[-1][1:-1])]
+    if len(parts) > len(fields):
+        parts = parts[: len(fields) - 1] + ["(" + ", ".join(parts[len(fields) - 1 :]) + ")"]
+    if len(parts) > 1 and len(parts) < len(fields) and infers(parts[-1]):
+        tail = projections("rest", len(fields) - len(parts) + 1)
+        return f"let rest = {parts[-1]} in record {{ " + "; ".join(f"{f} = {p}" for f, p in zip(fields, parts[:-1] + tail)) + " }"
     if len(parts) != len(fields):
         return None
     return "record { " + "; ".join(f"{f} = {p}" for f, p in zip(fields, parts)) + " }"
+
+
+def projections(name, n):
+    """The parts of nested pairs."""
+    return [name + ".1" * i + (".0" if i < n - 1 else "") for i in range(n)]
+
+
+def infers(text):
+    """Whether a term is the use of a lemma or a name, whose type is known from it."""
+    return bool(re.match(r"[A-Za-z]", text)) and not re.match(r"(rw|record|let|search|omega|elim|grind|absurd|refl)\b", text)
+
+
+def last_in(text):
+    """Where the last term begins, behind the lets above it."""
+    depth, at = 0, 0
+    for m in re.finditer(r"[(\[{]|[)\]}]|\bin(?=\s)", text):
+        if m[0] == "in":
+            if depth == 0:
+                at = m.end()
+        else:
+            depth += 1 if m[0] in "([{" else -1
+    return at + len(text[at:]) - len(text[at:].lstrip())
 
 
 def closes(text):
@@ -138,13 +167,32 @@ class Names:
             if row:
                 self.clauses[norm(place[2][0])] = row
 
+    def whole(self, root, p):
+        """A path; of clauses that have names now, each by its name, where all of them or all but the first are meant."""
+        at = ".".join([root] + p)
+        fields = None
+        for i, x in enumerate(p):
+            if x == "requires" and i == 0:
+                fields = self.pre
+            elif x == "ensures":
+                row = next((r for k, r in self.clauses.items() if norm(self.labels.get(k, k)) == norm(p[0])), None)
+                fields = row["fields"] if row and i == 1 else None
+            if fields and len(fields) > 1 and x in ("requires", "ensures"):
+                rest = p[i + 1:]
+                if all(y == "1" for y in rest) and len(rest) < len(fields) - 1:
+                    return "(" + ", ".join(".".join([root] + p[: i + 1] + [y]) for y in fields[len(rest):]) + ")"
+                return at
+        return at
+
     def member(self, new):
         """Whether the goal is what a call within the cycle requires."""
         return False
 
     def path(self, fields):
         """The new path of the fields below c."""
-        f = [x for x in fields if x != "before"]
+        f = list(fields)
+        while f and f[0] == "before":
+            f = f[1:]
         if not f:
             return []
         out = []
@@ -175,6 +223,9 @@ class Names:
             if at < len(rest) and rest[at] == "0":
                 at += 1
             rest = [rest[0], called[n]] + rest[at:]
+        row = self.clauses.get(key) or self.clauses.get(norm(f[0]))
+        if row and rest and rest[0] == "ensures":
+            rest = ["ensures"] + clause(row["fields"], rest[1:])
         if rest and key in self.loops and rest[0] in [v.replace("_", "-") for v in self.loops[key][1]]:
             rest[0] = norm(rest[0])
         if rest and out[0].startswith("if") and rest[0] in ("taken", "left"):
@@ -215,13 +266,13 @@ def inline(body, names, root="c", places=False):
             return ".".join([root] + alias[rootname] + fields)
         if len(p) == 2 and p[0].startswith("if-not-") and p[1] in ("true", "false"):
             return "(ap not " + ".".join([root] + p) + ")"
-        return ".".join([root] + p)
+        return names.whole(root, p)
 
     text = CHAIN.sub(chain, text)
     for a, p in alias.items():
         if a == root:
             continue
-        put = ".".join([root] + (p if places and not names.path(p) else names.path(p)))
+        put = ".".join([root] + p) if places and not names.path(p) else names.whole(root, names.path(p))
 
         def bare(m, put=put):
             # The name of a record's field stays.
@@ -256,17 +307,19 @@ def answer(decl, old, new, names, measured, places):
     rest = inline(rest, names, root, places)
     fields = names.asked.get(new) or names.asked_by.get(new)
     whole = rest.strip()
-    if fields and len(fields) > 1 and whole.endswith(")"):
-        at = opening(whole)
-        before, tuple_ = whole[:at], whole[at:]
-        if not before or re.search(r"\bin\s+$", before):
+    if fields and len(fields) > 1:
+        at = last_in(whole)
+        before, last = whole[:at], whole[at:]
+        if last.startswith("(") and closes(last):
             if measured and names.member(new):
-                parts = [p.strip() for p in split(tuple_[1:-1])]
+                parts = [p.strip() for p in split(last[1:-1])]
                 second = as_record(parts[1], fields) if len(parts) == 2 else None
                 rest = f"{before}({parts[0]}, {second})" if second else rest
             else:
-                tuple_ = as_record(tuple_, fields)
-                rest = before + tuple_ if tuple_ else rest
+                last = as_record(last, fields)
+                rest = before + last if last else rest
+        elif infers(last) and not (measured and names.member(new)):
+            rest = before + f"let all = {last} in record {{ " + "; ".join(f"{f} = {x}" for f, x in zip(fields, projections("all", len(fields)))) + " }"
     more = "".join(" " + x for x in params[1:] if x != "κs")
     head = f"{new} {'t ' if measured else ''}{root}{more} ="
     sep = "\n" if rest.startswith(" ") or "\n" in rest else " "

@@ -104,13 +104,13 @@ module _ (t : ℕ) where
   element-copy-out-table c = search rules
 
   pub first-child-requires : lts.Need-first-child-requires (calls t) (apply_selector_at t) apply-selector.Post
-  first-child-requires c κs = c.before.before.before.before.before.before.requires.1.1.Node-in
+  first-child-requires c κs = c.before.before.before.before.before.before.requires.1.1.node_in
 
   pub cast-i : lts.Need-overflow-cast-i (calls t) (apply_selector_at t) apply-selector.Post
   cast-i c = search rules
 
   pub child-count-requires : lts.Need-child-count-requires (calls t) (apply_selector_at t) apply-selector.Post
-  child-count-requires c κs = c.before.before.before.before.before.before.before.requires.1.1.Node-in
+  child-count-requires c κs = c.before.before.before.before.before.before.before.requires.1.1.node_in
 
   pub cast-n : lts.Need-overflow-cast-n (calls t) (apply_selector_at t) apply-selector.Post
   cast-n c = search rules
@@ -122,13 +122,13 @@ module _ (t : ℕ) where
   each-child-requires c κs =
       let p = c.before.before.before.before.before.before.before.before.before.before.requires.1 in
       let w = rest_in p.0 p.1 in
-      let g = range_of_lem _ _ p.0.given.tab _ p.1.Node-in _ _ c.before.before.before.first-child.ensures c.before.before.child-count.ensures in
+      let g = range_of_lem _ _ p.0.given.tab _ p.1.node_in _ _ c.before.before.before.first-child.ensures c.before.before.child-count.ensures in
       (omega (arith, w.0), (p.0, each_asked p.0 p.1 g))
 
   pub returns-5 : lts.Need-returns-5 (calls t) (apply_selector_at t) apply-selector.Post
   returns-5 c =
       let p = c.before.before.before.before.before.before.before.before.before.before.before.requires.1 in
-      let g = range_of_lem _ _ p.0.given.tab _ p.1.Node-in _ _ c.before.before.before.before.first-child.ensures c.before.before.before.child-count.ensures in
+      let g = range_of_lem _ _ p.0.given.tab _ p.1.node_in _ _ c.before.before.before.before.first-child.ensures c.before.before.before.child-count.ensures in
       let d = c.each-child.ensures in
       (d.0, wildcard_done p.0 p.1 g c.before.before.before.before.before.before.if4.true d.1)
 

@@ -15,7 +15,7 @@ use Rattle.text.proofs.bytes.int64.Reads as int64-reads
 use Rattle.number_integers.specs.Signs.{back}
 
 child-count-requires : tie.Need-child-count-requires
-child-count-requires c κs = c.before.before.before.before.requires.0.Node-in
+child-count-requires c κs = c.before.before.before.before.requires.0.node_in
 
 cast-n : tie.Need-overflow-cast-n
 cast-n c = search rules

@@ -13,7 +13,7 @@ use Rattle.table.proofs.records.first_child.Reads as first-child-reads
 is-near-requires : tie.Need-is-near-requires
 is-near-requires c κs =
     let s = c.before.before.before.before.requires in
-    ((s.0.tab, s.0.Node-in), name_inside s.0 s.1.0 s.1.1)
+    ((s.0.tab, s.0.node_in), name_inside s.0 s.1.0 s.1.1)
 
 first-child-requires : tie.Need-first-child-requires
 first-child-requires c κs = search rules

@@ -15,19 +15,19 @@ use Rattle.table.proofs.records.kind.Reads as kind-reads
 use Rattle.table.proofs.records.first_child.Reads as first-child-reads
 
 kind-requires : tie.Need-kind-requires
-kind-requires c κs = c.before.before.before.before.requires.0.Node-in
+kind-requires c κs = c.before.before.before.before.requires.0.node_in
 
 returns : tie.Need-returns
 returns c = name_else c.before.before.before.before.before.before.requires.0 (λ z. c.if1.true (c.before.kind.ensures ∙ z))
 
 first-child-requires : tie.Need-first-child-requires
-first-child-requires c κs = c.before.before.before.before.before.before.requires.0.Node-in
+first-child-requires c κs = c.before.before.before.before.before.before.requires.0.node_in
 
 cast-first : tie.Need-overflow-cast-first
 cast-first c = search rules
 
 child-count-requires : tie.Need-child-count-requires
-child-count-requires c κs = c.before.before.before.before.before.before.before.requires.0.Node-in
+child-count-requires c κs = c.before.before.before.before.before.before.before.requires.0.node_in
 
 cast-count : tie.Need-overflow-cast-count
 cast-count c = search rules

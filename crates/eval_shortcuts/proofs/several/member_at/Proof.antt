@@ -37,7 +37,7 @@ returns : tie.Need-returns
 returns c =
     let s = c.before.before.before.before.before.before.before.before in
     let t = c.before.is_at.ensures c.if1.true in
-    name_found s.requires.0 s.requires.1.1 _ _ s.requires.1.0.0 s.requires.1.0.1 _ _ c.before.before.before.word16.ensures.is c.before.before.word162.ensures.is _ (near_found s.requires.0.tab s.requires.0.Node-in s.requires.1.1 _ s.args.first s.args.count s.args.near s.requires.1.0.0 s.requires.1.0.1 t.0 t.1)
+    name_found s.requires.0 s.requires.1.1 _ _ s.requires.1.0.0 s.requires.1.0.1 _ _ c.before.before.before.word16.ensures.is c.before.before.word162.ensures.is _ (near_found s.requires.0.tab s.requires.0.node_in s.requires.1.1 _ s.args.first s.args.count s.args.near s.requires.1.0.0 s.requires.1.0.1 t.0 t.1)
 
 is-short-requires : tie.Need-is-short-requires
 is-short-requires c κs = search rules

@@ -6,7 +6,7 @@ use Rattle.eval_shortcuts.proofs.several.pick.Reads as reads
 use Rattle.eval_shortcuts.proofs.several.pick.Lts as lts
 
 kind-requires : tie.Need-kind-requires
-kind-requires c κs = c.before.before.before.before.before.before.requires.0.Node-in
+kind-requires c κs = c.before.before.before.before.before.before.requires.0.node_in
 
 pick-members-requires : tie.Need-pick-members-requires
 pick-members-requires c κs = (c.before.before.before.before.before.before.before.before.before.before.requires.0, (sym c.before.before.before.kind.ensures ∙ c.before.before.if1.true, c.before.before.before.before.before.before.before.before.before.before.requires.1))

@@ -17,13 +17,13 @@ abbrev decreases-loop : tie.decreases-loop
 decreases-loop plan pool table text node p n near₀ list₀ at cap first count a₀ q₀ m₀ near list a q m = n - m
 
 first-child-requires : tie.Need-first-child-requires invariant-loop decreases-loop
-first-child-requires c κs = c.before.before.before.before.before.before.requires.0.Node-in
+first-child-requires c κs = c.before.before.before.before.before.before.requires.0.node_in
 
 cast-first : tie.Need-overflow-cast-first invariant-loop decreases-loop
 cast-first c = search rules
 
 child-count-requires : tie.Need-child-count-requires invariant-loop decreases-loop
-child-count-requires c κs = c.before.before.before.before.before.before.before.requires.0.Node-in
+child-count-requires c κs = c.before.before.before.before.before.before.before.requires.0.node_in
 
 cast-count : tie.Need-overflow-cast-count invariant-loop decreases-loop
 cast-count c = search rules

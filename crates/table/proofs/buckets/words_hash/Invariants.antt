@@ -1,0 +1,15 @@
+-- The loop's invariant: the words that are left, mixed into the hash, give the hash of all. The measure is what is left.
+use native.Mathlib.Omega.{arith}
+use mathlib.Core.Path.{◌≡◌, sym, ap, ◌∙◌}
+use Prim.Native.Nat.{ℕ, ◌+◌, ◌-◌, ◌/◌, ◌≤◌, ◌<◌}
+use lib.ListN.{length}
+use Rattle.table.specs.Buckets.{hashes, folded}
+use Rattle.table.proofs.Folds.{fold_on, fold_end}
+use borrow.Author.Rules.{rules}
+use Rattle.table.proofs.buckets.words_hash.Given as goal
+
+abbrev pub invariant-loop-at : goal.invariant-loop-at
+invariant-loop-at l = (l.at ≤ length l.s) × (l.hash < hashes) × (folded 4 l.s ((length l.s - l.at) / 4) l.at l.hash ≡ folded 4 l.s (length l.s / 4) 0 0)
+
+abbrev pub decreases-loop-at : goal.decreases-loop-at
+decreases-loop-at l = length l.s - l.at
