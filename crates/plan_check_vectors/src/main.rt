@@ -6,6 +6,9 @@
 
 ghost use Rattle.std.specs.Prelude.{◌≡◌, ◌+◌, ◌≤◌, ◌<◌, length};
 
+use program_console::{input, output, rooms};
+use std::io;
+
 // The number of a hexadecimal digit, 0 of any other byte.
 fn digit(b: u8) -> usize
     ensures { result ≤ 15 }
@@ -92,39 +95,40 @@ fn decode(s: &[u8], d: &mut [u8]) -> usize
 }
 
 // The verdict on a plan and a pool is written.
-fn verdict(code: &[u8], pool: &[u8]) {
+fn verdict(rt: &impl Print, code: &[u8], pool: &[u8]) -> io::Result<()> {
     if plan_check::check_plan(code, pool) {
-        io::write_all(1, b"ok\n");
+        output::text(rt, b"ok\n")
     } else {
-        io::write_all(1, b"refused 11\n");
+        output::text(rt, b"refused 11\n")
     }
 }
 
 // The verdict on a line.
-fn line(s: &[u8], code: &mut [u8], pool: &mut [u8]) {
+fn line(rt: &impl Print, s: &[u8], code: &mut [u8], pool: &mut [u8]) -> io::Result<()> {
     let b = program_lines::find(s, 0, s.len(), b' ');
     let n = decode(&s[..b], code);
     if s.len() <= b {
-        return;
+        return Ok(());
     }
     let m = decode(&s[b + 1..], pool);
-    verdict(&code[..n], &pool[..m]);
+    verdict(rt, &code[..n], &pool[..m])
 }
 
 // The verdict on each line.
-fn lines(s: &[u8], code: &mut [u8], pool: &mut [u8]) {
+fn lines(rt: &impl Print, s: &[u8], code: &mut [u8], pool: &mut [u8]) -> io::Result<()> {
     let mut at = 0;
     while at < s.len() {
         let e = program_lines::find(s, at, s.len(), b'\n');
-        line(&s[at..e], code, pool);
+        line(rt, &s[at..e], code, pool)?;
         at = e + 1;
     }
+    Ok(())
 }
 
-fn main() {
-    let mut input = io::large_buffer();
-    let mut code = io::large_buffer();
-    let mut pool = io::large_buffer();
-    let n = io::read_full(0, &mut input);
-    lines(&input[..n], &mut code, &mut pool);
+fn main(rt: HostRuntime) -> io::Result<()> {
+    let mut room = rooms::large_buffer();
+    let mut code = rooms::large_buffer();
+    let mut pool = rooms::large_buffer();
+    let n = input::full(&mut rt.reader(), &mut room)?;
+    lines(&rt, &room[..n], &mut code, &mut pool)
 }
