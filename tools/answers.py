@@ -180,7 +180,8 @@ class Names:
             if fields and len(fields) > 1 and x in ("requires", "ensures"):
                 rest = p[i + 1:]
                 if all(y == "1" for y in rest) and len(rest) < len(fields) - 1:
-                    return "(" + ", ".join(".".join([root] + p[: i + 1] + [y]) for y in fields[len(rest):]) + ")"
+                    each = [".".join([root] + p[: i + 1] + [y]) for y in fields[len(rest):]]
+                    return ", ".join("(" + y for y in each[:-1]) + ", " + each[-1] + ")" * (len(each) - 1)
                 return at
         return at
 
@@ -209,6 +210,8 @@ class Names:
                 return hit.split(".") + f[n:]
         if key in self.typed and key not in self.loops and not (len(f) > 1 and norm(f[1]) in ("ensures", "result", "new", "auto")):
             return ["type_inv", self.typed[key]] + (f[2:] if len(f) > 1 and f[1] == "given" else f[1:])
+        if key not in self.labels and key.lower() in self.labels:
+            key = key.lower()
         label = self.labels.get(key) or self.labels.get(norm(f[0]))
         out = [label if label else f[0]]
         rest = f[1:]
@@ -216,13 +219,13 @@ class Names:
             rest[0] = "type_inv"
         # What a call leaves in its parameter: by its place in the older form, now by its name.
         called = self.callee.get(norm(f[0])) or self.callee.get(key)
-        if called and len(rest) > 1 and rest[0] in ("new", "auto") and rest[1] in ("0", "1"):
+        if called and len(rest) > 1 and rest[0] in ("new", "auto", "kept") and rest[1] in ("0", "1"):
             n, at = 0, 1
             while at < len(rest) and rest[at] == "1" and n < len(called) - 1:
                 n, at = n + 1, at + 1
             if at < len(rest) and rest[at] == "0":
                 at += 1
-            rest = [rest[0], called[n]] + rest[at:]
+            rest = ["auto" if rest[0] == "kept" else rest[0], called[n]] + rest[at:]
         row = self.clauses.get(key) or self.clauses.get(norm(f[0]))
         if row and rest and rest[0] == "ensures":
             rest = ["ensures"] + clause(row["fields"], rest[1:])
@@ -231,6 +234,15 @@ class Names:
         if rest and out[0].startswith("if") and rest[0] in ("taken", "left"):
             rest[0] = {"taken": "true", "left": "false"}[rest[0]]
         return out + rest
+
+
+SOURCE = ""
+
+
+def negated_field(label):
+    """Whether the test is of a field, as `!p.given`: there the newer form says `not p.given ≡ true` too."""
+    m = re.match(r"if-not-([a-z_0-9]+)", label)
+    return bool(m and re.search(r"!" + m[1] + r"\.[a-z_0-9]+\b(?!\()", SOURCE))
 
 
 def inline(body, names, root="c", places=False):
@@ -264,7 +276,10 @@ def inline(body, names, root="c", places=False):
         p = names.path(alias[rootname] + fields)
         if not p and places:
             return ".".join([root] + alias[rootname] + fields)
-        if len(p) == 2 and p[0].startswith("if-not-") and p[1] in ("true", "false"):
+        # What was told of an enum's payload has no name now; the search knows it.
+        if p[0].startswith("known_told"):
+            return "(search rules)"
+        if len(p) == 2 and p[0].startswith("if-not-") and p[1] in ("true", "false") and not negated_field(p[0]):
             return "(ap not " + ".".join([root] + p) + ")"
         return names.whole(root, p)
 
@@ -607,6 +622,10 @@ def turn(path, crate, names_all, measured=False):
 def main(argv):
     crate, file, only = argv[0], argv[1], argv[2:]
     names_all = json.load(open(file, encoding="utf-8"))
+    global SOURCE
+    for folder, dirs, files in os.walk(os.path.join("crates", crate, "src")):
+        for f in files:
+            SOURCE += open(os.path.join(folder, f), encoding="utf-8").read()
     n = 0
     for folder, dirs, files in os.walk(os.path.join("crates", crate, "proofs")):
         if "Proof.antt" in files:

@@ -17,7 +17,7 @@ use Rattle.basics.specs.Reads.{StartsNot}
 use Rattle.parser_follow.specs.Follow.{after_not}
 use Rattle.utf8_laws.specs.Encode.{utf8_ascii}
 use Rattle.parser_scan.specs.Text.{Is, Skipped, unblank}
-use Rattle.compile_writes.specs.Effects.{Effect, Writer, bytes, mark, verdict, seq}
+use Rattle.compile_writes.specs.Effects.{Effect, Writer, bytes, mark, seq}
 use Rattle.compile_writes.specs.Writes.{write_index, write_slice, bound_bit, bound_bytes, bound_verdict, step_bit, step_bytes, step_verdict}
 use Rattle.parser_follow.specs.Leaves.{text_plain, wild_plain, slice_plain, index_plain}
 use Rattle.parser_items.specs.Reads.{After, Done, LoosePost, next, stop, PutMarked, Plain, spell_plain, write_plain, is_plain}

@@ -9,7 +9,7 @@ use Rattle.definition.specs.Utf8.{is_utf8}
 use Rattle.basics.specs.Reads.{ReadsNone, StartsNot}
 use Rattle.number_parse.specs.Ints.{IntAt}
 use Rattle.parser_scan.specs.Text.{Is, Skipped}
-use Rattle.compile_writes.specs.Effects.{Marks, first, bytes, verdict}
+use Rattle.compile_writes.specs.Effects.{Marks, first}
 use Rattle.compile_writes.specs.Writes.{kept_int, verdict_int}
 use Rattle.parser_items.specs.Reads.{After}
 use Rattle.parser_items.specs.declared.ranges.Piece.{Piece}

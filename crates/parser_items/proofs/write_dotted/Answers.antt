@@ -1,0 +1,36 @@
+-- `parser_items::write_dotted` meets its contract: a `*` or a name is read and written.
+--
+use native.Mathlib.Omega.{arith}
+use Rattle.parser_items.proofs.Dotted.{dotted_wild, dotted_name, dotted_none, name_long}
+use Rattle.parser_items.specs.Laws.{name_of, no_name_of, asks_room, put_room}
+use Rattle.parser_items.proofs.write_dotted.Goals as goal
+
+pub single-a-requires : goal.single-a-requires
+single-a-requires c = asks_room 3 1 c.requires (rw c.if-is.true at c.is.ensures).0 (omega arith)
+
+pub item-b-requires : goal.item-b-requires
+item-b-requires c = put_room 1 c.single-a.ensures (asks_room 4 1 c.requires (rw c.if-is.true at c.is.ensures).0 (omega arith))
+
+pub returns-then-is : goal.returns-then-is
+returns-then-is c = dotted_wild c.args.kind c.requires (rw c.if-is.true at c.is.ensures) c.single-a.ensures c.item-b.ensures (c.moved.ensures.place, (c.moved.ensures.lengths, c.moved.ensures.marks))
+
+pub overflow_sub-e : goal.overflow_sub-e
+overflow_sub-e c = (name_of c.read_name.ensures c.in-At.is).from
+
+pub copy_part-requires : goal.copy_part-requires
+copy_part-requires c = let n = name_of c.read_name.ensures c.in-At.is in (omega (arith, n.from, n.to), omega (arith, n.from, n.to, c.requires.pool))
+
+pub single-a-requires-in-At : goal.single-a-requires-in-At
+single-a-requires-in-At c = let n = name_of c.read_name.ensures c.in-At.is in asks_room 3 1 c.requires (omega (arith, name_long n, n.to)) (omega arith)
+
+pub overflow_sub-e-in-At : goal.overflow_sub-e-in-At
+overflow_sub-e-in-At c = (name_of c.read_name.ensures c.in-At.is).from
+
+pub pooled-b-requires : goal.pooled-b-requires
+pooled-b-requires c = let n = name_of c.read_name.ensures c.in-At.is in record { room = put_room 5 c.single-a-in-At.ensures (asks_room 8 1 c.requires (omega (arith, name_long n, n.to)) (omega arith)); n_bound = omega (arith, n.from, n.to, c.requires.pool, c.requires.small_pool, c.single-a-in-At.ensures.pool) }
+
+pub returns-in-Nothing : goal.returns-in-Nothing
+returns-in-Nothing c = dotted_none c.args.kind c.requires (rw c.if-is.false at c.is.ensures) (no_name_of c.read_name.ensures c.in-Nothing.is)
+
+pub returns-in-At : goal.returns-in-At
+returns-in-At c = dotted_name c.args.kind c.requires (rw c.if-is.false at c.is.ensures) (name_of c.read_name.ensures c.in-At.is) c.copy_part.ensures c.single-a-in-At.ensures c.pooled-b.ensures (c.moved-in-At.ensures.place, (c.moved-in-At.ensures.lengths, c.moved-in-At.ensures.marks))
