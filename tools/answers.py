@@ -18,6 +18,7 @@ norm = lambda s: s.replace("-", "_")
 PREFIX = re.compile(r"^(overflow|nonzero|offset|slice)[-_](?!of)")
 
 
+TOLD = re.compile(r"(?<![\w.'-])[\w'-]+\.known_told[\w-]*\.given\.0\.1(?![\w.])")
 REST = re.compile(r"(?<![\w.'-])[\w'-]+\.in[-_][\w-]+\.rest(?:\.[01])+(?![\w.])")
 
 
@@ -571,6 +572,8 @@ def turn(path, crate, names_all, measured=False):
                 text_of = re.sub(r"\b(?:tie|lts)\.([\w-]+)(?: (?:invariant|decreases)-loop\w*)*", lambda m: "goal." + names.place.get(norm(m[1]), m[1]), text_of)
                 text_of = inline(text_of, names, "c", True)
             own.append((comments, text_of))
+    # That a signed number of an arm fits has no name any more, but a tactic finds it.
+    ans = [(c, TOLD.sub("(search rules)", t)) for c, t in ans]
     own, ans = inline_own(own, ans)
     keep = plain_uses(uses, crate)
     # That a number is none of an earlier arm's has no name any more, but a tactic finds it.
