@@ -1,9 +1,8 @@
 -- A child segment of one selector, told by its first four bytes: what is asked of the selector, and that what it gives is what the segment gives. P is the plan, L
 -- the pool, S the table, X the text; v is what is lent. Assumes nothing.
 use Rattle.std.specs.Prelude.{ℕ, ◌+◌, ◌*◌, ◌≤◌, ◌<◌, ◌≡◌, List, [], length, get_or}
-use Rattle.std.proofs.Common.{◌∙◌, arith}
+use Rattle.std.proofs.Common.{arith}
 use Rattle.std.specs.Borrow.{Bor}
-use Rattle.definition.specs.Bytes.{number, part}
 use Rattle.definition.specs.Limits.{max_plan}
 use Rattle.definition.specs.Forms.Selectors.{one}
 use Rattle.definition.specs.Plans.{code_selector}
@@ -70,16 +69,16 @@ module _ {v : List (Bor (List ℕ))} {node pc : ℕ} {s l : List ℕ} (a : AskEn
         omega (arith, (is_wildcard (plan_of v) (pc + 3) x.k y.x y.here.holds h.kind_is).1)
 
     module _ (e : n ≡ 0x103 + 16777216 * 9) where
-      filter_at : (x : Query (plan_of v) (pool_of v) pc) → (pc + 3 + 3 ≤ length (plan_of v)) × (pc + 3 + 3 + number (part (plan_of v) (pc + 3 + 1) 2) ≡ pc + 3 + length (code_selector (alone_at (enter_head 9 b w e) x).x x.k))
+      filter_at : (x : Query (plan_of v) (pool_of v) pc) → (pc + 3 + 3 ≤ length (plan_of v)) × ((m : ℕ) → Word 2 (plan_of v) (pc + 3 + 1) m → pc + 3 + 3 + m ≡ pc + 3 + length (code_selector (alone_at (enter_head 9 b w e) x).x x.k))
       filter_at x =
           let h = enter_head 9 b w e in
           let y = alone_at h x in
           let i = h.kind_is in
           let f = is_filter (plan_of v) (pool_of v) a.asked.given.few_p a.asked.given.few_l (pc + 3) x.k y.x y.here (λ z. omega arith) (λ z. omega arith) (λ z. omega arith) (λ z. omega arith) in
-          (f.bound, omega (arith, f.count, f.long))
+          (f.bound, λ m u. let c = f.count in let g = f.long in let j = u.is in omega arith)
 
       pub filter_fits : pc + 3 + 3 ≤ length (plan_of v)
       filter_fits = (filter_at a.segment.query).0
 
-      pub filter_ends : {z : ℕ} → z ≡ pc + 3 + 3 + number (part (plan_of v) (pc + 3 + 1) 2) → Ends (enter_head 9 b w e) z
-      filter_ends u x = u ∙ (filter_at x).1
+      pub filter_ends : {m : ℕ} → Word 2 (plan_of v) (pc + 3 + 1) m → Ends (enter_head 9 b w e) (pc + 3 + 3 + m)
+      filter_ends {m} u x = (filter_at x).1 m u

@@ -1,31 +1,32 @@
 -- From what a function of evaluation has at hand to what the next one asks, and from what that one gives to what was asked; the invariants of the loops, and their
 -- turns. P is the plan, L the pool, S the table, X the text; v is what is lent. Assumes nothing.
-use Rattle.std.specs.Prelude.{ℕ, ◌+◌, ◌-◌, ◌≤◌, ◌<◌, ◌≡◌, refl, List, [], Bool as Bits, true, false, ltb, length, get_or, set}
+use Rattle.std.specs.Prelude.{ℕ, ◌+◌, ◌-◌, ◌≤◌, ◌<◌, ◌≡◌, refl, List, [], Bool as Bits, true, false, ltb, get_or, set}
 use Rattle.std.proofs.Common.{sym, ap, ◌∙◌, subst, arith, ltb-true, ltb-false}
+use Rattle.std.proofs.Math.ListN.{length}
 use Rattle.std.specs.Borrow.{Bor}
 use Rattle.definition.specs.Limits.{max_plan}
 use Rattle.definition.specs.Values.{Json}
 use Rattle.definition.specs.Forms.{Segments, Selectors}
 use Rattle.definition.specs.Forms.Segments.{descendant}
+use Rattle.definition.specs.Plans.{pool_selectors, pool_selector}
 use Rattle.definition.specs.Tables.{node_count, node_at, depth_at}
 use Rattle.table_laws.specs.Accepted.{Accepted}
 use Rattle.definition.specs.Evaluation.{eval_selectors}
 use Rattle.text.specs.Words.{Word}
 use Rattle.eval_laws.specs.States.{State, st, push}
 use Rattle.eval_laws.specs.Emits.{go}
-use Rattle.eval_laws.specs.Steps.{below, done_bound, segment_child, segment_descendant, segment_end}
+use Rattle.eval_laws.specs.Steps.{below, done_bound, segment_child, segment_descendant, segment_end, selectors_last, selectors_step, selectors_full}
 use Rattle.eval_laws.specs.Ranges.{Range, child_at}
 use Rattle.eval_laws.specs.Items.{SegmentsAt, parts, is_end, segments_in}
-use Rattle.eval_items.specs.Ends.{AskSkip, DoneSkip}
+use Rattle.eval_items.specs.Ends.{AskSkip, DoneSkip, AskNext as AskPlace, DoneNext as DonePlace}
 use Rattle.eval_front.specs.Visits.{Query, AskPush, AskReach, DoneReach, DoneContainer}
 use Rattle.eval_front.specs.Overs.{over_step, over_end, over_full, over_passed}
-use Rattle.eval_front.specs.Stands.{descendant_byte, standing_of}
+use Rattle.eval_front.specs.Stands.{Standing, descendant_byte, standing_of, fore, final, some_alone, standing_in}
 use Rattle.eval_front.specs.Spans.{below_all}
 use Rattle.eval_front.specs.declared.Reached.{Reached}
 use Rattle.eval_asks.specs.Lent.{plan_of, pool_of, table_of, text_of, root_of, cap_of, at_of}
-use Rattle.eval_asks.specs.Asks.{Asked, Steady, Gives, AskSegment, DoneSegment, AskSelectors, DoneSelectors, Parted, AskDescent, DoneDescent, Descends, descent, AskFlats, DoneFlats}
-use Rattle.eval_asks.specs.Steady.{wrote_at, gives_wrote, gives_none, gives_as, Going, going_on, going_step, going_end}
-use Rattle.eval_shortcuts.specs.Stood.{Stood, AskStood, DoneStood}
+use Rattle.eval_asks.specs.Asks.{Asked, Steady, Gives, AskSegment, DoneSegment, AskSelectors, DoneSelectors, Parted, AskDescent, DoneDescent, Descends, descent, AskFlats, DoneFlats, AskSelector, DoneSelector}
+use Rattle.eval_asks.specs.Steady.{wrote_at, gives_wrote, gives_none, gives_as, Going, going_start, going_on, going_step, going_end, going_full, going_last}
 
 -- the parts of the segment at pc
 abbrev parted_at : {P L : List ℕ} {pc : ℕ} → length P ≤ max_plan → Query P L pc → (get_or P pc 0 ≡ 0x0A → ⊥) → Parted P L pc
@@ -39,6 +40,9 @@ module _ {v : List (Bor (List ℕ))} {s l s' l' : List ℕ} (a : Asked v s l) wh
 
   pub descent_room : {node pc : ℕ} → AskDescent v node pc → DoneDescent v node pc s l s' l' → at_of s' ≤ cap_of s + 1
   descent_room q d = done_bound q.descends.q _ _ (cap_of s) l l' (at_of s) (at_of s') (d.emits q.descends (root_of s) (cap_of s) refl refl) a.room
+
+  pub selector_room : {node p rest : ℕ} → AskSelector v node p rest → DoneSelector v node p rest s l s' l' → at_of s' ≤ cap_of s + 1
+  selector_room q d = done_bound q.selects.q _ _ (cap_of s) l l' (at_of s) (at_of s') (d.emits q.selects (root_of s) (cap_of s) refl refl) a.room
 
   pub selectors_room : {node pc : ℕ} → AskSelectors v node pc → DoneSelectors v node pc s l s' l' → at_of s' ≤ cap_of s + 1
   selectors_room q d =
@@ -109,6 +113,16 @@ descent_selectors {v} {node} {pc} q =
       query = record { f = descendant x.ss x.q; k = x.k; at = x.at };
       going = λ z. omega (arith, descendant_byte (plan_of v) (pool_of v) pc x.k x.ss x.q x.at);
     }
+
+-- the query ends behind a node
+module _ {v : List (Bor (List ℕ))} {s l : List ℕ} {m rest : ℕ} (a : Asked v s l) (q : AskSegment v m rest) where
+  pub here_push : AskPush (length l) (at_of s) m (cap_of s)
+  here_push = record { room = a.room; wide = a.wide; small = a.small; number = omega (arith, q.node_in, a.given.tab.size.few) }
+
+  pub here_ends : get_or (plan_of v) rest 0 ≡ 0x0A → (l' : List ℕ) (n : ℕ) → st (cap_of s) l' n ≡ push m (st (cap_of s) l (at_of s)) → DoneSegment v m rest s l (set s 2 n) l'
+  here_ends z l' n p =
+      gives_wrote _ s l l' n a
+      (λ x. p ∙ segment_end (table_of v) (text_of v) a.given.tab x.f _ m q.node_in _ (is_end (plan_of v) rest x.k x.f x.at.holds z))
 
 -- its selectors and what follows them are those of its parts
 module _ {P L : List ℕ} {pc : ℕ} (few : length P ≤ max_plan) (x : Descends P L pc) where
@@ -190,7 +204,16 @@ module _ {v : List (Bor (List ℕ))} {node pc first n : ℕ} {s s₁ s₂ : List
 
 -- ---- the selectors of a segment
 
-module _ {v : List (Bor (List ℕ))} {node pc : ℕ} {s l : List ℕ} (a : Asked v s l) (q : AskSelectors v node pc) where
+-- the selectors that are left of each segment that stands there
+pub record InSelectors (v : List (Bor (List ℕ))) (node pc rest : ℕ) (s₀ : List ℕ) (l₀ : Bor (List ℕ)) (s : List ℕ) (l : Bor (List ℕ)) (m p : ℕ) : Type 0 where
+  pub later : pc + 3 ≤ p
+  pub left : Parted (plan_of v) (pool_of v) pc → Selectors
+  pub k : Parted (plan_of v) (pool_of v) pc → ℕ
+  pub stands : (x : Parted (plan_of v) (pool_of v) pc) → Standing (plan_of v) (pool_of v) p m rest (left x) x.parts.q (k x) (x.k + length (pool_selectors x.parts.ss))
+  pub going : Going (λ x R. go x.parts.q (node_at (table_of v) (text_of v) R) (eval_selectors x.parts.ss (node_at (table_of v) (text_of v) R) (node_at (table_of v) (text_of v) node)))
+      (λ x R. go x.parts.q (node_at (table_of v) (text_of v) R) (eval_selectors (left x) (node_at (table_of v) (text_of v) R) (node_at (table_of v) (text_of v) node))) s₀ l₀ s l
+
+module _ {v : List (Bor (List ℕ))} {node pc : ℕ} {s₀ : List ℕ} (l₀ : Bor (List ℕ)) (a : Asked v s₀ l₀.now) (q : AskSelectors v node pc) where
   -- some segment that stands there
   abbrev asked_parts : Parted (plan_of v) (pool_of v) pc
   asked_parts = parted_at a.given.few_p q.query q.going
@@ -198,20 +221,59 @@ module _ {v : List (Bor (List ℕ))} {node pc : ℕ} {s l : List ℕ} (a : Asked
   pub parts_bound : pc + 3 < length (plan_of v)
   parts_bound = asked_parts.parts.bound
 
-  pub parts_skip : {n : ℕ} → Word 2 (plan_of v) (pc + 1) n → AskSkip (plan_of v) (pc + 3) n
+  pub parts_skip : {m : ℕ} → Word 2 (plan_of v) (pc + 1) m → AskSkip (plan_of v) (pc + 3) m
   parts_skip w = let x = asked_parts.parts in record { few = a.given.few_p; ss = x.ss; k = q.query.k; holds = x.selectors.holds; number = sym x.count ∙ sym w.is }
 
-  -- its selectors stand there, and what they give is what was asked
-  module _ {n rest : ℕ} (w : Word 2 (plan_of v) (pc + 1) n) (d : DoneSkip (plan_of v) (pc + 3) n rest) where
-    stood_at : Parted (plan_of v) (pool_of v) pc → Stood (plan_of v) (pool_of v) (pc + 3) n rest
-    stood_at x = record { ss = x.parts.ss; q = x.parts.q; k = x.k; k' = _; stands = standing_of x.parts n rest w d }
+  pub selectors_start : (m rest : ℕ) → Word 2 (plan_of v) (pc + 1) m → DoneSkip (plan_of v) (pc + 3) m rest → InSelectors v node pc rest s₀ l₀ s₀ l₀ m (pc + 3)
+  selectors_start m rest w d = record { later = omega arith; left = λ x. x.parts.ss; k = λ x. x.k; stands = λ x. standing_of x.parts m rest w d; going = going_start _ s₀ l₀ a }
 
-    pub selectors_asked : AskStood v node (pc + 3) n rest
-    selectors_asked = record { node_in = q.node_in; some = stood_at asked_parts }
+  module _ {rest : ℕ} {s : List ℕ} {l : Bor (List ℕ)} {m p : ℕ} (t : InSelectors v node pc rest s₀ l₀ s l m p) where
+    pub selectors_asked : AskSelector v node p rest
+    selectors_asked =
+        let x = asked_parts in
+        let y = some_alone (t.stands x) in
+        record { node_in = q.node_in; selects = record { x = y.x; q = x.parts.q; k = t.k x; k' = _; stands = y.alone } }
 
-    pub selectors_done : {s' l' : List ℕ} → DoneStood v node (pc + 3) n rest s l s' l' → DoneSelectors v node pc s l s' l'
-    unfolding stood_at
-    selectors_done g = gives_as _ g stood_at (λ x R σ. refl)
+    -- its end can be found
+    pub selectors_next : AskPlace (plan_of v) p
+    selectors_next = let y = some_alone (t.stands asked_parts) in record { few = a.given.few_p; s = y.x; k = t.k asked_parts; holds = y.alone.selector.holds }
+
+    pub selectors_in : (p < rest) × (rest < length (plan_of v))
+    selectors_in = standing_in (t.stands asked_parts)
+
+    -- one of several is done
+    module _ (h : 1 < m) {s' : List ℕ} {l' : Bor (List ℕ)} (k : Steady s l s' l') (b : at_of s' ≤ cap_of s + 1) (d : DoneSelector v node p rest s l.now s' l'.now) where
+      others : Parted (plan_of v) (pool_of v) pc → Selectors
+      others x = (fore (t.stands x) h).others
+
+      fewer : Going (λ x R. go x.parts.q (node_at (table_of v) (text_of v) R) (eval_selectors x.parts.ss (node_at (table_of v) (text_of v) R) (node_at (table_of v) (text_of v) node)))
+          (λ x R. go x.parts.q (node_at (table_of v) (text_of v) R) (eval_selectors (others x) (node_at (table_of v) (text_of v) R) (node_at (table_of v) (text_of v) node))) s₀ l₀ s' l'
+      unfolding others
+      fewer =
+          going_step t.going _ k b d (λ x. let y = fore (t.stands x) h in record { x = y.x; q = x.parts.q; k = t.k x; k' = _; stands = y.alone })
+          (λ x R σ σ' e. selectors_step x.parts.q _ _ (t.left x) (others x) (fore (t.stands x) h).x σ σ' _ (fore (t.stands x) h).made e refl)
+
+      pub selectors_passed : cap_of s' < at_of s' → DoneSelectors v node pc s₀ l₀.now s' l'.now
+      selectors_passed f = going_full fewer a f (λ x R c n j u w z. sym (selectors_full x.parts.q _ _ (others x) c n j _ u w z refl))
+
+      pub selectors_again : (p' : ℕ) → DonePlace (plan_of v) p p' → InSelectors v node pc rest s₀ l₀ s' l' (m - 1) p'
+      unfolding others
+      selectors_again p' w =
+          let y = fore (t.stands asked_parts) h in
+          let e = w y.x (t.k asked_parts) y.alone.selector.holds in
+          record {
+            later = omega (arith, t.later);
+            left = others;
+            k = λ x. t.k x + length (pool_selector (fore (t.stands x) h).x);
+            stands = λ x. (fore (t.stands x) h).then p' w;
+            going = fewer;
+          }
+
+    -- the last is done
+    pub selectors_done : m ≤ 1 → {s' l' : List ℕ} → DoneSelector v node p rest s l.now s' l' → DoneSelectors v node pc s₀ l₀.now s' l'
+    selectors_done h d =
+        going_last t.going d (λ x. let y = final (t.stands x) h in record { x = y.x; q = x.parts.q; k = t.k x; k' = _; stands = y.alone })
+        (λ x R σ. let y = final (t.stands x) h in selectors_last x.parts.q _ _ (t.left x) y.x σ _ _ y.made refl refl)
 
 -- a child of a node, between the first and the last, is in the table, and one deeper
 pub child_of : {S X : List ℕ} {node first n j₀ j : ℕ} → Accepted S X → node < node_count S → Range S node first n → first ≤ j₀ → j₀ ≤ j → j < first + n → (j < node_count S) × (depth_at S j ≡ depth_at S node + 1)

@@ -1,6 +1,6 @@
 -- The nodes of a range whose test is told in cells, some at a time: the invariant of the loop over them, and its turns. v is what is lent. Assumes nothing.
-use Rattle.std.specs.Prelude.{ℕ, ◌+◌, ◌-◌, ◌≤◌, ◌<◌, ◌≡◌, refl, List, Bool as Bits, true, false, length, get_or, set}
-use Rattle.std.proofs.Common.{sym, ap, ◌∙◌, subst, true≢false, arith}
+use Rattle.std.specs.Prelude.{ℕ, ◌+◌, ◌-◌, ◌≤◌, ◌<◌, ◌≡◌, refl, List, Bool as Bits, true, false, ltb, length, get_or, set}
+use Rattle.std.proofs.Common.{sym, ◌∙◌, subst, arith, ltb-true, ltb-false}
 use Rattle.std.specs.Borrow.{Bor}
 use Rattle.definition.specs.Forms.{Test}
 use Rattle.definition.specs.Tables.{node_at}
@@ -8,6 +8,7 @@ use Rattle.definition.specs.Evaluation.{eval_test}
 use Rattle.eval_laws.specs.States.{st}
 use Rattle.eval_laws.specs.Steps.{kept}
 use Rattle.eval_laws.specs.Todos.{todo_to}
+use Rattle.eval_front.specs.Fronts.{never}
 use Rattle.eval_front.specs.Overs.{over_end, over_full}
 use Rattle.eval_filters.specs.Queries.{Within}
 use Rattle.eval_filters.specs.Keeps.{test_code}
@@ -20,8 +21,7 @@ use Rattle.eval_asks.specs.Kinds.{keeping, passed, InNext, InFilter, filter_agai
 use Rattle.eval_asks.specs.Cells.{answer_of, place_of, InCell, Column, Laid, cell_next, column_start, column_set}
 use Rattle.eval_asks.specs.Rows.{AskRows, AskCells, DoneKept}
 use Rattle.eval.specs.Loops.{DoneSaid}
-use Rattle.eval.specs.declared.says.Said.{Said}
-use Rattle.eval.specs.declared.says.Next.{Next}
+use Rattle.eval.specs.declared.Said.{Said}
 
 -- node j is the next; the cells from b up to k are known
 pub record InCells (v : List (Bor (List ℕ))) (i e p z rest : ℕ) (s₀ : List ℕ) (l₀ : Bor (List ℕ)) (s : List ℕ) (l : Bor (List ℕ)) (b k j : ℕ) (c : List ℕ) : Type 0 where
@@ -34,18 +34,11 @@ pub record InCells (v : List (Bor (List ℕ))) (i e p z rest : ℕ) (s₀ : List
 
 -- no node is passed
 pub none_passed : {v : List (Bor (List ℕ))} {j e p z : ℕ} (root : ℕ) → DoneNext v root j e p z j true
-none_passed root = record { low = omega arith; high = λ y. y; passed = λ x y o m u w. absurd (omega arith); holds = λ u. absurd (true≢false u) }
+none_passed root = record { low = omega arith; high = λ y. y; passed = λ x y o m u w. absurd (omega arith); holds = λ u. absurd (never (sym u)) }
 
 -- the next node meets a call
 pub next_met : {v : List (Bor (List ℕ))} {root i e p z j : ℕ} → InNext v root i e p z j → DoneNext v root i e p z j true
-next_met t = record { low = t.low; high = t.high; passed = t.passed; holds = λ u. absurd (true≢false u) }
-
--- the same of what is answered
-pub next_is : {v : List (Bor (List ℕ))} {root i e p z : ℕ} {r r' : Next} → r' ≡ r → DoneNext v root i e p z r.node r.call → DoneNext v root i e p z r'.node r'.call
-next_is {v} {root} {i} {e} {p} {z} u d = subst (λ (x : Next). DoneNext v root i e p z x.node x.call) (sym u) d
-
-pub next_node : {r r' : Next} → r' ≡ r → r'.node ≡ r.node
-next_node u = ap (λ (x : Next). x.node) u
+next_met t = record { low = t.low; high = t.high; passed = t.passed; holds = λ u. absurd (never (sym u)) }
 
 -- none is left
 pub kept_none : (v : List (Bor (List ℕ))) {j e p z rest : ℕ} {s l : List ℕ} → e ≤ j → DoneKept v j e p z rest s l s l
@@ -105,7 +98,7 @@ module _ {v : List (Bor (List ℕ))} {i e p z rest : ℕ} {s₀ : List ℕ} {l�
     at_one n m u w x y o = let e : j ≡ m = omega arith in subst (λ (m : ℕ). eval_test x (node_at (table_of v) (text_of v) (root_of s)) (node_at (table_of v) (text_of v) m) ≡ false) e (sym (d x y o) ∙ n)
 
     next_one : r ≡ false → DoneNext v (root_of s) j e p z (j + 1) true
-    next_one n = record { low = omega arith; high = λ y. omega arith; passed = λ x y o m u w. at_one n m u w x y o; holds = λ u. absurd (true≢false u) }
+    next_one n = record { low = omega arith; high = λ y. omega arith; passed = λ x y o m u w. at_one n m u w x y o; holds = λ u. absurd (never (sym u)) }
 
     -- the test fails
     pub cells_out : r ≡ false → InCells v i e p z rest s₀ l₀ s l b k (j + 1) c
@@ -142,6 +135,14 @@ module _ {v : List (Bor (List ℕ))} {i e p z rest : ℕ} {s₀ : List ℕ} {l�
         }
 
 -- ---- the cells of some nodes, told further
+
+-- from a place to a later one
+pub later_less : {q z r : ℕ} → (r < z → q + 1 ≤ r) → q < z → z - r < z - q
+later_less {q} {z} {r} d h = go (ltb r z) refl
+  where
+    go : (b : Bits) → ltb r z ≡ b → z - r < z - q
+    go true e = let m = d (ltb-true r z e) in omega arith
+    go false e = let m = ltb-false r z e in omega arith
 
 -- the code lies in the plan
 pub code_near : {v : List (Bor (List ℕ))} {root i e p z : ℕ} → AskNext v root i e p z → (p ≤ z) × (z < 65536)

@@ -1,7 +1,6 @@
 -- The loops over a filter's code: what is left of it gives the same answer, for every form that stands there. Assumes nothing.
 use Rattle.std.specs.Prelude.{ℕ, ◌≤◌, ◌<◌, ◌≡◌, refl, List, Bool as Bits, true, false}
-use Rattle.std.proofs.Common.{sym, ◌∙◌, subst, true≢false, arith}
-use Rattle.std.proofs.lemmas.Bool.{false≢true}
+use Rattle.std.proofs.Common.{sym, ◌∙◌, arith}
 use Rattle.definition.specs.Values.{Json}
 use Rattle.definition.specs.Compare.{Value}
 use Rattle.definition.specs.Tables.{node_at}
@@ -11,13 +10,14 @@ use Rattle.eval_values.specs.declared.Operand.{Operand}
 use Rattle.eval_values.specs.declared.Operand.TheVariants.{Nothing, Null, Bool, Int, Float, Pool, Text, Node}
 use Rattle.eval_items.specs.Leaves.{Doing}
 use Rattle.eval_items.specs.declared.Regs.{Regs}
+use Rattle.eval_front.specs.Fronts.{never}
 use Rattle.eval_filters.specs.Queries.{Within}
 use Rattle.eval_filters.specs.Kept.{AskTest, DoneTest}
 use Rattle.eval_filters.specs.Tests.{Left, AskRest, DoneRest}
 use Rattle.eval_filters.specs.Turns.{AskTurn}
 use Rattle.eval_filters.specs.declared.Told.{Told}
 use Rattle.eval_asks.specs.Cells.{left_ended}
-use Rattle.eval.specs.declared.says.Said.{Said}
+use Rattle.eval.specs.declared.Said.{Said}
 
 -- ---- by registers
 
@@ -34,13 +34,13 @@ pub record DoneTested (P L S X : List ℕ) (root node : ℕ) (acc : Bits) (p e :
 -- registers in which nothing stands
 none_means : (S X L : List ℕ) (v : Operand) → some_of v ≡ false → Value.nothing ≡ meaning S X L v
 none_means S X L Nothing e = refl
-none_means S X L Null e = absurd (true≢false e)
-none_means S X L (Bool b) e = absurd (true≢false e)
-none_means S X L (Int z) e = absurd (true≢false e)
-none_means S X L (Float f) e = absurd (true≢false e)
-none_means S X L (Pool i n) e = absurd (true≢false e)
-none_means S X L (Text i n) e = absurd (true≢false e)
-none_means S X L (Node i) e = absurd (true≢false e)
+none_means S X L Null e = absurd (never (sym e))
+none_means S X L (Bool b) e = absurd (never (sym e))
+none_means S X L (Int z) e = absurd (never (sym e))
+none_means S X L (Float f) e = absurd (never (sym e))
+none_means S X L (Pool i n) e = absurd (never (sym e))
+none_means S X L (Text i n) e = absurd (never (sym e))
+none_means S X L (Node i) e = absurd (never (sym e))
 
 pub clear_left : {P L : List ℕ} (S X : List ℕ) (s : Regs) {e : ℕ} {R N : Json} {want : Bits} → (some_of s.x ≡ false) × (some_of s.y ≡ false) → Doing P L S X s e R N want → Left P L s.q e R N s.acc want
 clear_left {P} {L} S X s {e} c d = todo_to P L s.q s.q e _ _ _ _ _ _ _ _ _ refl refl (none_means S X L s.x c.0) (none_means S X L s.y c.1) d
@@ -59,15 +59,12 @@ pub record DoneSaid (P L S X : List ℕ) (root node : ℕ) (acc : Bits) (p e : �
   pub ended : r.call ≡ false → e ≤ r.q
   pub onward : stop ≡ false → r.call ≡ false
 
-pub said_is : {P L S X : List ℕ} {root node : ℕ} {acc : Bits} {p e : ℕ} {stop : Bits} {r r' : Said} → r' ≡ r → DoneSaid P L S X root node acc p e stop r → DoneSaid P L S X root node acc p e stop r'
-said_is {P} {L} {S} {X} {root} {node} {acc} {p} {e} {stop} u d = subst (DoneSaid P L S X root node acc p e stop) (sym u) d
-
 module _ {P L S X : List ℕ} {root node : ℕ} {acc : Bits} {p e : ℕ} {b : Bits} {q : ℕ} (i : InTest P L S X root node acc p e b q) where
   pub turn_here : AskRest P L S X root node acc p e → Within P L S X root node → q < e → AskTurn P L S X root node b q e
   turn_here a w h = record { within = w; want = _; todo = i.again a.want a.todo; more = h }
 
   pub said_met : {stop deep : Bits} → stop ≡ true → q < e → DoneSaid P L S X root node acc p e stop (record { acc = b; q = q; call = true; deep = deep })
-  said_met u h = record { later = λ y. i.later; near = omega arith; goes = i.again; ended = λ y. absurd (true≢false y); onward = λ y. absurd (false≢true (sym y ∙ u)) }
+  said_met u h = record { later = λ y. i.later; near = omega arith; goes = i.again; ended = λ y. absurd (never (sym y)); onward = λ y. absurd (never (sym y ∙ u)) }
 
   pub said_told : {stop deep : Bits} → e ≤ q → DoneSaid P L S X root node acc p e stop (record { acc = b; q = e; call = false; deep = deep })
   said_told h = record { later = λ y. y; near = omega arith; goes = λ want l. left_ended h (i.again want l); ended = λ y. omega arith; onward = λ y. refl }

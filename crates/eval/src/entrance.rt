@@ -5,7 +5,6 @@ ghost use Rattle.eval_asks.specs.Asks.{Begins, AskSegments, DoneSegments, AskEnt
 
 use crate::{each_child, each_place, eval_filter, evaluate_segment};
 use eval_asks::{AT, PLAN, TABLE};
-use eval_items::plans;
 use plan_format::heads::{FILTER_HEAD, SLICE_HEAD, WILDCARD_HEAD};
 use plan_format::kinds::{CHILD, END};
 use table::records;
@@ -65,7 +64,7 @@ fn first(lent: &[&[u8]; 4], state: &mut [usize; 3], list: &mut &mut [u32], node:
     let head = bytes::word32(plan, pc);
     let p = pc + 3;
     if head == FILTER_HEAD {
-        let rest = plans::past_sized(plan, p);
+        let rest = p + 3 + bytes::word16(plan, p + 1);
         if !eval_shortcuts::keep_children(lent, state, list, node, p, rest) {
             eval_filter(lent, state, list, node, p, rest);
         }

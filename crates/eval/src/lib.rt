@@ -9,7 +9,6 @@
 //   descents   the next child that a descent goes to
 //   entrance   where evaluation begins
 //   rows       the nodes of a range with a filter that meets match or search
-//   says       what a filter says of a node, and which it keeps next
 
 #![tactic(auto)]
 
@@ -20,7 +19,6 @@ ghost use Rattle.eval_asks.specs.Lent.{plan_of, pool_of, table_of, text_of};
 ghost use Rattle.eval_asks.specs.Asks.{Asked, Steady, AskSegment, DoneSegment, AskSelectors, DoneSelectors, AskDescent, DoneDescent, AskSelector, DoneSelector, AskKind, AskEach, DoneEach, AskNext, DoneNext, AskQuery, DoneQuery};
 ghost use Rattle.eval.specs.Loops.{DoneSaid, DoneTested};
 
-use crate::says::{Next, Said};
 use eval_asks::{AT, CAP, PLAN, POOL, ROOT, TABLE, TEXT};
 use eval_filters::Told;
 use eval_items::{Regs, leaves, plans};
@@ -35,7 +33,24 @@ mod answers;
 mod descents;
 pub mod entrance;
 mod rows;
-mod says;
+
+// What a filter says of a node: the answer in front of q. Where `call`, a call of match or search stands there; else it is the filter's. `deep` says whether a query was
+// evaluated for it.
+#[derive(Clone, Copy)]
+struct Said {
+    acc: bool,
+    q: usize,
+    call: bool,
+    deep: bool,
+}
+
+// The next node that a filter keeps; where `call`, the next that goes by cells with those behind it. `seen` says whether those behind it should.
+#[derive(Clone, Copy)]
+struct Next {
+    node: usize,
+    call: bool,
+    seen: bool,
+}
 
 // One node with the segments at pc.
 #[cycle(evaluation)]
@@ -128,7 +143,7 @@ fn descend_flats(
     }
 }
 
-// The selectors of the segment at pc on a node, one after the other. Of several, those at the front that `pick_front` knows are done by it.
+// The selectors of the segment at pc on a node, one after the other.
 #[cycle(evaluation)]
 fn apply_selectors(
     lent: &[&[u8]; 4],
@@ -143,18 +158,9 @@ fn apply_selectors(
     ensures done_selectors { DoneSelectors lent.now node pc state.old list.old.now state.new list.new.now }
 {
     let plan = lent[PLAN];
-    let n = bytes::word16(plan, pc + 1);
-    let rest = plans::skip_selectors(plan, pc + 3, n);
-    if n == 1 {
-        apply_selector(lent, state, list, node, pc + 3, rest);
-        return;
-    }
-    let r = eval_shortcuts::pick_front(lent, state, list, node, pc + 3, n, rest);
-    if r.n == 0 {
-        return;
-    }
-    let mut m = r.n;
-    let mut p = r.p;
+    let mut m = bytes::word16(plan, pc + 1);
+    let mut p = pc + 3;
+    let rest = plans::skip_selectors(plan, p, m);
     while 1 < m {
         apply_selector(lent, state, list, node, p, rest);
         if state[CAP] < state[AT] {
@@ -309,7 +315,7 @@ fn eval_filter(
     ensures steady { Steady state.old list.old state.new list.new }
     ensures done_selector { DoneSelector lent.now node p rest state.old list.old.now state.new list.new.now }
 {
-    let z = plans::past_sized(lent[PLAN], p);
+    let z = p + 3 + bytes::word16(lent[PLAN], p + 1);
     let table = lent[TABLE];
     let i = records::first_child(table, node) as usize;
     let n = records::child_count(table, node) as usize;
@@ -327,7 +333,11 @@ fn eval_filter(
             return;
         }
         if v.seen {
-            v = says::by_cells(j + 1);
+            v = Next {
+                node: j + 1,
+                call: true,
+                seen: false,
+            };
         } else {
             v = next_kept(lent, state[ROOT], j + 1, e, p + 3, z);
         }
@@ -346,20 +356,40 @@ fn next_kept(lent: &[&[u8]; 4], root: usize, i: usize, e: usize, p: usize, z: us
         let s = eval_filter_expr(lent, root, j, false, p, z, true);
         if s.call {
             if !s.deep {
-                return says::by_cells(j);
+                return Next {
+                    node: j,
+                    call: true,
+                    seen: false,
+                };
             }
             let r = eval_filter_expr(lent, root, j, s.acc, s.q, z, false);
             if r.acc {
-                return says::keeps(j, true);
+                return Next {
+                    node: j,
+                    call: false,
+                    seen: true,
+                };
             }
-            return says::by_cells(j + 1);
+            return Next {
+                node: j + 1,
+                call: true,
+                seen: false,
+            };
         }
         if s.acc {
-            return says::keeps(j, false);
+            return Next {
+                node: j,
+                call: false,
+                seen: false,
+            };
         }
         j += 1;
     }
-    says::keeps(j, false)
+    Next {
+        node: j,
+        call: false,
+        seen: false,
+    }
 }
 
 // What a test's code from p up to e, with an answer before it, says of a node. A part that is not told without registers goes by them, but for a call of match or search,
@@ -399,7 +429,12 @@ fn eval_filter_expr(
         } else {
             if stop {
                 if eval_shortcuts::is_call(lent, root, node, q, e) {
-                    return says::met(b, q, deep);
+                    return Said {
+                        acc: b,
+                        q,
+                        call: true,
+                        deep,
+                    };
                 }
             }
             let r = eval_test(lent, root, node, b, q, e);
@@ -408,7 +443,12 @@ fn eval_filter_expr(
             deep = true;
         }
     }
-    says::told(b, e, deep)
+    Said {
+        acc: b,
+        q: e,
+        call: false,
+        deep,
+    }
 }
 
 // The answer of a test's code from p on, with an answer before it, by registers, up to where nothing stands in them, and the place behind; the code ends at e.

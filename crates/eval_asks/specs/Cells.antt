@@ -1,7 +1,7 @@
 -- How far a filter has been told of a node, as one number: the place in its code, and 65,536 more where the answer in front of that place is true. P is the plan, L the
 -- pool, S the table, X the text. Assumes nothing.
-use Rattle.std.specs.Prelude.{ℕ, ◌+◌, ◌-◌, ◌≤◌, ◌<◌, ◌≡◌, refl, List, [], Bool as Bits, true, false, cond, leb, ltb, eqb, length, get_or, set}
-use Rattle.std.proofs.Common.{sym, ap, ◌∙◌, subst, length-set, get_or-set_same, get_or-set_other, arith, le-leb, ltb-true, ltb-false, eqb-true}
+use Rattle.std.specs.Prelude.{ℕ, ◌+◌, ◌-◌, ◌≤◌, ◌<◌, ◌≡◌, refl, List, [], Bool as Bits, true, false, cond, leb, eqb, length, get_or, set}
+use Rattle.std.proofs.Common.{sym, ap, ◌∙◌, subst, length-set, get_or-set_same, get_or-set_other, arith, le-leb, eqb-true}
 use Rattle.std.proofs.lemmas.Bool.{lt-leb, eqb-false}
 use Rattle.definition.specs.Values.{Json}
 use Rattle.definition.specs.Forms.{Test}
@@ -124,11 +124,3 @@ column_set {P} {L} {S} {X} {root} {i} {e} {p} {z} {l} o j c b h d =
     go k u v false y =
         let n : k ≡ j → ⊥ = eqb-false k j y in
         subst (InCell P L S X root k p z) (sym (get_or-set_other l (j - i) (k - i) c 0 (λ w. n (omega (arith, w))))) (o.all k u v)
-
--- from a place of the code to a later one, less of it is left
-pub later_less : {q z r : ℕ} → (r < z → q + 1 ≤ r) → q < z → z - r < z - q
-later_less {q} {z} {r} d h = go (ltb r z) refl
-  where
-    go : (b : Bits) → ltb r z ≡ b → z - r < z - q
-    go true e = let m = d (ltb-true r z e) in omega arith
-    go false e = let m = ltb-false r z e in omega arith

@@ -1,14 +1,14 @@
 -- The selectors by their kinds: from what `apply_selector` has at hand to what each function asks, and from what that gives to what was asked; the invariants of the
 -- loops over places, children and kept children, and their turns. P is the plan, L the pool, S the table, X the text; v is what is lent. Assumes nothing.
 use Rattle.std.specs.Prelude.{ℕ, zero, suc, ◌+◌, ◌-◌, ◌≤◌, ◌<◌, ◌≡◌, refl, List, [], ◌∷◌, Bool as Bits, true, false, eqb, length, get_or, set}
-use Rattle.std.proofs.Common.{sym, ap, ◌∙◌, subst, true≢false, eqb-true, arith}
-use Rattle.std.proofs.lemmas.Bool.{false≢true, eqb-false}
+use Rattle.std.proofs.Common.{sym, ap, ◌∙◌, subst, eqb-true, arith}
+use Rattle.std.proofs.lemmas.Bool.{eqb-false}
 use Rattle.std.specs.Borrow.{Bor}
-use Rattle.definition.specs.Bytes.{number, part}
 use Rattle.definition.specs.Limits.{max_nodes}
 use Rattle.definition.specs.Forms.{Segments, Test}
 use Rattle.definition.specs.Tables.{node_count, node_at, child_count, low_word}
 use Rattle.definition.specs.Evaluation.{eval_test}
+use Rattle.text.specs.Words.{Word}
 use Rattle.slices.specs.Walks.{Inside, walked}
 use Rattle.slices.specs.Laws.{inside_at, inside_more}
 use Rattle.slices.specs.declared.Walk.{Walk}
@@ -22,6 +22,7 @@ use Rattle.eval_values.specs.declared.members.Member.TheVariants.{At, Nothing as
 use Rattle.eval_items.specs.Leaves.{AskOne, DoneOne, AskWalk, DoneWalk}
 use Rattle.eval_front.specs.Visits.{Query, AskNumbers, AskWalked, AskPlaced, DonePlaced, Further, numbers_from, over, goes}
 use Rattle.eval_front.specs.Overs.{over_step, over_end, over_full, over_numbers, goes_full}
+use Rattle.eval_front.specs.Fronts.{never}
 use Rattle.eval_front.specs.Places.{goes_places, goes_step, goes_end}
 use Rattle.eval_front.specs.Stands.{kind_low, kind_high, alone_in, one_found, one_absent, slice_asked, slice_done, filter_end}
 use Rattle.eval_front.specs.Spans.{over_range, wildcard_range}
@@ -145,14 +146,14 @@ module _ {v : List (Bor (List ℕ))} {s l : List ℕ} {node p rest : ℕ} (a : A
     pub filter_bound : p + 3 ≤ length (plan_of v)
     filter_bound = (filtered q.selects).bound
 
-    module _ {z : ℕ} (w : z ≡ p + 3 + number (part (plan_of v) (p + 1) 2)) where
-      pub filter_inside : z ≤ rest
-      filter_inside = filter_end q.selects.stands (filtered q.selects) w
+    module _ {n : ℕ} (w : Word 2 (plan_of v) (p + 1) n) where
+      pub filter_inside : p + 3 + n ≤ rest
+      filter_inside = filter_end q.selects.stands (filtered q.selects) n w
 
-      pub tests : (x : Selects (plan_of v) (pool_of v) p rest) → Tested (plan_of v) (pool_of v) (p + 3) z (filtered x).t x.k
-      tests x = tested_of (filtered x) w
+      pub tests : (x : Selects (plan_of v) (pool_of v) p rest) → Tested (plan_of v) (pool_of v) (p + 3) (p + 3 + n) (filtered x).t x.k
+      tests x = tested_of (filtered x) n w
 
-      pub test_asked : AskTest (plan_of v) (pool_of v) (p + 3) z
+      pub test_asked : AskTest (plan_of v) (pool_of v) (p + 3) (p + 3 + n)
       test_asked = record { t = (filtered q.selects).t; k = q.selects.k; stands = tests q.selects }
 
       pub rest_asked : Query (plan_of v) (pool_of v) rest
@@ -171,10 +172,10 @@ module _ {v : List (Bor (List ℕ))} {s l : List ℕ} {node p rest : ℕ} (a : A
             over_range x.q _ (kept (filtered x).t _) S X i c σ ∙ span_kept x.q (filtered x).t _ S X i c σ
             ∙ select_filter S X a.given.tab node q.node_in i c kept_range x.q _ σ x.x (filtered x).t (filtered x).made
 
-        pub next_asked : (j : ℕ) → i ≤ j → AskNext v (root_of s) j (i + c) (p + 3) z
+        pub next_asked : (j : ℕ) → i ≤ j → AskNext v (root_of s) j (i + c) (p + 3) (p + 3 + n)
         next_asked j h = record { given = a.given; root_in = a.root_in; range = λ y. kept_in_table (omega arith); test = test_asked }
 
-        pub filter_done : {s' l' : List ℕ} → Gives (Keeps (plan_of v) (pool_of v) (p + 3) z rest) (keeping v (p + 3) z rest i (i + c)) s l s' l' → DoneSelector v node p rest s l s' l'
+        pub filter_done : {s' l' : List ℕ} → Gives (Keeps (plan_of v) (pool_of v) (p + 3) (p + 3 + n) rest) (keeping v (p + 3) (p + 3 + n) rest i (i + c)) s l s' l' → DoneSelector v node p rest s l s' l'
         filter_done g = gives_as _ g (λ x. record { t = (filtered x).t; k = x.k; q = x.q; k' = x.k'; tested = tests x; after = x.stands.after }) kept_same
 
 -- ---- the children of a range
@@ -332,10 +333,10 @@ module _ {v : List (Bor (List ℕ))} {root i e p z j : ℕ} (t : InNext v root i
 -- ---- a filter that is read once, or is not
 
 pub kept_none : (v : List (Bor (List ℕ))) (node p rest : ℕ) (s l : List ℕ) → DoneKeep v node p rest s l s l false
-kept_none v node p rest s l = record { done = λ u. absurd (false≢true u); numbers = λ u. refl; list = λ u. refl }
+kept_none v node p rest s l = record { done = λ u. absurd (never u); numbers = λ u. refl; list = λ u. refl }
 
 pub kept_done : (v : List (Bor (List ℕ))) (node p rest : ℕ) (s l s' l' : List ℕ) → DoneSelector v node p rest s l s' l' → DoneKeep v node p rest s l s' l' true
-kept_done v node p rest s l s' l' d = record { done = λ u. d; numbers = λ u. absurd (true≢false u); list = λ u. absurd (true≢false u) }
+kept_done v node p rest s l s' l' d = record { done = λ u. d; numbers = λ u. absurd (never (sym u)); list = λ u. absurd (never (sym u)) }
 
 -- where it is not, what follows is done from the same numbers and the same list
 pub kept_after : {v : List (Bor (List ℕ))} {node p rest : ℕ} {s l s' l' s'' l'' : List ℕ} {r : Bits} → DoneKeep v node p rest s l s' l' r → r ≡ false → DoneSelector v node p rest s' l' s'' l'' → DoneSelector v node p rest s l s'' l''

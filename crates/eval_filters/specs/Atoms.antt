@@ -1,8 +1,8 @@
 -- A test of one member of a node, as the plan has it: `@` with one name, tested or compared with a literal. What its bytes are, and that what is found under the
 -- name takes what is left of a filter's code further. P is the plan, L the pool, S the table, X the text. Assumes nothing.
 use Rattle.std.specs.Prelude.{ℕ, ◌+◌, ◌≤◌, ◌<◌, ◌≡◌, refl, List, [], ◌∷◌, Bool as Bits, true, false, cond, eqb, ltb, length, get_or}
-use Rattle.std.proofs.Common.{sym, ap, ◌∙◌, subst, true≢false, arith, eq-eqb, ne_eqb, eqb-true}
-use Rattle.std.proofs.lemmas.Bool.{false≢true, eqb-false}
+use Rattle.std.proofs.Common.{sym, ap, ◌∙◌, subst, arith, eq-eqb, ne_eqb, eqb-true}
+use Rattle.std.proofs.lemmas.Bool.{eqb-false}
 use Rattle.definition.specs.Bytes.{number, part}
 use Rattle.definition.specs.Limits.{max_plan, max_nodes}
 use Rattle.definition.specs.Values.{Json}
@@ -23,7 +23,7 @@ use Rattle.eval_items.specs.LeafLaws.{name_asked, name_found}
 use Rattle.eval_front.specs.Visits.{Query, Given, Head, AskReach, DoneReach}
 use Rattle.eval_front.specs.Loops.{InReach}
 use Rattle.eval_front.specs.Heads.{name_ends}
-use Rattle.eval_front.specs.Fronts.{single, along_start, one_asked, reach_lost, reach_next, reach_found}
+use Rattle.eval_front.specs.Fronts.{never, single, along_start, one_asked, reach_lost, reach_next, reach_found}
 use Rattle.eval_front.specs.declared.Reached.{Reached}
 use Rattle.eval_filters.specs.Queries.{Within, begins_node, found_lost}
 use Rattle.eval_filters.specs.Tests.{Left, AskShort, DoneShort, AskAgainst, DoneAgainst, AskNode, DoneNode, DonePlain, plain_one, short_tested, short_asked, short_compared, against_value, against_nothing, against_node, short_query}
@@ -48,7 +48,7 @@ abbrev pub DoneName : List ℕ → ℕ → Bits → Type 0
 DoneName P c r = r ≡ true → NameAt P c
 
 pub not_name : (P : List ℕ) (c : ℕ) → DoneName P c false
-not_name P c e = absurd (false≢true e)
+not_name P c e = absurd (never e)
 
 module _ {P : List ℕ} {c : ℕ} (few : length P ≤ max_plan) (n : NameAt P c) where
   -- such a query takes nine bytes
@@ -167,7 +167,7 @@ abbrev pub DoneBehind : List ℕ → ℕ → ℕ → Behind → Type 0
 DoneBehind P z e r = r.some ≡ true → AgainstAt P z e r.op r.next
 
 pub none_behind : {P : List ℕ} {z e : ℕ} {r : Behind} → r.some ≡ false → DoneBehind P z e r
-none_behind n i = absurd (false≢true (sym n ∙ i))
+none_behind n i = absurd (never (sym n ∙ i))
 
 -- ---- the test of one member
 
@@ -253,7 +253,7 @@ module _ {P L S X : List ℕ} {root node q e : ℕ} (a : AskShort P L S X root n
         inside = λ u. absurd (omega arith);
         past = λ u f k h. ap (λ (x : ℕ). q + 1 + x) (sym (name_long a.within.few_p b.here h));
         found = λ u. found_lost P L S X a.within.tab node q a.within.node_in _ d refl 0x19;
-        onward = λ u. absurd (true≢false u);
+        onward = λ u. absurd (never (sym u));
       }
 
   -- node m is found

@@ -4,7 +4,6 @@ use Prim.Native.Nat.{ℕ, ◌+◌, ◌-◌, ◌≤◌, ◌<◌, min}
 use Rattle.std.specs.Prelude.{◌≡◌, List, [], ◌∷◌, Bool as Bits, true, false, ℤ, pos, length, get_or}
 use Rattle.std.proofs.Math.Path.{refl, ap}
 use Rattle.std.proofs.Common.{◌∙◌}
-use Rattle.std.proofs.lemmas.Bool.{false≢true}
 use Rattle.std.proofs.lemmas.List.{length-map}
 use native.Mathlib.Omega.{arith}
 use Rattle.definition.specs.Bytes.{number, part}
@@ -34,6 +33,7 @@ use Rattle.eval_values.specs.Means.{meaning}
 use Rattle.eval_values.specs.declared.Operand.{Operand}
 use Rattle.eval_items.specs.Ends.{AskLiteral, DoneLiteral}
 use Rattle.eval_items.specs.Leaves.{AskValue, DoneValue, begins_at}
+use Rattle.eval_front.specs.Fronts.{never}
 use Rattle.eval_front.specs.Visits.{Query, Given, DoneReach}
 use Rattle.eval_filters.specs.declared.Told.{Told}
 use Rattle.eval_filters.specs.Tests.{Left, AskShort, DoneShort, compares_as, literal_in, operator_in, compared, query_at}
@@ -58,7 +58,7 @@ pub record DoneChildren (P : List ℕ) (c : ℕ) (r : Bits) : Type 0 where
   pub count : r ≡ true → get_or P (c + 5) 0 ≡ 0x19
 
 pub children_none : (P : List ℕ) (c : ℕ) → DoneChildren P c false
-children_none P c = record { star = λ e. absurd (false≢true e); count = λ e. absurd (false≢true e) }
+children_none P c = record { star = λ e. absurd (never e); count = λ e. absurd (never e) }
 
 module _ (P L : List ℕ) (few : length P ≤ max_plan) (c k : ℕ) (f : Segments) (h : SegmentsAt P L c k f) (t : get_or P c 0 ≡ 3) where
   star_parts : Parts P L c k f
@@ -156,7 +156,7 @@ pub record DoneCounted (P L : List ℕ) (n z e : ℕ) (r : Told) : Type 0 where
   pub goes : r.some ≡ true → (R N : Json) (acc want : Bits) → Todo P L z e R N acc Value.nothing (Value.integer (pos n)) want → Left P L r.q e R N r.acc want
 
 pub counted_none : (P L : List ℕ) (n z e q : ℕ) → DoneCounted P L n z e (record { acc = false; q = q; some = false })
-counted_none P L n z e q = record { further = λ t. absurd (false≢true t); goes = λ t. absurd (false≢true t) }
+counted_none P L n z e q = record { further = λ t. absurd (never t); goes = λ t. absurd (never t) }
 
 module _ {P L S X : List ℕ} {n z e : ℕ} (a : AskCounted P L S X n z e) (m : z < e) where
   pub counted_in : z < length P

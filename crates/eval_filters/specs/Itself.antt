@@ -2,10 +2,9 @@
 -- L the pool, S the table, X the text. Assumes nothing.
 use Rattle.std.specs.Prelude.{ℕ, ◌+◌, ◌<◌, ◌≡◌, refl, List, Bool as Bits, true, false, length, get_or}
 use Rattle.std.proofs.Common.{sym, ◌∙◌, subst, arith}
-use Rattle.std.proofs.lemmas.Bool.{false≢true}
 use Rattle.eval_items.specs.Leaves.{begins_at}
 use Rattle.eval_front.specs.Visits.{Query, Given, DoneReach}
-use Rattle.eval_front.specs.Fronts.{reach_found}
+use Rattle.eval_front.specs.Fronts.{never, reach_found}
 use Rattle.eval_filters.specs.Queries.{Within, begins_node}
 use Rattle.eval_filters.specs.Tests.{AskShort, AskAgainst, AskNode, DoneNode, DonePlain, plain_one, short_asked, short_compared, short_query, against_value, against_node}
 use Rattle.eval_filters.specs.Kept.{AskTest, DoneTest}
@@ -24,7 +23,7 @@ abbrev pub DoneItself : List ℕ → ℕ → ℕ → Itself → Type 0
 DoneItself P p z r = r.some ≡ true → ItselfAt P p z r.form r.op
 
 pub none_itself : {P : List ℕ} {p z : ℕ} {r : Itself} → r.some ≡ false → DoneItself P p z r
-none_itself n e = absurd (false≢true (sym n ∙ e))
+none_itself n e = absurd (never (sym n ∙ e))
 
 pub itself_at : {P : List ℕ} {p z op next form : ℕ} → get_or P p 0 ≡ 2 → get_or P (p + 1) 0 ≡ 0x0A → AgainstAt P (p + 2) z op next → next ≡ z → form ≡ form_of (get_or P (p + 2) 0) op → ItselfAt P p z form op
 itself_at {P} {p} {z} {op} {next} {form} a b d e f =

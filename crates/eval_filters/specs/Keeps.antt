@@ -4,7 +4,7 @@
 -- Assumes nothing.
 use Rattle.std.specs.Prelude.{ℕ, ◌+◌, ◌≤◌, ◌<◌, ◌≡◌, refl, List, [], ◌∷◌, Bool as Bits, true, false, not, ◌&&◌, leb, ℤ, pos, length, get_or}
 use Rattle.std.proofs.Common.{sym, ap, ◌∙◌, subst, arith, leb-true, le-leb}
-use Rattle.std.proofs.lemmas.Bool.{false≢true, lt-leb}
+use Rattle.std.proofs.lemmas.Bool.{lt-leb}
 use Rattle.definition.specs.Bytes.{number, part, signed64}
 use Rattle.definition.specs.Limits.{max_plan, max_nodes}
 use Rattle.definition.specs.Values.{Json}
@@ -26,7 +26,7 @@ use Rattle.eval_values.specs.declared.Operand.TheVariants.{Int}
 use Rattle.eval_items.specs.LeafLaws.{literal_room, done_integer}
 use Rattle.eval_items.specs.Leaves.{AskValue, AskOne, DoneOne, begins_at}
 use Rattle.eval_front.specs.Visits.{Given, Query, Head, AskVisit, DoneVisit, DoneReach, over}
-use Rattle.eval_front.specs.Fronts.{reach_found}
+use Rattle.eval_front.specs.Fronts.{never, reach_found}
 use Rattle.eval_front.specs.Turns.{visit_lost, visit_end}
 use Rattle.eval_front.specs.declared.Visited.{Visited}
 use Rattle.eval_front.specs.declared.Stop.{Stop}
@@ -68,7 +68,7 @@ DonePushed P L S X node rest cap l at l' r = DoneVisit P L S X node rest cap l a
 
 module _ {P L S X : List ℕ} {node rest len at cap : ℕ} (a : AskVisit P L S X node rest len at cap) (l : List ℕ) where
   settled : {l' : List ℕ} {v : Visited} → DoneVisit P L S X node rest cap l at l' v → v.more ≡ false → DonePushed P L S X node rest cap l at l' v.at
-  settled d e = record { room = d.room; ended = λ u. d.ended e; places = λ u. absurd (false≢true u); next = λ u. absurd (false≢true u); paused = λ u. absurd (false≢true u) }
+  settled d e = record { room = d.room; ended = λ u. d.ended e; places = λ u. absurd (never u); next = λ u. absurd (never u); paused = λ u. absurd (never u) }
 
   reached_here : DoneReach P L S X node rest (record { node = node; pc = rest; some = true })
   reached_here = let i = start_here a.node_in a.query in record { node_in = a.node_in; deeper = omega arith; later = omega arith; front = reach_found i }
@@ -256,11 +256,11 @@ module _ {P L S X : List ℕ} {root i e p z rest cap : ℕ} {l : List ℕ} {at :
       record {
         room = d.room;
         ended = λ u. d.ended;
-        low = λ u. absurd (false≢true u);
-        high = λ u. absurd (false≢true u);
-        again = λ u. absurd (false≢true u);
-        holds = λ u. absurd (false≢true u);
-        paused = λ u. absurd (false≢true u);
+        low = λ u. absurd (never u);
+        high = λ u. absurd (never u);
+        again = λ u. absurd (never u);
+        holds = λ u. absurd (never u);
+        paused = λ u. absurd (never u);
       }
 
 -- the next node of the loop
@@ -331,7 +331,7 @@ abbrev pub DoneCounts : List ℕ → ℕ → ℕ → Counts → Type 0
 DoneCounts P p z r = r.some ≡ true → CountsAt P p z r.op
 
 pub none_counts : {P : List ℕ} {p z op : ℕ} → DoneCounts P p z (record { op = op; some = false })
-none_counts e = absurd (false≢true e)
+none_counts e = absurd (never e)
 
 pub counts_at : {P : List ℕ} {p z op next : ℕ} → get_or P p 0 ≡ 2 → Head P (p + 1) 8 → get_or P (p + 1 + 4) 0 ≡ 0x0A → get_or P (p + 1 + 5) 0 ≡ 0x19 → get_or P (p + 1 + 6) 0 ≡ 0x10 → AgainstAt P (p + 1 + 6) z op next → next ≡ z → p + 1 + 6 < length P → CountsAt P p z op
 counts_at {P} {p} {z} {op} {next} a h b c i d e r =

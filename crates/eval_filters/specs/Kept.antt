@@ -1,18 +1,18 @@
 -- The nodes of a range for which a test holds: what is asked and given, the invariant of the loop over them, and its turns. Each answer holds for every form whose
 -- code stands there. P is the plan, L the pool, S the table, X the text. Assumes nothing.
 use Rattle.std.specs.Prelude.{ℕ, ◌+◌, ◌≤◌, ◌<◌, ◌≡◌, refl, List, Bool as Bits, true, false, length}
-use Rattle.std.proofs.Common.{sym, ap, ◌∙◌, true≢false, arith}
-use Rattle.std.proofs.lemmas.Bool.{false≢true}
-use Rattle.definition.specs.Bytes.{number, part}
+use Rattle.std.proofs.Common.{sym, ap, ◌∙◌, arith}
 use Rattle.definition.specs.Forms.{Segments, Test, Selector}
 use Rattle.definition.specs.Plans.{code_test}
 use Rattle.definition.specs.Tables.{node_count, node_at}
 use Rattle.definition.specs.Evaluation.{eval_test}
+use Rattle.text.specs.Words.{Word}
 use Rattle.eval_laws.specs.States.{st}
 use Rattle.eval_laws.specs.Steps.{kept, kept_in, kept_out}
 use Rattle.eval_laws.specs.Items.{SegmentsAt, TestAt, Filtered}
 use Rattle.eval_front.specs.Visits.{cap_limit, Given, Query, Paused, DoneVisit, over}
 use Rattle.eval_front.specs.Overs.{over_step, over_end, over_full}
+use Rattle.eval_front.specs.Fronts.{never}
 use Rattle.eval_front.specs.declared.Visited.{Visited}
 use Rattle.eval_front.specs.declared.Stop.{Stop}
 
@@ -54,8 +54,8 @@ pub record DoneKept (P L S X : List ℕ) (root i e p z rest cap : ℕ) (l : List
   pub paused : r.more ≡ true → Paused P L S X r.i rest r.node r.pc
 
 -- a filter's test, up to the end that is read
-pub tested_of : {P L : List ℕ} {p k : ℕ} {x : Selector} (y : Filtered P L p k x) {z : ℕ} → z ≡ p + 3 + number (part P (p + 1) 2) → Tested P L (p + 3) z y.t k
-tested_of {p = p} y w = record { test = y.test; place = w ∙ ap (λ (n : ℕ). p + 3 + n) y.count }
+pub tested_of : {P L : List ℕ} {p k : ℕ} {x : Selector} (y : Filtered P L p k x) (n : ℕ) → Word 2 P (p + 1) n → Tested P L (p + 3) (p + 3 + n) y.t k
+tested_of {p = p} y n w = record { test = y.test; place = ap (λ (z : ℕ). p + 3 + z) (w.is ∙ y.count) }
 
 -- the nodes of a range for which a test holds
 pub record InKept (P L S X : List ℕ) (root i e p z rest cap : ℕ) (l₀ : List ℕ) (a₀ : ℕ) (l : List ℕ) (a j : ℕ) : Type 0 where
@@ -76,11 +76,11 @@ module _ {P L S X : List ℕ} {root i e p z rest cap : ℕ} {l₀ : List ℕ} {a
       record {
         room = t.room;
         ended = λ u x k f k' b c. sym (over_full f (node_at S X root) (kept x (node_at S X root)) S X j e cap l a h t.room (omega (arith, t.same))) ∙ t.again x k f k' b c;
-        low = λ u. absurd (false≢true u);
-        high = λ u. absurd (false≢true u);
-        again = λ u. absurd (false≢true u);
-        holds = λ u. absurd (false≢true u);
-        paused = λ u. absurd (false≢true u);
+        low = λ u. absurd (never u);
+        high = λ u. absurd (never u);
+        again = λ u. absurd (never u);
+        holds = λ u. absurd (never u);
+        paused = λ u. absurd (never u);
       }
 
   pub kept_end : e ≤ j → DoneKept P L S X root i e p z rest cap l₀ a₀ l (record { i = e; at = a; node = e; pc = rest; more = false })
@@ -88,11 +88,11 @@ module _ {P L S X : List ℕ} {root i e p z rest cap : ℕ} {l₀ : List ℕ} {a
       record {
         room = t.room;
         ended = λ u x k f k' b c. sym (over_end f (node_at S X root) (kept x (node_at S X root)) S X j e (st cap l a) h) ∙ t.again x k f k' b c;
-        low = λ u. absurd (false≢true u);
-        high = λ u. absurd (false≢true u);
-        again = λ u. absurd (false≢true u);
-        holds = λ u. absurd (false≢true u);
-        paused = λ u. absurd (false≢true u);
+        low = λ u. absurd (never u);
+        high = λ u. absurd (never u);
+        again = λ u. absurd (never u);
+        holds = λ u. absurd (never u);
+        paused = λ u. absurd (never u);
       }
 
   module _ {r : Bits} (h : j < e) (y : DoneTest P L S X root j p z r) where
@@ -112,7 +112,7 @@ module _ {P L S X : List ℕ} {root i e p z rest cap : ℕ} {l₀ : List ℕ} {a
       kept_stop m =
           record {
             room = d.room;
-            ended = λ u. absurd (true≢false u);
+            ended = λ u. absurd (never (sym u));
             low = λ u. t.low;
             high = λ u. h;
             again = λ u x k f k' b c. ap (over f (node_at S X root) (kept x (node_at S X root)) S X j e) (same_state cap l l' a v.at (d.places m) (d.next m)) ∙ t.again x k f k' b c;

@@ -3,7 +3,6 @@
 use Rattle.std.specs.Prelude.{ℕ, ◌+◌, ◌≤◌, ◌<◌, ◌≡◌, refl, Bool as Bits, true, false, ◌&&◌, length, get_or}
 use Rattle.std.proofs.Common.{sym, ap, ◌∙◌, arith}
 use mathlib.Core.List.{List, [], ◌∷◌}
-use Rattle.std.proofs.lemmas.Bool.{false≢true}
 use Rattle.definition.specs.Bytes.{part, same_bytes}
 use Rattle.definition.specs.Forms.{Segments}
 use Rattle.definition.specs.Forms.Operator.{eq, ne, lt, le, gt, ge}
@@ -23,6 +22,7 @@ use Rattle.eval_values.specs.declared.Operand.{Operand}
 use Rattle.eval_values.specs.declared.Operand.TheVariants.{Text}
 use Rattle.eval_items.specs.Leaves.{begins_at}
 use Rattle.eval_front.specs.Visits.{Query}
+use Rattle.eval_front.specs.Fronts.{never}
 use Rattle.eval_filters.specs.Queries.{Within, begins_root, begins_node}
 use Rattle.eval_filters.specs.Tests.{Left, FirstIs, DonePlain, AskShort, DoneShort, compares_as, none_compares, none_same, none_below, first_is, valued, query_at, short_mode}
 use Rattle.eval_filters.specs.declared.Told.{Told}
@@ -96,7 +96,7 @@ pub record DoneBeside (P L S X : List ℕ) (root node n first z e : ℕ) (r : To
   pub goes : r.some ≡ true → (acc : Bits) (v : Value) (want : Bits) → FirstIs S X n first v → Todo P L z e (node_at S X root) (node_at S X node) acc Value.nothing v want → Left P L r.q e (node_at S X root) (node_at S X node) r.acc want
 
 pub beside_none : {P L S X : List ℕ} {root node n first z e : ℕ} {r : Told} → r.some ≡ false → DoneBeside P L S X root node n first z e r
-beside_none o = record { further = λ t. absurd (false≢true (sym o ∙ t)); goes = λ t. absurd (false≢true (sym o ∙ t)) }
+beside_none o = record { further = λ t. absurd (never (sym o ∙ t)); goes = λ t. absurd (never (sym o ∙ t)) }
 
 module _ {P L S X : List ℕ} {root node n first z e : ℕ} (a : AskBeside P L S X root node n first z e) (more : z < e) (from : ℕ) (b : from ≡ begins_at (get_or P z 0) root node) where
   beside_at : (acc : Bits) (v : Value) (want : Bits) → Todo P L z e (node_at S X root) (node_at S X node) acc Value.nothing v want → QueryAt P L z e (node_at S X root) (node_at S X node) acc Value.nothing v want (node_at S X from)

@@ -1,8 +1,7 @@
 -- Tests of a node that are told without registers: what the functions ask and give, and the laws that take what is left of a filter's code further by one test.
 -- P is the plan, L the pool, S the table, X the text. Assumes nothing.
 use Rattle.std.specs.Prelude.{ℕ, ◌+◌, ◌-◌, ◌≤◌, ◌<◌, ◌≡◌, refl, List, [], ◌∷◌, Bool as Bits, true, false, not, ◌&&◌, ltb, leb, ℤ, length, get_or}
-use Rattle.std.proofs.Common.{sym, ap, ◌∙◌, subst, true≢false, arith, leb-true}
-use Rattle.std.proofs.lemmas.Bool.{false≢true}
+use Rattle.std.proofs.Common.{sym, ap, ◌∙◌, subst, arith, leb-true}
 use Rattle.definition.specs.Bytes.{number, part, signed64, same_bytes}
 use Rattle.definition.specs.Limits.{max_plan, max_int}
 use Rattle.definition.specs.Values.{Json}
@@ -30,6 +29,7 @@ use Rattle.eval_values.specs.declared.Operand.TheVariants.{Int, Text, Pool}
 use Rattle.eval_items.specs.Ends.{AskLiteral, DoneLiteral, DonePast}
 use Rattle.eval_items.specs.Leaves.{AskValue, DoneValue, begins_at}
 use Rattle.eval_items.specs.LeafLaws.{done_integer, done_text}
+use Rattle.eval_front.specs.Fronts.{never}
 use Rattle.eval_front.specs.Visits.{Query, AskReach, DoneReach}
 use Rattle.eval_front.specs.declared.Reached.{Reached}
 use Rattle.eval_filters.specs.Queries.{Within, begins_root, begins_node, past_of, found_lost, found_one}
@@ -167,7 +167,7 @@ module _ {P L S X : List ℕ} {from q : ℕ} (a : AskReach P L S X from (q + 1))
         inside = λ i. absurd (omega arith);
         past = λ i. past_of P L S X a.given.tab from q a.node_in r d z p;
         found = λ i. found_lost P L S X a.given.tab from q a.node_in r d e 0x19;
-        onward = λ i. absurd (true≢false i);
+        onward = λ i. absurd (never (sym i));
       }
 
   pub plain_one : r.some ≡ true → get_or P r.pc 0 ≡ 0x0A → DonePlain P L S X from q (record { n = 1; first = r.node; z = r.pc + 1; some = true })
@@ -176,11 +176,11 @@ module _ {P L S X : List ℕ} {from q : ℕ} (a : AskReach P L S X from (q + 1))
         inside = λ i. d.node_in;
         past = λ i. past_of P L S X a.given.tab from q a.node_in r d (r.pc + 1) (end_past P r.pc c);
         found = λ i. found_one P L S X a.given.tab from q a.node_in r d e c 0x19;
-        onward = λ i. absurd (true≢false i);
+        onward = λ i. absurd (never (sym i));
       }
 
   pub plain_none : r.some ≡ true → DonePlain P L S X from q (record { n = 0; first = r.node; z = r.pc; some = false })
-  plain_none e = record { inside = λ i. absurd (omega arith); past = λ i. absurd (false≢true i); found = λ i. absurd (false≢true i); onward = λ i. reached d e }
+  plain_none e = record { inside = λ i. absurd (omega arith); past = λ i. absurd (never i); found = λ i. absurd (never i); onward = λ i. reached d e }
 
 -- ---- a test
 
@@ -197,10 +197,10 @@ pub record DoneShort (P L S X : List ℕ) (root node q e : ℕ) (r : Told) : Typ
   pub goes : r.some ≡ true → (acc want : Bits) → Left P L q e (node_at S X root) (node_at S X node) acc want → Left P L r.q e (node_at S X root) (node_at S X node) r.acc want
 
 pub against_none : (P L S X : List ℕ) (n first z e q : ℕ) → DoneAgainst P L S X n first z e (record { acc = false; q = q; some = false })
-against_none P L S X n first z e q = record { further = λ t. absurd (false≢true t); goes = λ t. absurd (false≢true t) }
+against_none P L S X n first z e q = record { further = λ t. absurd (never t); goes = λ t. absurd (never t) }
 
 pub short_none : (P L S X : List ℕ) (root node q e q' : ℕ) → DoneShort P L S X root node q e (record { acc = false; q = q'; some = false })
-short_none P L S X root node q e q' = record { further = λ t. absurd (false≢true t); goes = λ t. absurd (false≢true t) }
+short_none P L S X root node q e q' = record { further = λ t. absurd (never t); goes = λ t. absurd (never t) }
 
 -- ---- the rest of a test by registers
 

@@ -2,8 +2,8 @@
 -- table, X the text. Assumes nothing.
 use Rattle.std.specs.Prelude.{ℕ, ◌<◌, ◌≡◌, List, Bool as Bits, true, false, get_or}
 use Rattle.std.proofs.Common.{sym, ◌∙◌}
-use Rattle.std.proofs.lemmas.Bool.{false≢true}
 use Rattle.definition.specs.Tables.{node_at}
+use Rattle.eval_front.specs.Fronts.{never}
 use Rattle.eval_filters.specs.Queries.{Within}
 use Rattle.eval_filters.specs.Tests.{Left, DoneShort, DoneLogic, AskLogic, logic_kind, logic_kind_lem}
 use Rattle.eval_filters.specs.Values.{AskLeft}
@@ -20,7 +20,7 @@ pub record DoneTurn (P L S X : List ℕ) (root node : ℕ) (acc : Bits) (q z : �
   pub goes : r.some ≡ true → (want : Bits) → Left P L q z (node_at S X root) (node_at S X node) acc want → Left P L r.q z (node_at S X root) (node_at S X node) r.acc want
 
 pub turn_none : {P L S X : List ℕ} {root node : ℕ} {acc : Bits} {q z : ℕ} {r : Told} → r.some ≡ false → DoneTurn P L S X root node acc q z r
-turn_none o = record { further = λ t. absurd (false≢true (sym o ∙ t)); goes = λ t. absurd (false≢true (sym o ∙ t)) }
+turn_none o = record { further = λ t. absurd (never (sym o ∙ t)); goes = λ t. absurd (never (sym o ∙ t)) }
 
 module _ {P L S X : List ℕ} {root node : ℕ} {acc : Bits} {q z : ℕ} (a : AskTurn P L S X root node acc q z) where
   pub turn_left : AskLeft P L S X root node q z

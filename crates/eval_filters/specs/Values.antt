@@ -4,7 +4,6 @@ use Rattle.std.specs.Prelude.{ℕ, ◌+◌, ◌-◌, ◌≤◌, ◌<◌, ◌≡�
 use Rattle.std.proofs.Math.Path.{sym, ap}
 use Rattle.std.proofs.Common.{◌∙◌, subst, arith}
 use mathlib.Core.List.{List, [], ◌∷◌}
-use Rattle.std.proofs.lemmas.Bool.{false≢true}
 use Rattle.definition.specs.Limits.{max_plan, max_int}
 use Rattle.definition.specs.Values.{Json}
 use Rattle.definition.specs.Plans.{code_segments}
@@ -23,6 +22,7 @@ use Rattle.eval_items.specs.Ends.{AskLiteral, DoneLiteral}
 use Rattle.eval_items.specs.EndLaws.{literal_two}
 use Rattle.eval_items.specs.Leaves.{AskValue, DoneValue, begins_at}
 use Rattle.eval_front.specs.Visits.{Query}
+use Rattle.eval_front.specs.Fronts.{never}
 use Rattle.eval_filters.specs.Queries.{Within, begins_root, begins_node}
 use Rattle.eval_filters.specs.Tests.{Left, DonePlain, AskShort, DoneShort, compares_as}
 use Rattle.eval_filters.specs.declared.Told.{Told}
@@ -142,7 +142,7 @@ pub record DoneOperand (P L S X : List ℕ) (root node q e : ℕ) (r : Valued) :
   pub goes : r.some ≡ true → (acc : Bits) (x y : Value) (want : Bits) → Todo P L q e (node_at S X root) (node_at S X node) acc x y want → Todo P L r.q e (node_at S X root) (node_at S X node) acc y (meaning S X L r.v) want
 
 pub operand_none : {P L S X : List ℕ} {root node q e : ℕ} {r : Valued} → r.some ≡ false → DoneOperand P L S X root node q e r
-operand_none o = record { fine = λ t. absurd (false≢true (sym o ∙ t)); further = λ t. absurd (false≢true (sym o ∙ t)); goes = λ t. absurd (false≢true (sym o ∙ t)) }
+operand_none o = record { fine = λ t. absurd (never (sym o ∙ t)); further = λ t. absurd (never (sym o ∙ t)); goes = λ t. absurd (never (sym o ∙ t)) }
 
 module _ {P L S X : List ℕ} {root node q e : ℕ} (a : AskOperand P L S X root node q e) where
   pub operand_in : q < length P
@@ -233,7 +233,7 @@ pub record AskLeft (P L S X : List ℕ) (root node q e : ℕ) : Type 0 where
   pub more : q < e
 
 pub test_none : {P L S X : List ℕ} {root node q e : ℕ} {r : Told} → r.some ≡ false → DoneShort P L S X root node q e r
-test_none o = record { further = λ t. absurd (false≢true (sym o ∙ t)); goes = λ t. absurd (false≢true (sym o ∙ t)) }
+test_none o = record { further = λ t. absurd (never (sym o ∙ t)); goes = λ t. absurd (never (sym o ∙ t)) }
 
 module _ {P L S X : List ℕ} {root node q e : ℕ} (a : AskLeft P L S X root node q e) where
   pub test_short : get_or P q 0 ≤ 2 → AskShort P L S X root node q e

@@ -1,22 +1,18 @@
 -- A filter that is read once, by the way that its form names: what stands in the plan for each. P is the plan. Assumes nothing: these are definitions.
 use Rattle.std.specs.Prelude.{ℕ, ◌≤◌, ◌≡◌, List, get_or}
-use Rattle.std.proofs.Common.{sym, subst, arith}
+use Rattle.std.proofs.Common.{arith}
 use Rattle.eval_filters.specs.Keeps.{TailAt, PairAt, CountsAt}
 use Rattle.eval_filters.specs.Itself.{ItselfAt}
 use Rattle.eval_filters.specs.declared.kept.Form.{Form}
 
-pub record FormAt (P : List ℕ) (p z tail rest : ℕ) (g : Form) : Type 0 where
-  pub tails : TailAt P rest tail
+pub record FormAt (P : List ℕ) (p z rest : ℕ) (g : Form) : Type 0 where
+  pub tail : TailAt P rest g.tail
   pub pair : g.way ≡ 1 → PairAt P p z g.left g.op g.right
-  pub near : g.way ≡ 1 → tail ≤ 1
+  pub near : g.way ≡ 1 → g.tail ≤ 1
   pub counts : g.way ≡ 2 → CountsAt P p z g.op
   pub itself : g.way ≡ 3 → ItselfAt P p z g.form g.op
   pub ends : 2 ≤ g.way → get_or P rest 0 ≡ 0x0A
   pub ways : g.way ≤ 3
-
--- the same where nothing follows
-pub form_ends : {P : List ℕ} {p z tail rest : ℕ} {g : Form} → tail ≡ 0 → FormAt P p z 0 rest g → FormAt P p z tail rest g
-form_ends {P} {p} {z} {rest = rest} {g = g} e d = subst (λ (t : ℕ). FormAt P p z t rest g) (sym e) d
 
 pub members_way : (w : ℕ) → w ≤ 3 → (w ≡ 0 → ⊥) → (w ≡ 2 → ⊥) → (w ≡ 3 → ⊥) → w ≡ 1
 members_way w h n m k = omega arith

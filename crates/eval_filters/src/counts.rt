@@ -5,7 +5,7 @@ ghost use Rattle.eval_filters.specs.Atoms.{AskCode};
 ghost use Rattle.eval_filters.specs.Kept.{AskTest, DoneTest, AskKept};
 ghost use Rattle.eval_filters.specs.Keeps.{CountsAt, DoneCounts, DoneRange};
 
-use crate::{Filter, atoms};
+use crate::atoms;
 use plan_format::heads::WILDCARD_HEAD;
 use plan_format::kinds::{COUNT, CURRENT, END, INTEGER};
 use table::records;
@@ -40,31 +40,36 @@ fn count_passes(
     crate::compare_ints(op, n, b)
 }
 
-// The nodes from i on for which that test holds, where nothing follows.
+// The nodes from i up to e for which that test holds, where nothing follows.
 pub fn keep_counts(
     plan: &[u8],
     pool: &[u8],
     table: &[u8],
     text: &[u8],
-    f: Filter,
+    root: usize,
     i: usize,
+    e: usize,
+    p: usize,
+    z: usize,
     op: u8,
+    rest: usize,
     list: &mut [u32],
     at: usize,
+    cap: usize,
 ) -> usize
-    requires ask_kept { AskKept plan.now pool.now table.now text.now f.root i f.e f.rest (length list.old) at f.cap }
-    requires ask_test { AskTest plan.now pool.now f.p f.z }
-    requires counts_at { CountsAt plan.now f.p f.z op × (get_or plan.now f.rest 0 ≡ 0x0A) }
-    ensures { DoneRange plan.now pool.now table.now text.now f.root i f.e f.p f.z f.rest f.cap list.old at list.new result }
+    requires ask_kept { AskKept plan.now pool.now table.now text.now root i e rest (length list.old) at cap }
+    requires ask_test { AskTest plan.now pool.now p z }
+    requires counts_at { CountsAt plan.now p z op × (get_or plan.now rest 0 ≡ 0x0A) }
+    ensures { DoneRange plan.now pool.now table.now text.now root i e p z rest cap list.old at list.new result }
 {
     let mut a = at;
     let mut j = i;
-    while j < f.e {
-        if f.cap < a {
+    while j < e {
+        if cap < a {
             return a;
         }
-        if count_passes(plan, pool, table, text, f.root, j, f.p, f.z, op) {
-            a = eval_front::push(list, a, j, f.cap);
+        if count_passes(plan, pool, table, text, root, j, p, z, op) {
+            a = eval_front::push(list, a, j, cap);
             j += 1;
         } else {
             j += 1;

@@ -5,7 +5,7 @@ ghost use Rattle.eval_filters.specs.Kept.{AskTest, AskKept};
 ghost use Rattle.eval_filters.specs.Keeps.{DoneRange};
 ghost use Rattle.eval_filters.specs.Itself.{ItselfAt, DoneItself};
 
-use crate::{Filter, atoms};
+use crate::atoms;
 use plan_format::kinds::{CURRENT, END};
 
 // The form of the comparison, as an atom has it, and its operator; `some` is false where there is no such test.
@@ -54,33 +54,38 @@ pub fn read_itself(plan: &[u8], p: usize, z: usize) -> Itself
     }
 }
 
-// The nodes from i on for which it holds.
+// The nodes from i up to e for which it holds.
 pub fn keep_itself(
     plan: &[u8],
     pool: &[u8],
     table: &[u8],
     text: &[u8],
-    f: Filter,
+    root: usize,
     i: usize,
+    e: usize,
+    p: usize,
+    z: usize,
     form: u8,
     op: u8,
+    rest: usize,
     list: &mut [u32],
     at: usize,
+    cap: usize,
 ) -> usize
-    requires ask_kept { AskKept plan.now pool.now table.now text.now f.root i f.e f.rest (length list.old) at f.cap }
-    requires ask_test { AskTest plan.now pool.now f.p f.z }
-    requires itself_at { ItselfAt plan.now f.p f.z form op × (get_or plan.now f.rest 0 ≡ 0x0A) }
-    ensures { DoneRange plan.now pool.now table.now text.now f.root i f.e f.p f.z f.rest f.cap list.old at list.new result }
+    requires ask_kept { AskKept plan.now pool.now table.now text.now root i e rest (length list.old) at cap }
+    requires ask_test { AskTest plan.now pool.now p z }
+    requires itself_at { ItselfAt plan.now p z form op × (get_or plan.now rest 0 ≡ 0x0A) }
+    ensures { DoneRange plan.now pool.now table.now text.now root i e p z rest cap list.old at list.new result }
 {
-    let q = f.p + 2;
+    let q = p + 2;
     let mut a = at;
     let mut j = i;
-    while j < f.e {
-        if f.cap < a {
+    while j < e {
+        if cap < a {
             return a;
         }
         if atoms::compare_form(plan, pool, table, text, form, op, j, q) {
-            a = eval_front::push(list, a, j, f.cap);
+            a = eval_front::push(list, a, j, cap);
             j += 1;
         } else {
             j += 1;

@@ -1,7 +1,7 @@
 // The nodes of a range for which a test holds: a test of one member, with `!` or without, or of two with `&&` or `||` between them, where nothing or one name follows;
 // the number of all children compared with an integer, and a node itself compared with a literal, where nothing follows. Such a test is read from the plan once, and
 // needs no registers.
-ghost use Rattle.std.specs.Prelude.{◌≡◌, false, ◌+◌, ◌≤◌, ◌<◌, length, get_or};
+ghost use Rattle.std.specs.Prelude.{◌≡◌, ◌+◌, ◌≤◌, ◌<◌, length, get_or};
 ghost use Rattle.definition.specs.Bytes.{number, part};
 ghost use Rattle.definition.specs.Limits.{max_plan};
 ghost use Rattle.eval_items.specs.Leaves.{AskOne, DoneOne};
@@ -13,7 +13,7 @@ ghost use Rattle.eval_filters.specs.Keeps.{AskTail, TailAt, DonePushed, PairAt, 
 ghost use Rattle.eval_filters.specs.Ways.{FormAt};
 
 use crate::atoms::{Atom, Held};
-use crate::{Filter, atoms, counts, itself};
+use crate::{atoms, counts, itself};
 use eval_items::{leaves, plans};
 use eval_values::members;
 use eval_values::members::Member;
@@ -177,33 +177,32 @@ fn passes(
     }
 }
 
-// The nodes from i on for which that test holds, with what follows. Each node's members are looked for first where those of the node before were found.
+// The nodes from i up to e for which that test holds, with what follows. Each node's members are looked for first where those of the node before were found.
 fn keep_pair(
     plan: &[u8],
     pool: &[u8],
     table: &[u8],
     text: &[u8],
-    f: Filter,
+    root: usize,
     i: usize,
+    e: usize,
+    p: usize,
+    z: usize,
     t: Atom,
     join: u8,
     u: Atom,
+    tail: usize,
+    rest: usize,
     list: &mut [u32],
     at: usize,
+    cap: usize,
 ) -> usize
-    requires ask_kept { AskKept plan.now pool.now table.now text.now f.root i f.e f.rest (length list.old) at f.cap }
-    requires ask_test { AskTest plan.now pool.now f.p f.z }
-    requires pair_at { PairAt plan.now f.p f.z t join u }
-    requires tail_at { TailAt plan.now f.rest f.tail × (f.tail ≤ 1) }
-    ensures { DoneRange plan.now pool.now table.now text.now f.root i f.e f.p f.z f.rest f.cap list.old at list.new result }
+    requires ask_kept { AskKept plan.now pool.now table.now text.now root i e rest (length list.old) at cap }
+    requires ask_test { AskTest plan.now pool.now p z }
+    requires pair_at { PairAt plan.now p z t join u }
+    requires tail_at { TailAt plan.now rest tail × (tail ≤ 1) }
+    ensures { DoneRange plan.now pool.now table.now text.now root i e p z rest cap list.old at list.new result }
 {
-    let root = f.root;
-    let e = f.e;
-    let p = f.p;
-    let z = f.z;
-    let tail = f.tail;
-    let rest = f.rest;
-    let cap = f.cap;
     let mut a = at;
     let mut j = i;
     let mut near = 0;
@@ -226,18 +225,6 @@ fn keep_pair(
     a
 }
 
-// No such test.
-fn no_pair(left: Atom) -> Pair
-    ensures { result.some ≡ false }
-{
-    Pair {
-        left,
-        join: 0,
-        right: left,
-        some: false,
-    }
-}
-
 // The test from p up to z of one member, or of two.
 fn read_pair(plan: &[u8], p: usize, z: usize) -> Pair
     requires { AskCode plan.now p z }
@@ -245,7 +232,12 @@ fn read_pair(plan: &[u8], p: usize, z: usize) -> Pair
 {
     let left = atoms::read_atom(plan, p, z);
     if left.form == 0 {
-        return no_pair(left);
+        return Pair {
+            left,
+            join: 0,
+            right: left,
+            some: false,
+        };
     }
     let q = left.next;
     if z <= q {
@@ -274,17 +266,37 @@ fn read_joined(plan: &[u8], left: Atom, q: usize, z: usize) -> Pair
         };
     }
     if !is_join(join) {
-        return no_pair(left);
+        return Pair {
+            left,
+            join,
+            right: left,
+            some: false,
+        };
     }
     if z < q + 3 {
-        return no_pair(left);
+        return Pair {
+            left,
+            join,
+            right: left,
+            some: false,
+        };
     }
     if plans::past_sized(plan, q) != z {
-        return no_pair(left);
+        return Pair {
+            left,
+            join,
+            right: left,
+            some: false,
+        };
     }
     let right = atoms::read_atom(plan, q + 3, z);
     if right.form == 0 {
-        return no_pair(left);
+        return Pair {
+            left,
+            join,
+            right,
+            some: false,
+        };
     }
     let next = right.next;
     Pair {
@@ -306,7 +318,7 @@ fn is_join(k: u8) -> bool
 }
 
 // A filter that is read once: way 1 for tests of members with the operator between them, 2 for the number of children and 3 for a node itself with the operator and
-// the form of the comparison, 0 for every other.
+// the form of the comparison, 0 for every other; and what follows.
 #[derive(Clone, Copy)]
 pub struct Form {
     pub way: u8,
@@ -314,13 +326,14 @@ pub struct Form {
     pub form: u8,
     pub left: Atom,
     pub right: Atom,
+    pub tail: usize,
 }
 
 // The filter from p up to z, at the end of its query, where it tests no member.
 fn read_alone(plan: &[u8], p: usize, z: usize, rest: usize, g: Pair) -> Form
     requires ask_code { AskCode plan.now p z }
     requires rest_value { get_or plan.now rest 0 ≡ 0x0A }
-    ensures { FormAt plan.now p z 0 rest result }
+    ensures { FormAt plan.now p z rest result }
 {
     let left = g.left;
     let right = g.right;
@@ -332,6 +345,7 @@ fn read_alone(plan: &[u8], p: usize, z: usize, rest: usize, g: Pair) -> Form
             form: v.form,
             left,
             right,
+            tail: 0,
         };
     }
     let c = counts::read_counts(plan, p, z);
@@ -342,6 +356,7 @@ fn read_alone(plan: &[u8], p: usize, z: usize, rest: usize, g: Pair) -> Form
             form: 0,
             left,
             right,
+            tail: 0,
         };
     }
     Form {
@@ -350,15 +365,17 @@ fn read_alone(plan: &[u8], p: usize, z: usize, rest: usize, g: Pair) -> Form
         form: 0,
         left,
         right,
+        tail: 0,
     }
 }
 
 // The filter from p up to z with what follows at rest.
-pub fn read_form(plan: &[u8], p: usize, z: usize, tail: usize, rest: usize) -> Form
+pub fn read_form(plan: &[u8], p: usize, z: usize, rest: usize) -> Form
     requires ask_code { AskCode plan.now p z }
-    requires tail_at { TailAt plan.now rest tail }
-    ensures { FormAt plan.now p z tail rest result }
+    requires ask_tail { AskTail plan.now rest }
+    ensures { FormAt plan.now p z rest result }
 {
+    let tail = tail_of(plan, rest);
     let g = read_pair(plan, p, z);
     if tail == 0 {
         if !g.some {
@@ -375,6 +392,7 @@ pub fn read_form(plan: &[u8], p: usize, z: usize, tail: usize, rest: usize) -> F
                 form: 0,
                 left,
                 right,
+                tail,
             };
         }
     }
@@ -384,36 +402,49 @@ pub fn read_form(plan: &[u8], p: usize, z: usize, tail: usize, rest: usize) -> F
         form: 0,
         left,
         right,
+        tail,
     }
 }
 
-// The nodes from i on that such a filter keeps, with what follows.
+// The nodes from i up to e that such a filter keeps, with what follows.
 pub fn keep(
     plan: &[u8],
     pool: &[u8],
     table: &[u8],
     text: &[u8],
-    f: Filter,
+    root: usize,
     i: usize,
+    e: usize,
+    p: usize,
+    z: usize,
     g: Form,
+    rest: usize,
     list: &mut [u32],
     at: usize,
+    cap: usize,
 ) -> usize
-    requires ask_kept { AskKept plan.now pool.now table.now text.now f.root i f.e f.rest (length list.old) at f.cap }
-    requires ask_test { AskTest plan.now pool.now f.p f.z }
-    requires form_at { FormAt plan.now f.p f.z f.tail f.rest g × (g.way ≡ 0 → ⊥) }
-    ensures { DoneRange plan.now pool.now table.now text.now f.root i f.e f.p f.z f.rest f.cap list.old at list.new result }
+    requires ask_kept { AskKept plan.now pool.now table.now text.now root i e rest (length list.old) at cap }
+    requires ask_test { AskTest plan.now pool.now p z }
+    requires form_at { FormAt plan.now p z rest g × (g.way ≡ 0 → ⊥) }
+    ensures { DoneRange plan.now pool.now table.now text.now root i e p z rest cap list.old at list.new result }
 {
     let way = g.way;
     let op = g.op;
     if way == COUNTED {
-        return counts::keep_counts(plan, pool, table, text, f, i, op, list, at);
+        return counts::keep_counts(
+            plan, pool, table, text, root, i, e, p, z, op, rest, list, at, cap,
+        );
     }
     if way == ITSELF {
         let form = g.form;
-        return itself::keep_itself(plan, pool, table, text, f, i, form, op, list, at);
+        return itself::keep_itself(
+            plan, pool, table, text, root, i, e, p, z, form, op, rest, list, at, cap,
+        );
     }
     let t = g.left;
     let u = g.right;
-    keep_pair(plan, pool, table, text, f, i, t, op, u, list, at)
+    let tail = g.tail;
+    keep_pair(
+        plan, pool, table, text, root, i, e, p, z, t, op, u, tail, rest, list, at, cap,
+    )
 }

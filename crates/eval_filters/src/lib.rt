@@ -49,20 +49,6 @@ pub struct Told {
     pub some: bool,
 }
 
-// What a filter is asked with: the node that `$` stands for, the end of the range, its code from p up to z, what follows by its number (`kept::tail_of`) and its place,
-// and how many nodes are counted. Where `cells`, nothing is pushed: the list has a cell for each node (`eval_rows::columns`).
-#[derive(Clone, Copy)]
-pub struct Filter {
-    pub root: usize,
-    pub e: usize,
-    pub p: usize,
-    pub z: usize,
-    pub tail: usize,
-    pub rest: usize,
-    pub cap: usize,
-    pub cells: bool,
-}
-
 // How many nodes a query finds, the first of them, and the place behind the query; `some` is false where that takes evaluation.
 #[derive(Clone, Copy)]
 pub struct Nodes {
@@ -149,7 +135,7 @@ fn compare_operands(
 }
 
 // The same; two integers, and the equality of two texts, come first.
-pub fn compare_node(
+fn compare_node(
     plan: &[u8],
     pool: &[u8],
     table: &[u8],

@@ -66,7 +66,7 @@ fn compare_nodes(table: &[u8], text: &[u8], pool: &[u8], op: u8, m: usize, n: us
 }
 
 // The first of n nodes and the first of k others by an operator.
-pub fn compare_first(
+fn compare_first(
     table: &[u8],
     text: &[u8],
     pool: &[u8],

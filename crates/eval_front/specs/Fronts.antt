@@ -25,6 +25,9 @@ use Rattle.eval_front.specs.Visits.{Given, Head, Front, DoneReach}
 use Rattle.eval_front.specs.Stands.{segments_at}
 use Rattle.eval_front.specs.Loops.{Along, InReach}
 
+pub never : false ≡ true → ⊥
+never = false≢true
+
 -- the query g at q is a child segment of the selector x alone, and the query behind it
 pub record Single (P L : List ℕ) (q j : ℕ) (g : Segments) : Type 0 where
   pub x : Selector

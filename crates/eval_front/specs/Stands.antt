@@ -2,7 +2,7 @@
 use Rattle.std.specs.Prelude.{ℕ, ◌+◌, ◌-◌, ◌≤◌, ◌<◌, ◌≡◌, refl, List, [], ◌∷◌, Bool as Bits, true, false, eqb, leb, length, get_or}
 use Rattle.std.proofs.Common.{sym, ap, ◌∙◌, arith, eqb-true, leb-true, leb-false}
 use Rattle.std.proofs.lemmas.Bool.{eqb-false}
-use Rattle.definition.specs.Bytes.{number, part}
+use Rattle.definition.specs.Bytes.{number}
 use Rattle.definition.specs.Values.{Json}
 use Rattle.definition.specs.Forms.{Segments, Selectors, Selector, many_selectors}
 use Rattle.definition.specs.Forms.Segments.{descendant}
@@ -176,5 +176,5 @@ slice_done {P} {S} {X} {p} {k} {node} {first} {x} tab h r y w d q R s = go_by (e
         ∙ sym (picked_end S X q R first (child_count S node) s (picked S X q R first (child_count S node) [] s) refl)
         ∙ select_slice_else S X tab node h first (child_count S node) r q R s x y.a y.b y.c y.made n
 
-pub filter_end : {P L : List ℕ} {p rest k k' : ℕ} {x : Selector} {q : Segments} → Alone P L p rest x q k k' → (y : Filtered P L p k x) {z : ℕ} → z ≡ p + 3 + number (part P (p + 1) 2) → z ≤ rest
-filter_end a y w = let d = y.count in let l = y.long in let u = a.place in omega (arith, w)
+pub filter_end : {P L : List ℕ} {p rest k k' : ℕ} {x : Selector} {q : Segments} → Alone P L p rest x q k k' → (y : Filtered P L p k x) (n : ℕ) → Word 2 P (p + 1) n → p + 3 + n ≤ rest
+filter_end a y n w = let e = w.is in let d = y.count in let l = y.long in let u = a.place in omega arith

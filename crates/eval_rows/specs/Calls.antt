@@ -2,7 +2,7 @@
 -- goes on behind it with its answer. P is the plan, L the pool, S the table, X the text. Assumes nothing.
 use Rattle.std.specs.Prelude.{ℕ, ◌+◌, ◌-◌, ◌≤◌, ◌<◌, ◌≡◌, refl, List, [], ◌∷◌, Bool as Bits, true, false, ◌&&◌, leb, length, get_or}
 use Rattle.std.proofs.Common.{sym, ap, ◌∙◌, subst, arith, leb-true, le-leb}
-use Rattle.std.proofs.lemmas.Bool.{false≢true, lt-leb}
+use Rattle.std.proofs.lemmas.Bool.{lt-leb}
 use Rattle.definition.specs.Bytes.{number, part}
 use Rattle.definition.specs.Limits.{max_plan}
 use Rattle.definition.specs.Utf8.{is_utf8}
@@ -19,6 +19,7 @@ use Rattle.eval_laws.specs.Todos.{Todo, todo_in, todo_inside, todo_to, QueryAt, 
 use Rattle.eval_items.specs.EndLaws.{past_text}
 use Rattle.eval_items.specs.LeafLaws.{done_text}
 use Rattle.eval_items.specs.Leaves.{begins_at}
+use Rattle.eval_front.specs.Fronts.{never}
 use Rattle.eval_front.specs.Visits.{Query, Given, AskReach}
 use Rattle.eval_filters.specs.Queries.{Within, begins_in}
 use Rattle.eval_filters.specs.Tests.{Left, AskShort, query_at, short_query}
@@ -91,7 +92,7 @@ pub left_near : {P L S X : List ℕ} {root node q z : ℕ} → AskLeft P L S X r
 left_near a = omega (arith, left_inside a, a.within.few_p)
 
 pub none_read : {P : List ℕ} {q z : ℕ} {g : Call} → g.some ≡ false → g.some ≡ true → ReadAt P q z g
-none_read i e = absurd (false≢true (sym i ∙ e))
+none_read i e = absurd (never (sym i ∙ e))
 
 -- what is read is such a call
 pub call_read : {P : List ℕ} {q z end start size kind : ℕ} {b : Bits} → get_or P q 0 ≤ 2 → Leads P end (q + 1) → get_or P (end + 1) 0 ≡ 0x12 → start ≡ number (part P (end + 2) 2) → size ≡ number (part P (end + 4) 2)

@@ -1,10 +1,10 @@
 -- The nodes of a range with a filter: those that it keeps are pushed, or each has a cell that says how far it is told. P is the plan, L the pool, S the table, X the
 -- text. Assumes nothing.
-use Rattle.std.specs.Prelude.{ℕ, ◌+◌, ◌-◌, ◌≤◌, ◌<◌, ◌≡◌, refl, ◌⊎◌, List, Bool as Bits, true, false, not, length, get_or, set}
-use Rattle.std.proofs.Common.{sym, ap, ◌∙◌, subst, inl, inr, true≢false, length-set, arith}
-use Rattle.std.proofs.lemmas.Bool.{false≢true}
-use Rattle.definition.specs.Limits.{max_plan, max_nodes}
+use Rattle.std.specs.Prelude.{ℕ, ◌+◌, ◌-◌, ◌≤◌, ◌<◌, ◌≡◌, refl, ◌⊎◌, List, Bool as Bits, true, false, not, ltb, length, get_or, set}
+use Rattle.std.proofs.Common.{sym, ap, ◌∙◌, subst, inl, inr, length-set, arith, ltb-true, ltb-false}
+use Rattle.definition.specs.Limits.{max_plan}
 use Rattle.definition.specs.Tables.{node_count, node_at}
+use Rattle.eval_front.specs.Fronts.{never}
 use Rattle.eval_front.specs.Visits.{Given}
 use Rattle.eval_filters.specs.Queries.{Within}
 use Rattle.eval_filters.specs.Kept.{AskTest, DoneTest, InKept, kept_passed, kept_step}
@@ -12,10 +12,10 @@ use Rattle.eval_filters.specs.Keeps.{DonePushed, test_code}
 use Rattle.eval_filters.specs.Values.{AskLeft}
 use Rattle.eval_laws.specs.Todos.{todo_end}
 use Rattle.eval_asks.specs.Cells.{answer_of, place_of, InCell, Column, cell_no, cell_start, cell_next, cell_left, column_set}
-use Rattle.eval_filters.specs.declared.Filter.{Filter}
+use Rattle.eval_rows.specs.declared.rows.Filter.{Filter}
 use Rattle.eval_rows.specs.declared.rows.Answer.{Answer}
 use Rattle.eval_rows.specs.declared.rows.Passed.{Passed}
-use Rattle.eval_rows.specs.Rows.{DoneAnswer, DoneRow, AskRows, DoneRows, rows_full, rows_end, rows_stuck, rows_later, rows_then}
+use Rattle.eval_rows.specs.Rows.{DoneAnswer, AskRows, DoneRows, rows_full, rows_end, rows_stuck, rows_later, rows_then}
 
 -- ---- what is asked and given
 
@@ -47,10 +47,10 @@ pub record DoneStands (b : Bits) (p : ℕ) (l : List ℕ) (k c : ℕ) : Type 0 w
   pub none : b ≡ false → c ≡ p
 
 pub stands_there : {p : ℕ} {l : List ℕ} {k : ℕ} (b : Bits) → b ≡ true → DoneStands b p l k (get_or l k 0)
-stands_there b e = record { there = λ u. refl; none = λ u. absurd (false≢true (sym u ∙ e)) }
+stands_there b e = record { there = λ u. refl; none = λ u. absurd (never (sym u ∙ e)) }
 
 pub stands_none : {p : ℕ} {l : List ℕ} {k : ℕ} (b : Bits) → b ≡ false → DoneStands b p l k p
-stands_none b e = record { there = λ u. absurd (false≢true (sym e ∙ u)); none = λ u. refl }
+stands_none b e = record { there = λ u. absurd (never (sym e ∙ u)); none = λ u. refl }
 
 -- ---- the loop over them
 
@@ -70,21 +70,16 @@ pass_start a =
     }
 
 module _ {P L S X : List ℕ} {f : Filter} {i : ℕ} {l₀ : List ℕ} {a₀ : ℕ} {l : List ℕ} {a j : ℕ} (s : AskPass P L S X f i l₀ a₀) (t : InPass P L S X f.cells f.root i f.e f.p f.z f.rest f.cap l₀ a₀ l a j) where
-  module _ {q : ℕ} {r : Passed} (v : r ≡ record { i = j; at = a; q = q; more = false }) where
-    pub pass_full : f.cap < a → DonePass P L S X f i l₀ a₀ l r
-    pass_full h = record { rows = λ u. rows_full {f = f} (t.rows u) v h (s.rows u).kept.wide; cells = t.cells }
+  pub pass_full : (q : ℕ) → f.cap < a → DonePass P L S X f i l₀ a₀ l (record { i = j; at = a; q = q; more = false })
+  pass_full q h = record { rows = λ u. rows_full {f = f} (t.rows u) q h (s.rows u).kept.wide; cells = t.cells }
 
-    pub pass_end : f.e ≤ j → DonePass P L S X f i l₀ a₀ l r
-    pass_end h = record { rows = λ u. rows_end {f = f} (t.rows u) v h; cells = t.cells }
+  pub pass_end : (q : ℕ) → f.e ≤ j → DonePass P L S X f i l₀ a₀ l (record { i = j; at = a; q = q; more = false })
+  pass_end q h = record { rows = λ u. rows_end {f = f} (t.rows u) q h; cells = t.cells }
 
   -- where a node stands, and what is asked of it
   module _ (h : j < f.e) where
     pub place_in : f.cells ≡ true → j - i < length l
     place_in u = let c = (t.cells u).long in let b = t.low in omega arith
-
-    -- its number is small
-    pub pass_small : j < max_nodes
-    pass_small = let b = t.low in let r = s.range (omega arith) in let n = s.given.tab.size.few in omega arith
 
     module _ {c : ℕ} (d : DoneStands f.cells f.p l (j - i) c) where
       pub pass_cell : InCell P L S X f.root j f.p f.z c
@@ -105,7 +100,7 @@ module _ {P L S X : List ℕ} {f : Filter} {i : ℕ} {l₀ : List ℕ} {a₀ : �
             record {
               low = omega (arith, t.low);
               same = length-set l (j - i) c' ∙ t.same;
-              rows = λ w. absurd (false≢true (sym w ∙ u));
+              rows = λ w. absurd (never (sym w ∙ u));
               cells = λ w. column_set (t.cells w) j c' t.low h (cell_next y e (v.later y.near) (v.near y.near) v.goes);
             }
 
@@ -114,33 +109,22 @@ module _ {P L S X : List ℕ} {f : Filter} {i : ℕ} {l₀ : List ℕ} {a₀ : �
           at_first : place_of c ≡ first
           at_first = let n = pass_code s in ap place_of (d.none u) ∙ (cell_no f.p (omega (arith, n.0, n.1))).1 ∙ sym (o u)
 
-          pub pass_stuck : r.some ≡ false → {r' : Passed} → r' ≡ record { i = j; at = a; q = r.q; more = true } → DonePass P L S X f i l₀ a₀ l r'
-          pass_stuck n y =
+          pub pass_stuck : r.some ≡ false → DonePass P L S X f i l₀ a₀ l (record { i = j; at = a; q = r.q; more = true })
+          pass_stuck n =
               record {
-                rows = λ w. rows_stuck {f = f} (t.rows w) y h (record { within = pass_within s j t.low h; acc = r.acc; want = _; todo = v.goes _ (pass_cell.again s.test.t s.test.k s.test.stands); more = v.untold n at_first });
+                rows = λ w. rows_stuck {f = f} (t.rows w) r.q h (record { within = pass_within s j t.low h; acc = r.acc; want = _; todo = v.goes _ (pass_cell.again s.test.t s.test.k s.test.stands); more = v.untold n at_first });
                 cells = t.cells;
               }
 
           told_test : r.some ≡ true → DoneTest P L S X f.root j f.p f.z r.acc
           told_test n x k b = todo_end _ _ _ _ _ _ _ _ _ _ (v.goes _ (pass_cell.again x k b)) (v.told n)
 
-          pass_out : r.some ≡ true → r.acc ≡ false → InPass P L S X f.cells f.root i f.e f.p f.z f.rest f.cap l₀ a₀ l a (j + 1)
-          pass_out n m = record { low = omega (arith, t.low); same = t.same; rows = λ w. kept_passed (t.rows w) h (told_test n) m; cells = λ w. absurd (false≢true (sym u ∙ w)) }
+          pub pass_out : r.some ≡ true → r.acc ≡ false → InPass P L S X f.cells f.root i f.e f.p f.z f.rest f.cap l₀ a₀ l a (j + 1)
+          pass_out n m = record { low = omega (arith, t.low); same = t.same; rows = λ w. kept_passed (t.rows w) h (told_test n) m; cells = λ w. absurd (never (sym u ∙ w)) }
 
-          pass_in : r.some ≡ true → r.acc ≡ true → {l' : List ℕ} {n' : ℕ} → DonePushed P L S X j f.rest f.cap l a l' n' → length l' ≡ length l
+          pub pass_in : r.some ≡ true → r.acc ≡ true → {l' : List ℕ} {n' : ℕ} → DonePushed P L S X j f.rest f.cap l a l' n' → length l' ≡ length l
               → InPass P L S X f.cells f.root i f.e f.p f.z f.rest f.cap l₀ a₀ l' n' (j + 1)
-          pass_in n m d' w = record { low = omega (arith, t.low); same = w ∙ t.same; rows = λ y. kept_step (t.rows y) h (told_test n) m d' refl w; cells = λ y. absurd (false≢true (sym u ∙ y)) }
-
-          pub pass_row : r.some ≡ true → {l' : List ℕ} {n' : ℕ} → DoneRow P L S X f r.acc j l a l' n' → length l' ≡ length l
-              → InPass P L S X f.cells f.root i f.e f.p f.z f.rest f.cap l₀ a₀ l' n' (j + 1)
-          pass_row n {l'} {n'} d' w = go r.acc refl
-            where
-              go : (b : Bits) → r.acc ≡ b → InPass P L S X f.cells f.root i f.e f.p f.z f.rest f.cap l₀ a₀ l' n' (j + 1)
-              go true m = pass_in n m (d'.inside m) w
-              go false m =
-                  let o = d'.outside m in
-                  subst (λ (x : List ℕ). InPass P L S X f.cells f.root i f.e f.p f.z f.rest f.cap l₀ a₀ x n' (j + 1)) (sym o.0)
-                  (subst (λ (x : ℕ). InPass P L S X f.cells f.root i f.e f.p f.z f.rest f.cap l₀ a₀ l x (j + 1)) (sym o.1) (pass_out n m))
+          pass_in n m d' w = record { low = omega (arith, t.low); same = w ∙ t.same; rows = λ y. kept_step (t.rows y) h (told_test n) m d' refl w; cells = λ y. absurd (never (sym u ∙ y)) }
 
 -- ---- the nodes behind those that are pushed
 
@@ -157,11 +141,11 @@ module _ {P L S X : List ℕ} {f : Filter} {i : ℕ} {l : List ℕ} {at : ℕ} (
         range = λ h. s.range (omega arith);
         test = s.test;
         rows = λ w. rows_later {f = f} (d.rows w).going (s.rows w);
-        cells = λ w. absurd (false≢true (sym u ∙ w));
+        cells = λ w. absurd (never (sym u ∙ w));
       }
 
   pub pass_then : {l'' : List ℕ} {r' : Passed} → DonePass P L S X f r.i l' r.at l'' r' → DonePass P L S X f i l at l'' r'
-  pass_then e = record { rows = λ w. rows_then {f = f} (d.rows w).going (e.rows w); cells = λ w. absurd (false≢true (sym u ∙ w)) }
+  pass_then e = record { rows = λ w. rows_then {f = f} (d.rows w).going (e.rows w); cells = λ w. absurd (never (sym u ∙ w)) }
 
 -- ---- from one place of the code to the next
 
@@ -181,6 +165,14 @@ pub least_lower : {l : List ℕ} {n from z q k c r : ℕ} → DoneLeast l n from
 least_lower {l} {n} {from} {z} d h e (inl u) = subst (DoneLeast l n from z) (sym u) d
 least_lower {l} {n} {from} {z} {k = k} d h e (inr (u, v)) = λ g. (omega arith, record { k = k; inside = h; here = sym (u ∙ e) })
 
+-- from a place to a later one
+pub least_less : {l : List ℕ} {n q z r : ℕ} → DoneLeast l n (q + 1) z r → q < z → z - r < z - q
+least_less {q = q} {z = z} {r = r} d h = go (ltb r z) refl
+  where
+    go : (b : Bits) → ltb r z ≡ b → z - r < z - q
+    go true e = let m = (d (ltb-true r z e)).0 in omega arith
+    go false e = let m = ltb-false r z e in omega arith
+
 pub record AskFill (P L S X : List ℕ) (root i e p z : ℕ) : Type 0 where
   pub given : Given P L S X
   pub root_in : root < node_count S
@@ -196,7 +188,7 @@ module _ {P L S X : List ℕ} {root i e p z : ℕ} (a : AskFill P L S X root i e
       (omega arith, omega (arith, c.inside, a.given.few_p))
 
   pub fill_asked : {l : List ℕ} → Column P L S X root i e p z l → AskPass P L S X (record { root = root; e = e; p = p; z = z; tail = 0; rest = 0; cap = 0; cells = true }) i l 0
-  fill_asked c = record { given = a.given; root_in = a.root_in; range = a.range; test = a.test; rows = λ u. absurd (true≢false u); cells = λ u. c }
+  fill_asked c = record { given = a.given; root_in = a.root_in; range = a.range; test = a.test; rows = λ u. absurd (never (sym u)); cells = λ u. c }
 
 module _ {P L S X : List ℕ} {f : Filter} {i : ℕ} {l : List ℕ} {at : ℕ} (s : AskPass P L S X f i l at) (u : f.cells ≡ true) {q : ℕ} (o : Standing l (f.e - i) q) (h : q < f.z) where
   pub stands_left : AskLeft P L S X f.root (i + o.k) q f.z

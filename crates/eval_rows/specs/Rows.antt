@@ -1,18 +1,18 @@
 -- The nodes of a range with a filter: the answer for a node, and the loop over all of them. P is the plan, L the pool, S the table, X the text. Assumes nothing.
 use Rattle.std.specs.Prelude.{ℕ, ◌+◌, ◌≤◌, ◌<◌, ◌≡◌, refl, List, Bool as Bits, true, false, length}
-use Rattle.std.proofs.Common.{sym, ◌∙◌, subst, true≢false, arith}
-use Rattle.std.proofs.lemmas.Bool.{false≢true}
+use Rattle.std.proofs.Common.{sym, ◌∙◌, arith}
 use Rattle.definition.specs.Tables.{node_count, node_at}
 use Rattle.eval_laws.specs.Todos.{todo_to}
+use Rattle.eval_front.specs.Fronts.{never}
 use Rattle.eval_asks.specs.Cells.{answer_of, place_of, left_ended}
 use Rattle.eval_filters.specs.Queries.{Within}
 use Rattle.eval_filters.specs.Kept.{AskTest, AskKept, InKept, kept_full, kept_end}
-use Rattle.eval_filters.specs.Keeps.{TailAt, DonePushed, DoneRange, range_done}
+use Rattle.eval_filters.specs.Keeps.{TailAt, DoneRange, range_done}
 use Rattle.eval_filters.specs.Tests.{Left, AskRest}
 use Rattle.eval_filters.specs.Turns.{AskTurn, DoneTurn}
 use Rattle.eval_filters.specs.Values.{AskLeft}
 use Rattle.eval_filters.specs.declared.Told.{Told}
-use Rattle.eval_filters.specs.declared.Filter.{Filter}
+use Rattle.eval_rows.specs.declared.rows.Filter.{Filter}
 use Rattle.eval_rows.specs.declared.rows.Answer.{Answer}
 use Rattle.eval_rows.specs.declared.rows.Passed.{Passed}
 
@@ -35,8 +35,8 @@ module _ {P L S X : List ℕ} {root node z c : ℕ} {acc : Bits} {q : ℕ} (a : 
   asked_start = record { later = omega arith; goes = λ want d. todo_to P L (place_of c) q z _ _ _ _ _ _ _ _ want e a refl refl d }
 
   -- a cell that is not at the place that is asked
-  pub answer_left : {first : ℕ} → (q ≡ first → ⊥) → {r : Answer} → r ≡ record { acc = acc; q = q; some = false } → DoneAnswer P L S X root node c first z r
-  answer_left {first} n u = subst (DoneAnswer P L S X root node c first z) (sym u) (record { later = λ h. omega arith; near = λ h. omega arith; goes = asked_start.goes; told = λ u. absurd (false≢true u); untold = λ u v. absurd (n (e ∙ v)) })
+  pub answer_left : {first : ℕ} → (q ≡ first → ⊥) → DoneAnswer P L S X root node c first z (record { acc = acc; q = q; some = false })
+  answer_left n = record { later = λ h. omega arith; near = λ h. omega arith; goes = asked_start.goes; told = λ u. absurd (never u); untold = λ u v. absurd (n (e ∙ v)) }
 
 module _ {P L S X : List ℕ} {root node z c : ℕ} {acc : Bits} {q : ℕ} (w : Within P L S X root node) (a : AskRest P L S X root node (answer_of c) (place_of c) z) (i : InAsked P L S X root node z c acc q) where
   pub asked_turn : q < z → AskTurn P L S X root node acc q z
@@ -45,25 +45,13 @@ module _ {P L S X : List ℕ} {root node z c : ℕ} {acc : Bits} {q : ℕ} (w : 
   pub asked_further : {r : Told} → q < z → DoneTurn P L S X root node acc q z r → r.some ≡ true → InAsked P L S X root node z c r.acc r.q
   asked_further h d s = record { later = omega (arith, i.later, d.further s); goes = λ want t. d.goes s want (i.goes want t) }
 
-  pub answer_none : {first : ℕ} → q < z → {r : Answer} → r ≡ record { acc = acc; q = q; some = false } → DoneAnswer P L S X root node c first z r
-  answer_none {first} h u = subst (DoneAnswer P L S X root node c first z) (sym u) (record { later = λ n. i.later; near = λ n. omega arith; goes = i.goes; told = λ u. absurd (false≢true u); untold = λ u v. h })
+  pub answer_none : {first : ℕ} → q < z → DoneAnswer P L S X root node c first z (record { acc = acc; q = q; some = false })
+  answer_none h = record { later = λ n. i.later; near = λ n. omega arith; goes = i.goes; told = λ u. absurd (never u); untold = λ u v. h }
 
-  pub answer_told : {first : ℕ} → z ≤ q → {r : Answer} → r ≡ record { acc = acc; q = z; some = true } → DoneAnswer P L S X root node c first z r
-  answer_told {first} h u = subst (DoneAnswer P L S X root node c first z) (sym u) (record { later = λ n. n; near = λ n. omega arith; goes = λ want t. left_ended h (i.goes want t); told = λ u. omega arith; untold = λ u. absurd (true≢false u) })
+  pub answer_told : {first : ℕ} → z ≤ q → DoneAnswer P L S X root node c first z (record { acc = acc; q = z; some = true })
+  answer_told h = record { later = λ n. n; near = λ n. omega arith; goes = λ want t. left_ended h (i.goes want t); told = λ u. omega arith; untold = λ u. absurd (never (sym u)) }
 
 -- ---- all nodes in turn
-
--- a node is pushed with what follows, where the filter holds of it
-pub record DoneRow (P L S X : List ℕ) (f : Filter) (acc : Bits) (node : ℕ) (l : List ℕ) (at : ℕ) (l' : List ℕ) (n : ℕ) : Type 0 where
-  pub inside : acc ≡ true → DonePushed P L S X node f.rest f.cap l at l' n
-  pub outside : acc ≡ false → (l' ≡ l) × (n ≡ at)
-
-module _ {P L S X : List ℕ} {f : Filter} {acc : Bits} {node : ℕ} {l : List ℕ} {at : ℕ} where
-  pub row_none : acc ≡ false → DoneRow P L S X f acc node l at l at
-  row_none e = record { inside = λ u. absurd (false≢true (sym e ∙ u)); outside = λ u. (refl, refl) }
-
-  pub row_pushed : acc ≡ true → {l' : List ℕ} {n : ℕ} → DonePushed P L S X node f.rest f.cap l at l' n → DoneRow P L S X f acc node l at l' n
-  row_pushed e d = record { inside = λ u. d; outside = λ u. absurd (false≢true (sym u ∙ e)) }
 
 pub record AskRows (P L S X : List ℕ) (f : Filter) (i len at : ℕ) : Type 0 where
   pub kept : AskKept P L S X f.root i f.e f.rest len at f.cap
@@ -80,17 +68,16 @@ pub record DoneRows (P L S X : List ℕ) (f : Filter) (i : ℕ) (l : List ℕ) (
 
 module _ {P L S X : List ℕ} {f : Filter} {i : ℕ} {l₀ : List ℕ} {a₀ : ℕ} {l : List ℕ} {a j : ℕ} (t : InKept P L S X f.root i f.e f.p f.z f.rest f.cap l₀ a₀ l a j) where
   rows_done : (q : ℕ) → DoneRange P L S X f.root i f.e f.p f.z f.rest f.cap l₀ a₀ l a → DoneRows P L S X f i l₀ a₀ l (record { i = j; at = a; q = q; more = false })
-  rows_done q d = record { going = t; whole = λ u. d; inside = λ u. absurd (false≢true u); stuck = λ u. absurd (false≢true u) }
+  rows_done q d = record { going = t; whole = λ u. d; inside = λ u. absurd (never u); stuck = λ u. absurd (never u) }
 
-  module _ {q : ℕ} {r : Passed} (v : r ≡ record { i = j; at = a; q = q; more = false }) where
-    pub rows_full : f.cap < a → length l₀ ≤ f.cap + 1 → DoneRows P L S X f i l₀ a₀ l r
-    rows_full h w = subst (DoneRows P L S X f i l₀ a₀ l) (sym v) (rows_done q (range_done (kept_full t h w) refl))
+  pub rows_full : (q : ℕ) → f.cap < a → length l₀ ≤ f.cap + 1 → DoneRows P L S X f i l₀ a₀ l (record { i = j; at = a; q = q; more = false })
+  rows_full q h w = rows_done q (range_done (kept_full t h w) refl)
 
-    pub rows_end : f.e ≤ j → DoneRows P L S X f i l₀ a₀ l r
-    rows_end h = subst (DoneRows P L S X f i l₀ a₀ l) (sym v) (rows_done q (range_done (kept_end t h) refl))
+  pub rows_end : (q : ℕ) → f.e ≤ j → DoneRows P L S X f i l₀ a₀ l (record { i = j; at = a; q = q; more = false })
+  rows_end q h = rows_done q (range_done (kept_end t h) refl)
 
-  pub rows_stuck : {q : ℕ} {r : Passed} → r ≡ record { i = j; at = a; q = q; more = true } → j < f.e → AskLeft P L S X f.root j q f.z → DoneRows P L S X f i l₀ a₀ l r
-  rows_stuck v h s = subst (DoneRows P L S X f i l₀ a₀ l) (sym v) (record { going = t; whole = λ u. absurd (true≢false u); inside = λ u. h; stuck = λ u. s })
+  pub rows_stuck : (q : ℕ) → j < f.e → AskLeft P L S X f.root j q f.z → DoneRows P L S X f i l₀ a₀ l (record { i = j; at = a; q = q; more = true })
+  rows_stuck q h s = record { going = t; whole = λ u. absurd (never (sym u)); inside = λ u. h; stuck = λ u. s }
 
   -- one of them
   pub rows_within : {len at : ℕ} → AskRows P L S X f i len at → j < f.e → Within P L S X f.root j

@@ -1,9 +1,8 @@
 -- A call of match or search on a node: the text that its query finds, what the call says by it, and what is left of the code behind it.
 -- P is the plan, L the pool, S the table, X the text. Assumes nothing.
 use Rattle.std.specs.Prelude.{ℕ, ◌+◌, ◌-◌, ◌≤◌, ◌<◌, ◌≡◌, refl, List, [], ◌∷◌, Bool as Bits, true, false, length, get_or, take, drop}
-use Rattle.std.proofs.Common.{sym, ◌∙◌, subst, true≢false, arith}
+use Rattle.std.proofs.Common.{sym, ◌∙◌, subst, arith}
 use Rattle.std.proofs.Math.Path.{ap}
-use Rattle.std.proofs.lemmas.Bool.{false≢true}
 use Rattle.definition.specs.Bytes.{part}
 use Rattle.definition.specs.Utf8.{is_utf8}
 use Rattle.regex_definition.specs.Scope.{Scope}
@@ -20,6 +19,7 @@ use Rattle.eval_laws.specs.Founds.{found_first, found_none}
 use Rattle.eval_values.specs.Values.{of_null, of_false, of_true, of_integer_lem, of_float_lem, of_text_lem, value_list, value_map}
 use Rattle.eval_items.specs.Leaves.{begins_at}
 use Rattle.eval_items.specs.Regexes.{cut, cut_test}
+use Rattle.eval_front.specs.Fronts.{never}
 use Rattle.eval_front.specs.declared.Reached.{Reached}
 use Rattle.eval_filters.specs.Queries.{Within, found_lost, found_one}
 use Rattle.eval_filters.specs.Tests.{Left}
@@ -68,8 +68,8 @@ module _ {P L S X : List ℕ} {from : ℕ} {g : Call} (a : AskText P L S X from 
       record {
         value = Value.nothing;
         first = λ f k at. found_none S X _ _ 0 0 (found_lost P L S X a.reach.given.tab from g.at a.reach.node_in r d.reach e 0x19 f k at) refl;
-        is_text_lem = λ u. absurd (false≢true u);
-        inside = λ u. absurd (false≢true u);
+        is_text_lem = λ u. absurd (never u);
+        inside = λ u. absurd (never u);
         no_text = λ u c v. refl;
       }
 
@@ -85,8 +85,8 @@ module _ {P L S X : List ℕ} {from : ℕ} {g : Call} (a : AskText P L S X from 
         record {
           value = node_value (node_at S X r.node);
           first = first_is;
-          is_text_lem = λ u. absurd (false≢true u);
-          inside = λ u. absurd (false≢true u);
+          is_text_lem = λ u. absurd (never u);
+          inside = λ u. absurd (never u);
           no_text = λ u c v. other_node S X a.reach.given.tab r.node d.reach.node_in n c v;
         }
 
@@ -98,7 +98,7 @@ module _ {P L S X : List ℕ} {from : ℕ} {g : Call} (a : AskText P L S X from 
           first = first_is;
           is_text_lem = λ u. sym (t.means []);
           inside = λ u. t.fine [];
-          no_text = λ u. absurd (true≢false u);
+          no_text = λ u. absurd (never (sym u));
         }
 
 -- ---- what a call says of a node

@@ -7,9 +7,8 @@ ghost use Rattle.eval_rows.specs.Columns.{AskPass, DonePass};
 
 use crate::calls::Call;
 use crate::rows;
-use crate::rows::Passed;
+use crate::rows::{Filter, Passed};
 use crate::turns::{OUTSIDE, READ, STATES};
-use eval_filters::Filter;
 use regex_marks::weigh;
 use regex_states::prepare;
 

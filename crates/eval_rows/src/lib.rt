@@ -28,10 +28,9 @@ ghost use Rattle.eval_rows.specs.Columns.{AskPass, DonePass, AskFill};
 ghost use Rattle.eval_asks.specs.Cells.{Column};
 
 use calls::Call;
-use eval_filters::Filter;
 use regex_reader::nested::Reading;
 use regex_rooms::reads;
-use rows::Passed;
+use rows::{Filter, Passed};
 use turns::UNREAD;
 
 // An expression of the part has at most so many bytes.

@@ -1,19 +1,30 @@
 // One node of a range with a whole filter, and all of them in turn.
-ghost use Rattle.std.specs.Prelude.{◌≡◌, true, false, ◌≤◌, ◌<◌, length};
-ghost use Rattle.eval_front.specs.Visits.{AskVisit};
+ghost use Rattle.std.specs.Prelude.{◌≡◌, true, false, ◌<◌, length};
 ghost use Rattle.eval_filters.specs.Queries.{Within};
-ghost use Rattle.eval_filters.specs.Keeps.{TailAt};
 ghost use Rattle.eval_filters.specs.Tests.{AskRest};
 ghost use Rattle.eval_asks.specs.Cells.{answer_of, place_of};
 ghost use Rattle.eval_rows.specs.Known.{Knows, Held};
-ghost use Rattle.eval_rows.specs.Rows.{DoneAnswer, DoneRow};
+ghost use Rattle.eval_rows.specs.Rows.{DoneAnswer};
 ghost use Rattle.eval_rows.specs.Columns.{AskPass, DonePass, DoneStands};
 
 use crate::calls::Call;
 use crate::turns;
 use eval_asks::cells;
-use eval_filters::kept::Pushed;
-use eval_filters::{Filter, kept};
+use eval_filters::kept;
+
+// What a filter is asked with: the node that `$` stands for, the end of the range, its code from p up to z, what follows by its number and its place, and how many
+// nodes are counted. Where `cells`, nothing is pushed: the list has a cell for each node (`columns`).
+#[derive(Clone, Copy)]
+pub struct Filter {
+    pub root: usize,
+    pub e: usize,
+    pub p: usize,
+    pub z: usize,
+    pub tail: usize,
+    pub rest: usize,
+    pub cap: usize,
+    pub cells: bool,
+}
 
 // How far the filter is told of a node: the answer in front of q. It is the filter's where `some`; else the test at q is not told.
 #[derive(Clone, Copy)]
@@ -30,20 +41,6 @@ pub struct Passed {
     pub at: usize,
     pub q: usize,
     pub more: bool,
-}
-
-// Such an answer.
-fn told_of(acc: bool, q: usize, some: bool) -> Answer
-    ensures { result ≡ record { acc = acc; q = q; some = some } }
-{
-    Answer { acc, q, some }
-}
-
-// Where a pass over nodes ends.
-pub fn passed_to(i: usize, at: usize, q: usize, more: bool) -> Passed
-    ensures { result ≡ record { i = i; at = at; q = q; more = more } }
-{
-    Passed { i, at, q, more }
 }
 
 // How far the filter, whose code ends at z, is told of a node with a cell, by what is known of the expression of the call. A cell that is not at the place `first` is
@@ -73,7 +70,11 @@ fn asked(
     let mut acc = cells::answer(c);
     let mut q = cells::place(c);
     if q != first {
-        return told_of(acc, q, false);
+        return Answer {
+            acc,
+            q,
+            some: false,
+        };
     }
     while q < z {
         if q == g.at {
@@ -84,13 +85,21 @@ fn asked(
         } else {
             let t = eval_filters::plain_turn(plan, pool, table, text, root, node, acc, q, z);
             if !t.some {
-                return told_of(acc, q, false);
+                return Answer {
+                    acc,
+                    q,
+                    some: false,
+                };
             }
             acc = t.acc;
             q = t.q;
         }
     }
-    told_of(acc, z, true)
+    Answer {
+        acc,
+        q: z,
+        some: true,
+    }
 }
 
 // The cell of a node: the one at place k, or one of which nothing is told where there are none.
@@ -112,34 +121,6 @@ fn asks_from(in_cells: bool, p: usize, at: usize) -> usize
         return at;
     }
     p
-}
-
-// A node with what follows, where the filter holds of it; else nothing.
-fn push_row(
-    plan: &[u8],
-    pool: &[u8],
-    table: &[u8],
-    text: &[u8],
-    f: Filter,
-    acc: bool,
-    node: usize,
-    near: usize,
-    list: &mut [u32],
-    at: usize,
-) -> Pushed
-    requires ask_visit { AskVisit plan.now pool.now table.now text.now node f.rest (length list.old) at f.cap }
-    requires tail_at { TailAt plan.now f.rest f.tail × (f.tail ≤ 1) }
-    ensures { DoneRow plan.now pool.now table.now text.now f acc node list.old at list.new result.at }
-{
-    if !acc {
-        return Pushed { at, near };
-    }
-    let tail = f.tail;
-    let rest = f.rest;
-    let cap = f.cap;
-    kept::push_tail(
-        plan, pool, table, text, tail, node, rest, near, list, at, cap,
-    )
 }
 
 // The nodes from i on that the filter keeps, with what follows, up to the first of which a test is not told. Where the filter has cells, nothing is pushed: each that
@@ -164,30 +145,57 @@ pub fn keep(
     requires knows { Knows plan.now pool.now code.now f.z g known × Held code.now edges.old sets.old known }
     ensures { DonePass plan.now pool.now table.now text.now f i list.old at list.new result }
 {
-    let first = asks_from(f.cells, f.p, g.at);
+    let root = f.root;
+    let e = f.e;
+    let p = f.p;
+    let z = f.z;
+    let cap = f.cap;
+    let tail = f.tail;
+    let rest = f.rest;
+    let in_cells = f.cells;
+    let first = asks_from(in_cells, p, g.at);
     let mut a = at;
     let mut j = i;
     let mut near = 0;
-    while j < f.e {
-        if f.cap < a {
-            return passed_to(j, a, first, false);
+    while j < e {
+        if cap < a {
+            return Passed {
+                i: j,
+                at: a,
+                q: first,
+                more: false,
+            };
         }
-        let c = stands(f.cells, f.p, list, j - i);
+        let c = stands(in_cells, p, list, j - i);
         let b = asked(
-            plan, pool, table, text, f.root, j, c, first, f.z, g, known, code, edges, sets, marks,
+            plan, pool, table, text, root, j, c, first, z, g, known, code, edges, sets, marks,
         );
-        if f.cells {
+        if in_cells {
             list[j - i] = cells::cell(b.acc, b.q);
             j += 1;
         } else {
             if !b.some {
-                return passed_to(j, a, b.q, true);
+                return Passed {
+                    i: j,
+                    at: a,
+                    q: b.q,
+                    more: true,
+                };
             }
-            let v = push_row(plan, pool, table, text, f, b.acc, j, near, list, a);
-            a = v.at;
-            near = v.near;
-            j += 1;
+            if b.acc {
+                let v = kept::push_tail(plan, pool, table, text, tail, j, rest, near, list, a, cap);
+                a = v.at;
+                near = v.near;
+                j += 1;
+            } else {
+                j += 1;
+            }
         }
     }
-    passed_to(j, a, first, false)
+    Passed {
+        i: j,
+        at: a,
+        q: first,
+        more: false,
+    }
 }

@@ -3,8 +3,8 @@
 use Rattle.std.specs.Prelude.{ℕ, ◌+◌, ◌≤◌, ◌<◌, ◌≡◌, refl, List, Bool as Bits, true, false, ltb, length, get_or, set}
 use Rattle.std.proofs.Common.{ap, ◌∙◌, subst, arith, ltb-true, ltb-false}
 use Rattle.std.specs.Borrow.{Bor}
-use Rattle.definition.specs.Bytes.{number, part}
 use Rattle.definition.specs.Tables.{child_count, low_word}
+use Rattle.text.specs.Words.{Word}
 use Rattle.eval_laws.specs.States.{st}
 use Rattle.eval_laws.specs.Items.{segments_in}
 use Rattle.eval_filters.specs.Kept.{AskKept}
@@ -81,9 +81,9 @@ module _ {v : List (Bor (List ℕ))} {s l : List ℕ} {i e pc : ℕ} (a : Asked 
 
 -- ---- the children that a filter keeps
 
-module _ {v : List (Bor (List ℕ))} {s l : List ℕ} {node p rest : ℕ} (a : Asked v s l) (q : AskSelector v node p rest) (k : get_or (plan_of v) p 0 ≡ 9) {z : ℕ} (w : z ≡ p + 3 + number (part (plan_of v) (p + 1) 2)) {i c : ℕ} (e : i ≡ low_word (table_of v) node) (m : c ≡ child_count (table_of v) node) where
+module _ {v : List (Bor (List ℕ))} {s l : List ℕ} {node p rest : ℕ} (a : Asked v s l) (q : AskSelector v node p rest) (k : get_or (plan_of v) p 0 ≡ 9) {n : ℕ} (w : Word 2 (plan_of v) (p + 1) n) {i c : ℕ} (e : i ≡ low_word (table_of v) node) (m : c ≡ child_count (table_of v) node) where
   pub keep_asked : AskKept (plan_of v) (pool_of v) (table_of v) (text_of v) (root_of s) i (i + c) rest (length l) (at_of s) (cap_of s)
   keep_asked = record { given = a.given; root_in = a.root_in; range = kept_in_table a q k w e m; query = rest_asked a q k w; room = a.room; wide = a.wide; small = a.small }
 
-  pub keep_done : (l' : List ℕ) (r : ℕ) → DoneRange (plan_of v) (pool_of v) (table_of v) (text_of v) (root_of s) i (i + c) (p + 3) z rest (cap_of s) l (at_of s) l' r → DoneSelector v node p rest s l (set s 2 r) l'
+  pub keep_done : (l' : List ℕ) (r : ℕ) → DoneRange (plan_of v) (pool_of v) (table_of v) (text_of v) (root_of s) i (i + c) (p + 3) (p + 3 + n) rest (cap_of s) l (at_of s) l' r → DoneSelector v node p rest s l (set s 2 r) l'
   keep_done l' r d = gives_wrote _ s l l' r a (λ x. d.ended (filtered a q k x).t x.k x.q x.k' (tests a q k w x) x.stands.after ∙ kept_same a q k w e m x (root_of s) _)

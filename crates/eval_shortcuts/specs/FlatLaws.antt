@@ -2,7 +2,6 @@
 -- other. Assumes nothing.
 use Rattle.std.specs.Prelude.{ℕ, ◌+◌, ◌-◌, ◌≤◌, ◌<◌, ◌≡◌, refl, List, Bool as Bits, true, false, length, get_or, eqb}
 use Rattle.std.proofs.Common.{sym, ap, ◌∙◌, arith, eqb-true}
-use Rattle.std.proofs.lemmas.Bool.{false≢true}
 use Rattle.definition.specs.Limits.{max_plan, max_nodes}
 use Rattle.definition.specs.Values.{Json}
 use Rattle.definition.specs.Forms.{Segments, Selectors, Selector}
@@ -25,6 +24,7 @@ use Rattle.eval_items.specs.Leaves.{AskOne, DoneOne}
 use Rattle.eval_front.specs.Visits.{over, numbers_from, DoneContainer}
 use Rattle.eval_front.specs.Overs.{over_step, over_end, over_full, over_numbers, over_passed}
 use Rattle.eval_front.specs.Places.{push_bound, emit_room}
+use Rattle.eval_front.specs.Fronts.{never}
 use Rattle.eval_shortcuts.specs.declared.flats.Flat.{Flat}
 use Rattle.eval_front.specs.Stands.{descendant_byte, segments_at, selector_least, one_found, one_absent}
 use Rattle.eval_front.specs.Spans.{wildcard_range, below_passed}
@@ -120,7 +120,7 @@ module _ {P L S X : List ℕ} {i e p cap : ℕ} {l₀ : List ℕ} {a₀ : ℕ} {
 -- ---- the last segment
 
 pub not_plain : (P : List ℕ) (pc : ℕ) → DonePlain P pc false
-not_plain P pc = record { most = λ u. absurd (false≢true u); whole = λ u. absurd (false≢true u); lone = λ u. absurd (false≢true u) }
+not_plain P pc = record { most = λ u. absurd (never u); whole = λ u. absurd (never u); lone = λ u. absurd (never u) }
 
 module _ (P L : List ℕ) (few : length P ≤ max_plan) (pc : ℕ) (ss : Selectors) (q : Segments) (k : ℕ) (at : SegmentsAt P L pc k (descendant ss q)) where
   pub below_parts : Parts P L pc k (descendant ss q)

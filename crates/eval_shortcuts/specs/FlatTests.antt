@@ -3,7 +3,7 @@
 use Rattle.std.specs.Prelude.{ℕ, zero, suc, ◌+◌, ◌-◌, ◌≤◌, ◌<◌, ◌≡◌, List, Bool as Bits, true, false, eqb, ltb, length, get_or}
 use Rattle.std.proofs.Math.Path.{refl, sym}
 use Rattle.std.proofs.Common.{ap, ◌∙◌, subst, arith, eqb-true, ltb-true, ltb-false}
-use Rattle.std.proofs.lemmas.Bool.{false≢true, eqb-false}
+use Rattle.std.proofs.lemmas.Bool.{eqb-false}
 use Rattle.definition.specs.Bytes.{number, part}
 use Rattle.definition.specs.Limits.{max_plan}
 use Rattle.definition.specs.Values.{Json}
@@ -24,6 +24,7 @@ use Rattle.eval_laws.specs.Ranges.{Range, range_in, select_filter}
 use Rattle.eval_laws.specs.Items.{SegmentsAt, Parts, last, is_filter}
 use Rattle.eval_front.specs.Visits.{over, DoneContainer}
 use Rattle.eval_front.specs.Overs.{over_step, over_end}
+use Rattle.eval_front.specs.Fronts.{never}
 use Rattle.eval_filters.specs.Kept.{Tested}
 use Rattle.eval_filters.specs.Atoms.{AskCode, DoneAtom}
 use Rattle.eval_filters.specs.Scalars.{scalar_false}
@@ -36,7 +37,7 @@ use Rattle.eval_shortcuts.specs.FlatLaws.{bare_empty, bare_below, below_parts}
 -- ---- the filter
 
 pub not_member : (P : List ℕ) (pc : ℕ) → DoneMember P pc false
-not_member P pc u = absurd (false≢true u)
+not_member P pc u = absurd (never u)
 
 -- the selectors ss are one filter, and its test stands behind its size
 pub record Sole (P L : List ℕ) (pc k : ℕ) (ss : Selectors) : Type 0 where
@@ -70,16 +71,16 @@ module _ {P : List ℕ} {pc : ℕ} (a : AskMember P pc) where
     pub member_bound : pc + 3 + 3 ≤ length P
     member_bound = member_sole.bound
 
-    module _ (z : ℕ) (v : z ≡ pc + 3 + 3 + number (part P (pc + 3 + 1) 2)) (m : pc + 3 + 3 < z) where
-      pub member_atom : AskCode P (pc + 3 + 3) z
+    module _ (c : ℕ) (v : Word 2 P (pc + 3 + 1) c) (m : pc + 3 + 3 < pc + 3 + 3 + c) where
+      pub member_atom : AskCode P (pc + 3 + 3) (pc + 3 + 3 + c)
       member_atom =
           let y = member_sole.tested in
           let b = member_bound in
           let f = a.few in
-          record { few = f; inside = omega (arith, holds_in P (pc + 3 + 3) _ y.test.holds, y.place, v); near = omega arith }
+          record { few = f; inside = omega (arith, holds_in P (pc + 3 + 3) _ y.test.holds, y.place, v.is); near = omega arith }
 
-      pub member_of : (t : Atom) → DoneAtom P (pc + 3 + 3) z t → (t.form ≡ 0 → ⊥) → DoneMember P pc (eqb t.next z)
-      member_of t d i u = record { alone = member_alone; filter_is = f; z = z; size = v; more = m; t = t; test = d i; whole = eqb-true t.next z u }
+      pub member_of : (t : Atom) → DoneAtom P (pc + 3 + 3) (pc + 3 + 3 + c) t → (t.form ≡ 0 → ⊥) → DoneMember P pc (eqb t.next (pc + 3 + 3 + c))
+      member_of t d i u = record { alone = member_alone; filter_is = f; z = pc + 3 + 3 + c; size = ap (λ (z : ℕ). pc + 3 + 3 + z) v.is; more = m; t = t; test = d i; whole = eqb-true t.next (pc + 3 + 3 + c) u }
 
 -- ---- nodes with nothing below their children
 

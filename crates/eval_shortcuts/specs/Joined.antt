@@ -1,11 +1,11 @@
 -- What a filter of several tests says of a node, told from its beginning without a cell. P is the plan, L the pool, S the table, X the text. Assumes nothing.
 use Rattle.std.specs.Prelude.{ℕ, ◌≤◌, ◌<◌, ◌≡◌, List, Bool as Bits, true, false}
-use Rattle.std.proofs.lemmas.Bool.{false≢true}
-use Rattle.std.proofs.Common.{true≢false, arith}
+use Rattle.std.proofs.Common.{sym, arith}
 use Rattle.definition.specs.Forms.{Test}
 use Rattle.definition.specs.Tables.{node_at}
 use Rattle.definition.specs.Evaluation.{eval_test}
 use Rattle.eval_laws.specs.Todos.{todo_start, todo_end}
+use Rattle.eval_front.specs.Fronts.{never}
 use Rattle.eval_filters.specs.Queries.{Within}
 use Rattle.eval_filters.specs.Kept.{Tested, AskTest, DoneTest}
 use Rattle.eval_filters.specs.Tests.{Left}
@@ -34,7 +34,7 @@ module _ {P L S X : List ℕ} {root node p z : ℕ} {acc : Bits} {q : ℕ} (w : 
   joined_further d s t k h = d.goes s _ (i t k h)
 
   pub joined_none : q < z → DoneJoined P L S X root node p z (record { acc = false; q = q; some = false })
-  joined_none h = record { told = λ u. absurd (false≢true u); untold = λ u. record { within = w; acc = acc; want = _; todo = i a.t a.k a.stands; more = h } }
+  joined_none h = record { told = λ u. absurd (never u); untold = λ u. record { within = w; acc = acc; want = _; todo = i a.t a.k a.stands; more = h } }
 
   pub joined_told : z ≤ q → DoneJoined P L S X root node p z (record { acc = acc; q = q; some = true })
-  joined_told h = record { told = λ u t k b. todo_end _ _ _ _ _ _ _ _ _ _ (i t k b) h; untold = λ u. absurd (true≢false u) }
+  joined_told h = record { told = λ u t k b. todo_end _ _ _ _ _ _ _ _ _ _ (i t k b) h; untold = λ u. absurd (never (sym u)) }

@@ -7,5 +7,3 @@ pub mod Picked
 pub mod Entries
 pub mod Joined
 pub mod Rows
-pub mod Sides
-pub mod Stood

@@ -114,11 +114,6 @@ module _ {P L S X : List ℕ} {node p n cap : ℕ} {l₀ : List ℕ} {a₀ : ℕ
           let x = foremost P L q still.k still.rs still.at in
           record { few_p = s.given.few_p; few_l = s.given.few_l; tab = s.given.tab; node_in = s.node_in; x = x.x; k = still.k; at = x.here; kind_low = omega arith; kind_high = omega arith }
 
-      pub pick_any : AskOne P L S X q node 5 6
-      pick_any =
-          let x = foremost P L q still.k still.rs still.at in
-          record { few_p = s.given.few_p; few_l = s.given.few_l; tab = s.given.tab; node_in = s.node_in; x = x.x; k = still.k; at = x.here; kind_low = pick_low; kind_high = pick_high }
-
       -- what a selector of the other kind selects: an index of a map, and a name of what is no map
       pub pick_index : kind_at S node ≡ kind_map → get_or P q 0 ≡ 6 → DonePut P L S X q node cap l a l a
       pick_index e i = put_none (index_else (pick_one 6 i) (λ u. omega (arith, u, e))) refl t.room

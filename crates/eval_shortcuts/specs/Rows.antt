@@ -1,19 +1,18 @@
 -- From what evaluation asks of the nodes of a range with a filter to what `eval_rows` asks, and back. v is what is lent. Assumes nothing.
 use Rattle.std.specs.Prelude.{ℕ, ◌+◌, ◌-◌, ◌≤◌, ◌<◌, ◌≡◌, refl, List, true, false, length, set}
 use Rattle.std.proofs.Common.{ap, ◌∙◌, subst, arith}
-use Rattle.std.proofs.lemmas.Bool.{false≢true}
 use Rattle.std.specs.Borrow.{Bor}
 use Rattle.eval_laws.specs.States.{st}
 use Rattle.eval_laws.specs.Steps.{kept}
+use Rattle.eval_front.specs.Fronts.{never}
 use Rattle.eval_front.specs.Overs.{over_end}
-use Rattle.eval_filters.specs.Keeps.{AskTail, TailAt, DoneRange, tail_asked}
+use Rattle.eval_filters.specs.Keeps.{AskTail, TailAt, tail_asked}
 use Rattle.eval_filters.specs.Queries.{Within}
 use Rattle.eval_rows.specs.Calls.{AskCall, left_asked}
 use Rattle.eval_filters.specs.Turns.{turn_left}
 use Rattle.eval_rows.specs.Rows.{AskRows as AskFilter, DoneRows as DoneFilter}
 use Rattle.eval_rows.specs.Columns.{AskPass, AskFill}
 use Rattle.eval_shortcuts.specs.Joined.{joined_start, joined_turn}
-use Rattle.eval_shortcuts.specs.Sides.{AskSides}
 use Rattle.eval_rows.specs.declared.rows.Passed.{Passed}
 use Rattle.eval_asks.specs.Lent.{plan_of, pool_of, table_of, text_of, root_of, cap_of, at_of}
 use Rattle.eval_asks.specs.Asks.{Asked}
@@ -33,19 +32,6 @@ module _ {v : List (Bor (List ℕ))} {i e p z rest : ℕ} {s l : List ℕ} (a : 
         let w : Within (plan_of v) (pool_of v) (table_of v) (text_of v) (root_of s) (root_of s) = record { few_p = g.few_p; few_l = g.few_l; tab = g.tab; root_in = a.root_in; node_in = a.root_in } in
         left_asked (turn_left (joined_turn w q.test (joined_start w) h))
 
-    pub rows_sides : p < z → AskSides (plan_of v) p z
-    rows_sides h =
-        let g = a.given in
-        record {
-          L = pool_of v;
-          S = table_of v;
-          X = text_of v;
-          root = root_of s;
-          within = record { few_p = g.few_p; few_l = g.few_l; tab = g.tab; root_in = a.root_in; node_in = a.root_in };
-          test = q.test;
-          more = h;
-        }
-
     pub rows_tail : AskTail (plan_of v) rest
     rows_tail = tail_asked a.given.few_p q.query
 
@@ -59,29 +45,16 @@ module _ {v : List (Bor (List ℕ))} {i e p z rest : ℕ} {s l : List ℕ} (a : 
         }
 
     pub rows_asked : {t : ℕ} → TailAt (plan_of v) rest t → t ≤ 1 → AskPass (plan_of v) (pool_of v) (table_of v) (text_of v) (record { root = root_of s; e = e; p = p; z = z; tail = t; rest = rest; cap = cap_of s; cells = false }) i l (at_of s)
-    rows_asked w h = record { given = a.given; root_in = a.root_in; range = q.range; test = q.test; rows = λ u. rows_filter w h; cells = λ u. absurd (false≢true u) }
-
-    -- where a number is written as the next place
-    module _ (l' : List ℕ) (n : ℕ) where
-      at_root : (k : ℕ) → ((x : Keeps (plan_of v) (pool_of v) p z rest) → keeping v p z rest k e x (root_of s) (st (cap_of s) l' n) ≡ keeping v p z rest i e x (root_of s) (st (cap_of s) l (at_of s)))
-          → (x : Keeps (plan_of v) (pool_of v) p z rest) (R C : ℕ) → root_of s ≡ R → cap_of s ≡ C → keeping v p z rest k e x R (st C l' (at_of (set s 2 n))) ≡ keeping v p z rest i e x R (st C l (at_of s))
-      at_root k g x R C u c =
-          subst (λ (R : ℕ). keeping v p z rest k e x R (st C l' (at_of (set s 2 n))) ≡ keeping v p z rest i e x R (st C l (at_of s))) u
-          (subst (λ (C : ℕ). keeping v p z rest k e x (root_of s) (st C l' (at_of (set s 2 n))) ≡ keeping v p z rest i e x (root_of s) (st C l (at_of s))) c
-          (ap (λ (m : ℕ). keeping v p z rest k e x (root_of s) (st (cap_of s) l' m)) (wrote_at a n) ∙ g x))
-
-      -- all of them are done
-      pub rows_range : i ≤ e → DoneRange (plan_of v) (pool_of v) (table_of v) (text_of v) (root_of s) i e p z rest (cap_of s) l (at_of s) l' n → DoneRows v i e p z rest s l (set s 2 n) l' e
-      rows_range h d =
-          let w = wrote_at a n in
-          record {
-            low = h;
-            high = λ u. omega arith;
-            room = omega (arith, d.room);
-            goes = at_root e (λ x. over_end x.q _ (kept x.t _) (table_of v) (text_of v) e e _ (omega arith) ∙ d.ended x.t x.k x.q x.k' x.tested x.after);
-          }
+    rows_asked w h = record { given = a.given; root_in = a.root_in; range = q.range; test = q.test; rows = λ u. rows_filter w h; cells = λ u. absurd (never u) }
 
     module _ {t : ℕ} {l' : List ℕ} {r : Passed} (d : DoneFilter (plan_of v) (pool_of v) (table_of v) (text_of v) (record { root = root_of s; e = e; p = p; z = z; tail = t; rest = rest; cap = cap_of s; cells = false }) i l (at_of s) l' r) where
+      at_root : (k : ℕ) → ((x : Keeps (plan_of v) (pool_of v) p z rest) → keeping v p z rest k e x (root_of s) (st (cap_of s) l' r.at) ≡ keeping v p z rest i e x (root_of s) (st (cap_of s) l (at_of s)))
+          → (x : Keeps (plan_of v) (pool_of v) p z rest) (R C : ℕ) → root_of s ≡ R → cap_of s ≡ C → keeping v p z rest k e x R (st C l' (at_of (set s 2 r.at))) ≡ keeping v p z rest i e x R (st C l (at_of s))
+      at_root k g x R C u c =
+          subst (λ (R : ℕ). keeping v p z rest k e x R (st C l' (at_of (set s 2 r.at))) ≡ keeping v p z rest i e x R (st C l (at_of s))) u
+          (subst (λ (C : ℕ). keeping v p z rest k e x (root_of s) (st C l' (at_of (set s 2 r.at))) ≡ keeping v p z rest i e x (root_of s) (st C l (at_of s))) c
+          (ap (λ (n : ℕ). keeping v p z rest k e x (root_of s) (st (cap_of s) l' n)) (wrote_at a r.at) ∙ g x))
+
       pub rows_left : r.more ≡ true → DoneRows v i e p z rest s l (set s 2 r.at) l' r.i
       rows_left m =
           let w = wrote_at a r.at in
@@ -89,11 +62,18 @@ module _ {v : List (Bor (List ℕ))} {i e p z rest : ℕ} {s l : List ℕ} (a : 
             low = d.going.low;
             high = λ h. omega (arith, d.inside m);
             room = omega (arith, d.going.room);
-            goes = at_root l' r.at r.i (λ x. d.going.again x.t x.k x.q x.k' x.tested x.after);
+            goes = at_root r.i (λ x. d.going.again x.t x.k x.q x.k' x.tested x.after);
           }
 
       pub rows_all : i ≤ e → r.more ≡ false → DoneRows v i e p z rest s l (set s 2 r.at) l' e
-      rows_all h m = rows_range l' r.at h (d.whole m)
+      rows_all h m =
+          let w = wrote_at a r.at in
+          record {
+            low = h;
+            high = λ u. omega arith;
+            room = omega (arith, (d.whole m).room);
+            goes = at_root e (λ x. over_end x.q _ (kept x.t _) (table_of v) (text_of v) e e _ (omega arith) ∙ (d.whole m).ended x.t x.k x.q x.k' x.tested x.after);
+          }
 
 -- ---- the cells of those from i up to e
 

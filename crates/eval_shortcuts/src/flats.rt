@@ -65,7 +65,7 @@ fn name_near(
 }
 
 // The node that the name or index at p selects of a node; of a name, the member at place `near` is looked at first.
-pub fn select_near(
+fn select_near(
     plan: &[u8],
     pool: &[u8],
     table: &[u8],
@@ -184,7 +184,7 @@ pub fn asks_member(plan: &[u8], pc: usize) -> bool
     if plan[p] != FILTER {
         return false;
     }
-    let z = plans::past_sized(plan, p);
+    let z = p + 3 + bytes::word16(plan, p + 1);
     if z <= p + 3 {
         return false;
     }

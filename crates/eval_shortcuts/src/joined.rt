@@ -11,9 +11,9 @@ ghost use Rattle.eval_rows.specs.Calls.{AskCall};
 ghost use Rattle.eval_rows.specs.Rows.{AskRows, DoneRows};
 ghost use Rattle.eval_shortcuts.specs.Joined.{DoneJoined};
 
-use eval_filters::{Filter, Told, atoms, kept, values};
-use eval_rows::rows::{Answer, Passed};
-use eval_rows::{paths, rows};
+use eval_filters::{Told, atoms, kept, values};
+use eval_rows::paths;
+use eval_rows::rows::{Answer, Filter, Passed};
 use plan_format::kinds::{COUNT, CURRENT, VALUE};
 
 // The ways of a filter: several tests, and one comparison.
@@ -205,11 +205,21 @@ pub fn keep(
     let mut near = 0;
     while j < e {
         if cap < a {
-            return rows::passed_to(j, a, p, false);
+            return Passed {
+                i: j,
+                at: a,
+                q: p,
+                more: false,
+            };
         }
         let b = told(plan, pool, table, text, root, j, p, z, way);
         if !b.some {
-            return rows::passed_to(j, a, b.q, true);
+            return Passed {
+                i: j,
+                at: a,
+                q: b.q,
+                more: true,
+            };
         }
         if b.acc {
             let v = kept::push_tail(plan, pool, table, text, tail, j, rest, near, list, a, cap);
@@ -220,5 +230,10 @@ pub fn keep(
             j += 1;
         }
     }
-    rows::passed_to(j, a, p, false)
+    Passed {
+        i: j,
+        at: a,
+        q: p,
+        more: false,
+    }
 }

@@ -1,13 +1,11 @@
 // The shortcuts of evaluation, and the one way by which they enter it. Each function takes a query or a filter that it knows and gives the whole answer, with the
-// contract of what it stands for; else it leaves everything as it was, and says so: false, or the node or the selectors that it was given. `has_flats` and `is_call` say only which way is the
+// contract of what it stands for; else it leaves everything as it was, and says so: false, or the node that it was given. `has_flats` and `is_call` say only which way is the
 // faster one, and `fill_cells` tells as much of a test as it can. Evaluation knows no other shortcut, and is proved without them (docs/DECISIONS.md, 271).
 //
 //   flats     nodes with nothing below their children under a descendant segment of one selector
 //   joined    a range of nodes with a filter of several tests
-//   ones      names and indices at the front of several selectors, on one node
 //   straight  a range of nodes with names and indices up to the end, one in each segment
 //   several   the same with several in the last segment
-//   sides     a range of nodes with a filter of one test that begins with names and indices
 //
 // Filters that are read once stand in `eval_filters`, those with match or search of a text of the plan in `eval_rows`.
 
@@ -19,22 +17,19 @@ ghost use Rattle.eval_asks.specs.Asks.{Asked, Steady, AskEach, DoneAhead, Descen
 ghost use Rattle.eval_asks.specs.Rows.{AskRows, DoneRows, AskCells};
 ghost use Rattle.eval_asks.specs.Cells.{Column};
 ghost use Rattle.eval_filters.specs.Values.{AskLeft};
-ghost use Rattle.eval_shortcuts.specs.Stood.{AskStood, DoneFront};
 ghost use Rattle.std.specs.Prelude.{◌≤◌, ◌<◌};
 
-use crate::ones::Left;
 use eval_asks::{AT, CAP, PLAN, POOL, ROOT, TABLE, TEXT};
-use eval_filters::{Filter, kept};
-use eval_items::plans;
+use eval_filters::kept;
 use eval_rows::calls;
+use eval_rows::rows::Filter;
 use plan_format::kinds::END;
 use table::records;
+use text::bytes;
 
 pub mod flats;
 pub mod joined;
-pub mod ones;
 pub mod several;
-pub mod sides;
 pub mod straight;
 
 // The first node from i on that needs a call with the segments at rest, or i. What names and indices up to the end lead to from those before it is pushed.
@@ -112,35 +107,6 @@ fn pick_ahead(
     r.i
 }
 
-// The n selectors at p on a node, each selected node with the segments at rest: what is left of them. Names and indices at their front are done where nothing follows, or
-// names and indices alone.
-pub fn pick_front(
-    lent: &[&[u8]; 4],
-    state: &mut [usize; 3],
-    list: &mut &mut [u32],
-    node: usize,
-    p: usize,
-    n: usize,
-    rest: usize,
-) -> Left
-    requires asked { Asked lent.now state.old list.old.now }
-    requires ask_stood { AskStood lent.now node p n rest }
-    ensures steady { Steady state.old list.old state.new list.new }
-    ensures done_front { DoneFront lent.now node p n rest state.old list.old.now state.new list.new.now result }
-{
-    if n < 2 {
-        return Left { p, n };
-    }
-    let plan = lent[PLAN];
-    if plan[rest] == END {
-        return ones::pick_ones(lent, state, list, node, p, n, rest);
-    }
-    if several::picks(plan, rest) {
-        return ones::pick_pairs(lent, state, list, node, p, n, rest);
-    }
-    Left { p, n }
-}
-
 // Whether `pass_flats` may pass a node with the descendant segment at pc. It only says which way is the faster one.
 pub fn has_flats(lent: &[&[u8]; 4], pc: usize) -> bool
     requires given { Given (plan_of lent.now) (pool_of lent.now) (table_of lent.now) (text_of lent.now) }
@@ -201,9 +167,8 @@ pub fn keep_children(
     ensures done_keep { DoneKeep lent.now node p rest state.old list.old.now state.new list.new.now result }
 {
     let plan = lent[PLAN];
-    let z = plans::past_sized(plan, p);
-    let tail = kept::tail_of(plan, rest);
-    let g = kept::read_form(plan, p + 3, z, tail, rest);
+    let z = p + 3 + bytes::word16(plan, p + 1);
+    let g = kept::read_form(plan, p + 3, z, rest);
     if g.way == 0 {
         return false;
     }
@@ -213,19 +178,22 @@ pub fn keep_children(
     let root = state[ROOT];
     let at = state[AT];
     let cap = state[CAP];
-    let e = i + n;
-    let from = p + 3;
-    let f = Filter {
+    let next = kept::keep(
+        plan,
+        lent[POOL],
+        table,
+        lent[TEXT],
         root,
-        e,
-        p: from,
+        i,
+        i + n,
+        p + 3,
         z,
-        tail,
+        g,
         rest,
+        *list,
+        at,
         cap,
-        cells: false,
-    };
-    let next = kept::keep(plan, lent[POOL], table, lent[TEXT], f, i, g, *list, at);
+    );
     state[AT] = next;
     true
 }
@@ -253,7 +221,7 @@ pub fn keep_joined(
     let plan = lent[PLAN];
     let way = joined::way_of(plan, p, z);
     if way == 0 {
-        return keep_sides(lent, state, list, i, e, p, z, rest);
+        return i;
     }
     let tail = kept::tail_of(plan, rest);
     if 1 < tail {
@@ -272,68 +240,21 @@ pub fn keep_joined(
         cap,
         cells: false,
     };
-    let table = lent[TABLE];
-    let v = joined::keep(plan, lent[POOL], table, lent[TEXT], f, i, way, *list, at);
-    state[AT] = v.at;
-    if v.more {
-        return v.i;
-    }
-    e
-}
-
-// The same for a filter that `sides` is for, all of whose nodes are told.
-fn keep_sides(
-    lent: &[&[u8]; 4],
-    state: &mut [usize; 3],
-    list: &mut &mut [u32],
-    i: usize,
-    e: usize,
-    p: usize,
-    z: usize,
-    rest: usize,
-) -> usize
-    requires asked { Asked lent.now state.old list.old.now }
-    requires ask_rows { AskRows lent.now i e p z rest × (i ≤ e) }
-    ensures steady { Steady state.old list.old state.new list.new }
-    ensures done_rows { DoneRows lent.now i e p z rest state.old list.old.now state.new list.new.now result }
-{
-    if z <= p {
-        return i;
-    }
-    let plan = lent[PLAN];
-    let tail = kept::tail_of(plan, rest);
-    if 1 < tail {
-        return i;
-    }
-    let g = sides::read_sides(plan, p, z);
-    if g.form == 0 {
-        return i;
-    }
-    let root = state[ROOT];
-    let cap = state[CAP];
-    let at = state[AT];
-    let f = Filter {
-        root,
-        e,
-        p,
-        z,
-        tail,
-        rest,
-        cap,
-        cells: false,
-    };
-    let a = sides::keep(
+    let v = joined::keep(
         plan,
         lent[POOL],
         lent[TABLE],
         lent[TEXT],
         f,
         i,
-        g,
+        way,
         *list,
         at,
     );
-    state[AT] = a;
+    state[AT] = v.at;
+    if v.more {
+        return v.i;
+    }
     e
 }
 

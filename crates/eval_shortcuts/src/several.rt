@@ -74,7 +74,7 @@ fn ends(plan: &[u8], p: usize, n: usize) -> bool
 }
 
 // Whether a child segment of names and indices stands at pc, and the query ends behind it.
-pub fn picks(plan: &[u8], pc: usize) -> bool
+fn picks(plan: &[u8], pc: usize) -> bool
     requires { (length plan.now ≤ max_plan) × (pc ≤ length plan.now + 4) }
     ensures { result ≡ true → Picks plan.now pc }
 {
@@ -296,61 +296,6 @@ fn pick(
         return pick_members(plan, pool, table, text, node, p, n, near, list, at, cap);
     }
     pick_elements(plan, pool, table, text, node, p, n, list, at, cap)
-}
-
-// What the name or index at p selects of a node is pushed.
-fn put_one(
-    plan: &[u8],
-    pool: &[u8],
-    table: &[u8],
-    text: &[u8],
-    p: usize,
-    node: usize,
-    list: &mut [u32],
-    at: usize,
-    cap: usize,
-) -> usize
-    requires ask_one { AskOne plan.now pool.now table.now text.now p node 5 6 }
-    requires room { Room (length list.old) at cap }
-    ensures { DonePut plan.now pool.now table.now text.now p node cap list.old at list.new result }
-{
-    let found = leaves::select_one(plan, pool, table, text, p, node);
-    let Member::At(k) = found else {
-        return at;
-    };
-    eval_front::push(list, at, k, cap)
-}
-
-// What the n names and indices at p select of a node is pushed, of one node alone.
-pub fn pick_once(
-    plan: &[u8],
-    pool: &[u8],
-    table: &[u8],
-    text: &[u8],
-    node: usize,
-    p: usize,
-    n: usize,
-    list: &mut [u32],
-    at: usize,
-    cap: usize,
-) -> usize
-    requires { AskPick plan.now pool.now table.now text.now node p n (length list.old) at cap }
-    ensures { DonePick plan.now pool.now table.now text.now node p n cap list.old at list.new result }
-{
-    let mut a = at;
-    let mut q = p;
-    let mut m = 0;
-    while m < n {
-        a = put_one(plan, pool, table, text, q, node, list, a, cap);
-        if plan[q] == NAME {
-            q += lengths::POOLED_ITEM;
-            m += 1;
-        } else {
-            q += lengths::NUMBER_ITEM;
-            m += 1;
-        }
-    }
-    a
 }
 
 // The nodes from i up to e with the query at rest, whose last segment stands at pc, up to the first that is led elsewhere.

@@ -49,8 +49,8 @@ mod RowsTell
 mod RowsTurn
 use Rattle.eval.proofs.+evaluation.Proof.Base.{μ-apply-selector, μ-apply-selectors, μ-descend-flats, μ-each-child, μ-each-place, μ-eval-filter, μ-eval-filter-expr, μ-eval-query, μ-eval-test, μ-evaluate-segment, μ-next-kept, μ-recursive-descent, μ-rows::keep, μ-rows::tell, μ-rows::turn, apply_selector_at, apply_selectors_at, descend_flats_at, each_child_at, each_place_at, eval_filter_at, eval_filter_expr_at, eval_query_at, eval_test_at, evaluate_segment_at, next_kept_at, recursive_descent_at, rows::keep-at, rows::tell-at, rows::turn-at}
 
-pub +evaluation-spec : {M : Type 1} → statement M
-+evaluation-spec =
+pub +apply-selector-apply-selectors-descend-flats-each-child-each-place-eval-filter-eval-filter-expr-eval-query-eval-test-evaluate-segment-next-kept-recursive-descent-keep-tell-turn-spec : {M : Type 1} → statement M
++apply-selector-apply-selectors-descend-flats-each-child-each-place-eval-filter-eval-filter-expr-eval-query-eval-test-evaluate-segment-next-kept-recursive-descent-keep-tell-turn-spec =
     close μ-apply-selector μ-apply-selectors μ-descend-flats μ-each-child μ-each-place μ-eval-filter
     μ-eval-filter-expr μ-eval-query μ-eval-test μ-evaluate-segment μ-next-kept μ-recursive-descent μ-rows::keep
     μ-rows::tell μ-rows::turn
@@ -69,7 +69,14 @@ pub +evaluation-spec : {M : Type 1} → statement M
     (ApplySelector.returns-5 t) (ApplySelector.keep-children-requires t)
     (ApplySelector.eval-filter-requires t) (ApplySelector.returns-6 t) (ApplySelector.returns-7 t))
     (λ t. apply-selectors-lts.spec (ApplySelectors.calls t) (apply_selectors_at t) apply-selectors.Post
-    ApplySelectors.Inv-loop ApplySelectors.μ-loop (ApplySelectors.element-copy-out-plan t) (ApplySelectors.add-word16 t) (ApplySelectors.word16-requires t) (ApplySelectors.add-skip-selectors t) (ApplySelectors.skip-selectors-requires t) (ApplySelectors.add-apply-selector t) (ApplySelectors.apply-selector-requires t) (ApplySelectors.returns t) (ApplySelectors.add-pick-front t) (ApplySelectors.pick-front-requires t) (ApplySelectors.returns-2 t) (ApplySelectors.loop-holds t) (ApplySelectors.apply-selector-requires-2 t) (ApplySelectors.element-copy-out-if3 t) (ApplySelectors.element-copy-out-if3-2 t) (ApplySelectors.returns-3 t) (ApplySelectors.element-copy-out-next-selector t) (ApplySelectors.next-selector-requires t) (ApplySelectors.sub-m t) (ApplySelectors.loop-less t) (ApplySelectors.loop-again t) (ApplySelectors.apply-selector-requires-3 t) (ApplySelectors.returns-4 t))
+    ApplySelectors.Inv-loop ApplySelectors.μ-loop (ApplySelectors.element-copy-out-plan t)
+    (ApplySelectors.add-word16 t) (ApplySelectors.word16-requires t) (ApplySelectors.add-p t)
+    (ApplySelectors.skip-selectors-requires t) (ApplySelectors.loop-holds t)
+    (ApplySelectors.apply-selector-requires t) (ApplySelectors.element-copy-out-if1 t)
+    (ApplySelectors.element-copy-out-if1-2 t) (ApplySelectors.returns t)
+    (ApplySelectors.element-copy-out-next-selector t) (ApplySelectors.next-selector-requires t)
+    (ApplySelectors.sub-m t) (ApplySelectors.loop-less t) (ApplySelectors.loop-again t)
+    (ApplySelectors.apply-selector-requires-2 t) (ApplySelectors.returns-2 t))
     (λ t. descend-flats-lts.spec (DescendFlats.calls t) (descend_flats_at t) descend-flats.Post
     DescendFlats.Inv-loop DescendFlats.μ-loop (DescendFlats.apply-selectors-requires t)
     (DescendFlats.element-copy-out-table t) (DescendFlats.first-child-requires t) (DescendFlats.cast-first t)
@@ -98,14 +105,14 @@ pub +evaluation-spec : {M : Type 1} → statement M
     (EachPlace.loop-holds t) (EachPlace.element-copy-out-if3 t) (EachPlace.element-copy-out-if3-2 t)
     (EachPlace.returns-2 t) (EachPlace.evaluate-segment-requires t) (EachPlace.further-requires t)
     (EachPlace.loop-less t) (EachPlace.loop-again t) (EachPlace.returns-3 t))
-    (λ t. eval-filter-lts.spec (EvalFilter.calls t) (eval_filter_at t) eval-filter.Post EvalFilter.Inv-loop EvalFilter.μ-loop (EvalFilter.element-copy-out-past-sized t) (EvalFilter.past-sized-requires t) (EvalFilter.element-copy-out-table t) (EvalFilter.first-child-requires t) (EvalFilter.cast-i t) (EvalFilter.child-count-requires t) (EvalFilter.cast-n t) (EvalFilter.add-e t) (EvalFilter.add-keep-joined t) (EvalFilter.keep-joined-requires t) (EvalFilter.element-copy-out-next-kept t) (EvalFilter.add-next-kept t) (EvalFilter.next-kept-requires t) (EvalFilter.loop-holds t) (EvalFilter.add-keep t) (EvalFilter.keep-requires t) (EvalFilter.returns t) (EvalFilter.evaluate-segment-requires t) (EvalFilter.element-copy-out-if3 t) (EvalFilter.element-copy-out-if3-2 t) (EvalFilter.returns-2 t) (EvalFilter.add-by-cells t) (EvalFilter.by-cells-requires t) (EvalFilter.loop-less t) (EvalFilter.loop-again t) (EvalFilter.element-copy-out-next-kept-2 t) (EvalFilter.add-next-kept-2 t) (EvalFilter.add-next-kept-3 t) (EvalFilter.next-kept-requires-2 t) (EvalFilter.loop-less-2 t) (EvalFilter.loop-again-2 t) (EvalFilter.returns-3 t))
+    (λ t. eval-filter-lts.spec (EvalFilter.calls t) (eval_filter_at t) eval-filter.Post EvalFilter.Inv-loop EvalFilter.μ-loop (EvalFilter.add-z t) (EvalFilter.element-copy-out-word16 t) (EvalFilter.add-word16 t) (EvalFilter.word16-requires t) (EvalFilter.add-z-2 t) (EvalFilter.element-copy-out-table t) (EvalFilter.first-child-requires t) (EvalFilter.cast-i t) (EvalFilter.child-count-requires t) (EvalFilter.cast-n t) (EvalFilter.add-e t) (EvalFilter.add-keep-joined t) (EvalFilter.keep-joined-requires t) (EvalFilter.element-copy-out-next-kept t) (EvalFilter.add-next-kept t) (EvalFilter.next-kept-requires t) (EvalFilter.loop-holds t) (EvalFilter.add-keep t) (EvalFilter.keep-requires t) (EvalFilter.returns t) (EvalFilter.evaluate-segment-requires t) (EvalFilter.element-copy-out-if3 t) (EvalFilter.element-copy-out-if3-2 t) (EvalFilter.returns-2 t) (EvalFilter.add-t42 t) (EvalFilter.loop-less t) (EvalFilter.loop-again t) (EvalFilter.element-copy-out-next-kept-2 t) (EvalFilter.add-next-kept-2 t) (EvalFilter.add-next-kept-3 t) (EvalFilter.next-kept-requires-2 t) (EvalFilter.loop-less-2 t) (EvalFilter.loop-again-2 t) (EvalFilter.returns-3 t))
     (λ t. eval-filter-expr-lts.spec (EvalFilterExpr.calls t) (eval_filter_expr_at t) eval-filter-expr.Post
     EvalFilterExpr.Inv-loop EvalFilterExpr.μ-loop (EvalFilterExpr.loop-holds t)
     (EvalFilterExpr.element-copy-out-plain-turn t) (EvalFilterExpr.element-copy-out-plain-turn-2 t)
     (EvalFilterExpr.element-copy-out-plain-turn-3 t) (EvalFilterExpr.element-copy-out-plain-turn-4 t)
     (EvalFilterExpr.plain-turn-requires t) (EvalFilterExpr.loop-less t) (EvalFilterExpr.loop-again t)
-    (EvalFilterExpr.is-call-requires t) (EvalFilterExpr.met-requires t) (EvalFilterExpr.returns t) (EvalFilterExpr.eval-test-requires t)
-    (EvalFilterExpr.loop-less-2 t) (EvalFilterExpr.loop-again-2 t) (EvalFilterExpr.told-requires t) (EvalFilterExpr.returns-2 t))
+    (EvalFilterExpr.is-call-requires t) (EvalFilterExpr.returns t) (EvalFilterExpr.eval-test-requires t)
+    (EvalFilterExpr.loop-less-2 t) (EvalFilterExpr.loop-again-2 t) (EvalFilterExpr.returns-2 t))
     (λ t. eval-query-lts.spec (EvalQuery.calls t) (eval_query_at t) eval-query.Post
     (EvalQuery.element-copy-out-plan t) (EvalQuery.element-copy-out-table t)
     (EvalQuery.element-copy-out-text t) (EvalQuery.shared-slice-read-begins t) (EvalQuery.begins-requires t)
@@ -134,7 +141,7 @@ pub +evaluation-spec : {M : Type 1} → statement M
     (EvaluateSegment.has-flats-requires t) (EvaluateSegment.descend-flats-requires t)
     (EvaluateSegment.returns-4 t) (EvaluateSegment.recursive-descent-requires t)
     (EvaluateSegment.returns-5 t))
-    (λ t. next-kept-lts.spec (NextKept.calls t) (next_kept_at t) next-kept.Post NextKept.Inv-loop NextKept.μ-loop (NextKept.loop-holds t) (NextKept.eval-filter-expr-requires t) (NextKept.by-cells-requires t) (NextKept.returns t) (NextKept.eval-filter-expr-requires-2 t) (NextKept.keeps-requires t) (NextKept.returns-2 t) (NextKept.add-by-cells t) (NextKept.by-cells-requires-2 t) (NextKept.returns-3 t) (NextKept.keeps-requires-2 t) (NextKept.returns-4 t) (NextKept.add-j t) (NextKept.loop-less t) (NextKept.loop-again t) (NextKept.keeps-requires-3 t) (NextKept.returns-5 t))
+    (λ t. next-kept-lts.spec (NextKept.calls t) (next_kept_at t) next-kept.Post NextKept.Inv-loop NextKept.μ-loop (NextKept.loop-holds t) (NextKept.eval-filter-expr-requires t) (NextKept.returns t) (NextKept.eval-filter-expr-requires-2 t) (NextKept.returns-2 t) (NextKept.add-t12 t) (NextKept.returns-3 t) (NextKept.returns-4 t) (NextKept.add-j t) (NextKept.loop-less t) (NextKept.loop-again t) (NextKept.returns-5 t))
     (λ t. recursive-descent-lts.spec (RecursiveDescent.calls t) (recursive_descent_at t)
     recursive-descent.Post RecursiveDescent.Inv-loop RecursiveDescent.μ-loop
     (RecursiveDescent.apply-selectors-requires t) (RecursiveDescent.element-copy-out-table t)

@@ -5,9 +5,9 @@ use lib.ListN.{length}
 use native.Mathlib.Omega.{arith}
 use borrow.Author.Tests.{not-false}
 use borrow.Author.Rules.{rules}
-use Rattle.eval_asks.specs.Cells.{Column, later_less}
+use Rattle.eval_asks.specs.Cells.{Column}
 use Rattle.eval_rows.specs.Calls.{left_asked, read_spelled}
-use Rattle.eval_rows.specs.Columns.{Standing, fill_code, fill_asked, stands_left}
+use Rattle.eval_rows.specs.Columns.{Standing, least_less, fill_code, fill_asked, stands_left}
 use Rattle.eval_rows.proofs.fill.Statement.{statement}
 use Rattle.eval_rows.proofs.fill.Tie as tie
 use Rattle.eval_rows.proofs.fill.Reads as reads
@@ -63,7 +63,7 @@ least-requires-2 : tie.Need-least-requires-2 invariant-loop decreases-loop
 least-requires-2 c κs = (c.before.before.before.by_size.ensures.cells refl).long
 
 loop-less : tie.Need-loop-smaller invariant-loop decreases-loop
-loop-less c = later_less (λ h. (c.least2.ensures h).0) c.before.before.before.before.before.before.before.before.before.loop-test.true
+loop-less c = least_less c.least2.ensures c.before.before.before.before.before.before.before.before.before.loop-test.true
 
 loop-again : tie.Need-loop-preserved invariant-loop decreases-loop
 loop-again c = let i = c.before.before.before.before.before.before.before.before.before.before.loop.invariant in (c.before.before.before.before.by_size.ensures.cells refl, (c.before.before.before.before.by_size.auto.1.1.1.1.1.1.1.0 ∙ i.1.0, λ h. let u = c.least2.ensures h in let w = (i.1.1 c.before.before.before.before.before.before.before.before.before.loop-test.true).0 in (omega (arith, u.0), u.1)))

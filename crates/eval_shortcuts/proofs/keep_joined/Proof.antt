@@ -23,11 +23,8 @@ element-copy-out-plan c = search rules
 way-of-requires : tie.Need-way-of-requires
 way-of-requires c κs = let s = c.before.before.requires in (test_code s.0.given.few_p s.1.test, rows_call s.0 s.1)
 
-keep-sides-requires : tie.Need-keep-sides-requires
-keep-sides-requires c κs = let s = c.before.before.before.before.before.before.requires in (s.0, (s.1, omega (arith, c.before.before.before.before.before.if1.false)))
-
 returns-2 : tie.Need-returns-2
-returns-2 c = c.keep-sides.ensures
+returns-2 c = (steady_refl _ _, rows_none c.before.before.before.before.requires.0)
 
 tail-of-requires : tie.Need-tail-of-requires
 tail-of-requires c κs = rows_tail c.before.before.before.before.requires.0 c.before.before.before.before.requires.1
@@ -44,14 +41,14 @@ element-copy-out-cap c = search rules
 element-copy-out-at : tie.Need-element-copy-out-at
 element-copy-out-at c = search rules
 
-element-copy-out-table : tie.Need-element-copy-out-table
-element-copy-out-table c = search rules
-
 element-copy-out-keep : tie.Need-element-copy-out-keep
 element-copy-out-keep c = search rules
 
 element-copy-out-keep-2 : tie.Need-element-copy-out-keep-2
 element-copy-out-keep-2 c = search rules
+
+element-copy-out-keep-3 : tie.Need-element-copy-out-keep-3
+element-copy-out-keep-3 c = search rules
 
 slice-aggregate-keep : tie.Need-slice-aggregate-keep
 slice-aggregate-keep c = search rules
@@ -76,16 +73,15 @@ keep_joined_spec =
     returns
     element-copy-out-plan
     way-of-requires
-    keep-sides-requires
     returns-2
     tail-of-requires
     returns-3
     element-copy-out-root
     element-copy-out-cap
     element-copy-out-at
-    element-copy-out-table
     element-copy-out-keep
     element-copy-out-keep-2
+    element-copy-out-keep-3
     slice-aggregate-keep
     keep-requires
     element-write-state

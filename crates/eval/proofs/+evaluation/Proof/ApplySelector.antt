@@ -18,7 +18,7 @@ use native.Mathlib.Omega.{arith}
 use borrow.Author.Tests.{not-true, not-false}
 use Rattle.eval_laws.specs.Ranges.{range_of_lem}
 use Rattle.eval_asks.specs.Steady.{steady_refl, steady_then, steady_wrote, asked_later}
-use Rattle.eval_shortcuts.specs.Stood.{here_push, here_ends}
+use Rattle.eval.specs.Calls.{here_push, here_ends}
 use Rattle.eval_asks.specs.Kinds.{one_asked, rest_in, selector_absent, found_asked, selector_found, each_asked, wildcard_done, kept_after, kept_room, kind_filter}
 
 abbrev pub calls : ℕ → lts.Claims

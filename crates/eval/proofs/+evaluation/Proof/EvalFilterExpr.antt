@@ -3,8 +3,6 @@ use Rattle.eval.proofs.+evaluation.Lts-eval_filter_expr as lts
 use Prim.Native.Nat.{ℕ}
 use Rattle.eval.proofs.eval_filter_expr.Reads as eval-filter-expr
 use Rattle.eval.proofs.eval_test.Reads as eval-test
-use Rattle.eval.proofs.says.met.Reads as met-reads
-use Rattle.eval.proofs.says.told.Reads as told-reads
 use Rattle.eval_filters.proofs.plain_turn.Reads as plain-turn-reads
 use Rattle.eval_shortcuts.proofs.is_call.Reads as is-call-reads
 use Rattle.eval.proofs.+evaluation.Proof.Base.{eval_filter_expr_at, eval_test_below}
@@ -13,10 +11,10 @@ use Prim.Native.Nat.{◌-◌}
 use native.Mathlib.Omega.{arith}
 use Rattle.eval_filters.specs.Turns.{turn_left}
 use Rattle.eval_asks.specs.Lent.{plan_of, pool_of, table_of, text_of}
-use Rattle.eval.specs.Loops.{InTest, turn_here, said_met, said_told, said_is}
+use Rattle.eval.specs.Loops.{InTest, turn_here, said_met, said_told}
 
 abbrev pub calls : ℕ → lts.Claims
-calls t = (plain-turn-reads.Asked, plain-turn-reads.Learnt, is-call-reads.Asked, is-call-reads.Learnt, met-reads.Asked, met-reads.Learnt, eval_test_below t, eval-test.Post, told-reads.Asked, told-reads.Learnt)
+calls t = (plain-turn-reads.Asked, plain-turn-reads.Learnt, is-call-reads.Asked, is-call-reads.Learnt, eval_test_below t, eval-test.Post)
 
 abbrev pub Inv-loop : lts.invariant-loop
 Inv-loop lent root node acc p e stop b₀ q₀ deep₀ b q deep = InTest (plan_of lent) (pool_of lent) (table_of lent) (text_of lent) root node acc p e b q
@@ -52,11 +50,8 @@ module _ (t : ℕ) where
   pub is-call-requires : lts.Need-is-call-requires (calls t) (eval_filter_expr_at t) eval-filter-expr.Post Inv-loop μ-loop
   is-call-requires c κs = turn_left (turn_here c.before.before.before.before.before.before.before.before.loop.invariant c.before.before.before.before.before.before.before.before.before.requires.1.1 c.before.before.before.before.before.before.before.before.before.requires.1.0 c.before.before.before.before.before.before.before.loop-test.true)
 
-  pub met-requires : lts.Need-met-requires (calls t) (eval_filter_expr_at t) eval-filter-expr.Post Inv-loop μ-loop
-  met-requires c κs = search rules
-
   pub returns : lts.Need-returns (calls t) (eval_filter_expr_at t) eval-filter-expr.Post Inv-loop μ-loop
-  returns c = said_is c.met.ensures (said_met c.before.before.before.before.before.before.before.before.before.before.before.loop.invariant c.before.before.before.if2.true c.before.before.before.before.before.before.before.before.before.before.loop-test.true)
+  returns c = said_met c.before.before.before.before.before.before.before.before.before.before.loop.invariant c.before.before.if2.true c.before.before.before.before.before.before.before.before.before.loop-test.true
 
   pub eval-test-requires : lts.Need-eval-test-requires (calls t) (eval_filter_expr_at t) eval-filter-expr.Post Inv-loop μ-loop
   eval-test-requires c κs = let i = c.before.before.before.before.before.before.before.before.loop.invariant in (omega (arith, i.later, c.before.before.before.before.before.before.before.before.before.requires.0), (c.before.before.before.before.before.before.before.before.before.requires.1.0, turn_here c.before.before.before.before.before.before.before.before.loop.invariant c.before.before.before.before.before.before.before.before.before.requires.1.1 c.before.before.before.before.before.before.before.before.before.requires.1.0 c.before.before.before.before.before.before.before.loop-test.true))
@@ -67,8 +62,5 @@ module _ (t : ℕ) where
   pub loop-again-2 : lts.Need-loop-preserved-2 (calls t) (eval_filter_expr_at t) eval-filter-expr.Post Inv-loop μ-loop
   loop-again-2 c = let i = c.before.before.before.before.before.before.before.before.before.loop.invariant in let d = c.eval-test.ensures in record { later = omega (arith, i.later, d.further); again = λ want l. d.goes want (i.again want l) }
 
-  pub told-requires : lts.Need-told-requires (calls t) (eval_filter_expr_at t) eval-filter-expr.Post Inv-loop μ-loop
-  told-requires c κs = search rules
-
   pub returns-2 : lts.Need-returns-2 (calls t) (eval_filter_expr_at t) eval-filter-expr.Post Inv-loop μ-loop
-  returns-2 c = said_is c.told.ensures (said_told c.before.before.loop.invariant c.before.loop-test.false)
+  returns-2 c = said_told c.before.loop.invariant c.loop-test.false

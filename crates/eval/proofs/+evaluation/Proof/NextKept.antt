@@ -3,19 +3,16 @@ use Rattle.eval.proofs.+evaluation.Lts-next_kept as lts
 use Prim.Native.Nat.{ℕ}
 use Rattle.eval.proofs.eval_filter_expr.Reads as eval-filter-expr
 use Rattle.eval.proofs.next_kept.Reads as next-kept
-use Rattle.eval.proofs.says.by_cells.Reads as by-cells-reads
-use Rattle.eval.proofs.says.keeps.Reads as keeps-reads
 use Rattle.eval.proofs.+evaluation.Proof.Base.{eval_filter_expr_below, next_kept_at}
-use borrow.Author.Rules.{rules}
 use Prim.Native.Nat.{◌-◌}
 use native.Mathlib.Omega.{arith}
 use Rattle.eval_asks.specs.Kinds.{InNext, next_found, next_none, next_again}
 use mathlib.Core.Path.{refl}
 use Rattle.eval.specs.Loops.{said_test, said_rest, said_later, rest_start, rest_later}
-use Rattle.eval.specs.Columns.{next_met, next_is, code_near}
+use Rattle.eval.specs.Columns.{next_met, code_near}
 
 abbrev pub calls : ℕ → lts.Claims
-calls t = (eval_filter_expr_below t, eval-filter-expr.Post, by-cells-reads.Asked, by-cells-reads.Learnt, keeps-reads.Asked, keeps-reads.Learnt)
+calls t = (eval_filter_expr_below t, eval-filter-expr.Post)
 
 abbrev pub Inv-loop : lts.invariant-loop
 Inv-loop lent root i e p z j₀ j = InNext lent root i e p z j
@@ -30,35 +27,23 @@ module _ (t : ℕ) where
   pub eval-filter-expr-requires : lts.Need-eval-filter-expr-requires (calls t) (next_kept_at t) next-kept.Post Inv-loop μ-loop
   eval-filter-expr-requires c κs = let q = c.before.before.requires.1 in (omega (arith, c.before.before.requires.0), (record { few_p = q.given.few_p; few_l = q.given.few_l; tab = q.given.tab; root_in = q.root_in; node_in = omega (arith, c.loop-test.true, q.range (omega (arith, c.before.loop.invariant.low, c.loop-test.true))) }, rest_start q.test))
 
-  pub by-cells-requires : lts.Need-by-cells-requires (calls t) (next_kept_at t) next-kept.Post Inv-loop μ-loop
-  by-cells-requires c κs = search rules
-
   pub returns : lts.Need-returns (calls t) (next_kept_at t) next-kept.Post Inv-loop μ-loop
-  returns c = next_is c.by-cells.ensures (next_met c.before.before.before.before.before.before.loop.invariant)
+  returns c = next_met c.before.before.before.before.before.loop.invariant
 
   pub eval-filter-expr-requires-2 : lts.Need-eval-filter-expr-requires-2 (calls t) (next_kept_at t) next-kept.Post Inv-loop μ-loop
   eval-filter-expr-requires-2 c κs = let q = c.before.before.before.before.before.before.requires.1 in let d = c.before.before.before.eval-filter-expr.ensures in (omega (arith, d.later (code_near q).0, c.before.before.before.before.before.before.requires.0), (record { few_p = q.given.few_p; few_l = q.given.few_l; tab = q.given.tab; root_in = q.root_in; node_in = omega (arith, c.before.before.before.before.loop-test.true, q.range (omega (arith, c.before.before.before.before.before.loop.invariant.low, c.before.before.before.before.loop-test.true))) }, rest_later d q.test))
 
-  pub keeps-requires : lts.Need-keeps-requires (calls t) (next_kept_at t) next-kept.Post Inv-loop μ-loop
-  keeps-requires c κs = search rules
-
   pub returns-2 : lts.Need-returns-2 (calls t) (next_kept_at t) next-kept.Post Inv-loop μ-loop
-  returns-2 c = next_is c.keeps.ensures (next_found c.before.before.before.before.before.before.before.before.loop.invariant (λ n. (said_later c.before.before.before.before.before.before.eval-filter-expr.ensures (said_rest c.before.before.eval-filter-expr2.ensures (c.before.before.eval-filter-expr2.ensures.onward refl)))) c.before.if3.true)
+  returns-2 c = next_found c.before.before.before.before.before.before.before.loop.invariant (λ n. (said_later c.before.before.before.before.before.eval-filter-expr.ensures (said_rest c.before.eval-filter-expr2.ensures (c.before.eval-filter-expr2.ensures.onward refl)))) c.if3.true
 
-  pub add-by-cells : lts.Need-overflow-add-by-cells (calls t) (next_kept_at t) next-kept.Post Inv-loop μ-loop
-  add-by-cells c = omega (arith, c.before.before.before.before.before.before.loop-test.true, c.before.before.before.before.before.before.before.before.ranges.e)
-
-  pub by-cells-requires-2 : lts.Need-by-cells-requires-2 (calls t) (next_kept_at t) next-kept.Post Inv-loop μ-loop
-  by-cells-requires-2 c κs = search rules
+  pub add-t12 : lts.Need-overflow-add-t12 (calls t) (next_kept_at t) next-kept.Post Inv-loop μ-loop
+  add-t12 c = omega (arith, c.before.before.before.before.before.before.loop-test.true, c.before.before.before.before.before.before.before.before.ranges.e)
 
   pub returns-3 : lts.Need-returns-3 (calls t) (next_kept_at t) next-kept.Post Inv-loop μ-loop
-  returns-3 c = next_is c.by-cells2.ensures (next_met (next_again c.before.before.before.before.before.before.before.before.loop.invariant c.before.before.before.before.before.before.before.loop-test.true (said_later c.before.before.before.before.before.before.eval-filter-expr.ensures (said_rest c.before.before.eval-filter-expr2.ensures (c.before.before.eval-filter-expr2.ensures.onward refl))) c.before.if3.false))
-
-  pub keeps-requires-2 : lts.Need-keeps-requires-2 (calls t) (next_kept_at t) next-kept.Post Inv-loop μ-loop
-  keeps-requires-2 c κs = search rules
+  returns-3 c = next_met (next_again c.before.before.before.before.before.before.before.loop.invariant c.before.before.before.before.before.before.loop-test.true (said_later c.before.before.before.before.before.eval-filter-expr.ensures (said_rest c.before.eval-filter-expr2.ensures (c.before.eval-filter-expr2.ensures.onward refl))) c.if3.false)
 
   pub returns-4 : lts.Need-returns-4 (calls t) (next_kept_at t) next-kept.Post Inv-loop μ-loop
-  returns-4 c = next_is c.keeps2.ensures (next_found c.before.before.before.before.before.loop.invariant (λ n. said_test c.before.before.before.eval-filter-expr.ensures c.before.before.if1.false) c.before.if4.true)
+  returns-4 c = next_found c.before.before.before.before.loop.invariant (λ n. said_test c.before.before.eval-filter-expr.ensures c.before.if1.false) c.if4.true
 
   pub add-j : lts.Need-overflow-add-j (calls t) (next_kept_at t) next-kept.Post Inv-loop μ-loop
   add-j c = omega (arith, c.before.before.before.loop-test.true, c.before.before.before.before.before.ranges.e)
@@ -69,8 +54,5 @@ module _ (t : ℕ) where
   pub loop-again : lts.Need-loop-preserved (calls t) (next_kept_at t) next-kept.Post Inv-loop μ-loop
   loop-again c = next_again c.before.before.before.before.loop.invariant c.before.before.before.loop-test.true (said_test c.before.before.eval-filter-expr.ensures c.before.if1.false) c.if4.false
 
-  pub keeps-requires-3 : lts.Need-keeps-requires-3 (calls t) (next_kept_at t) next-kept.Post Inv-loop μ-loop
-  keeps-requires-3 c κs = search rules
-
   pub returns-5 : lts.Need-returns-5 (calls t) (next_kept_at t) next-kept.Post Inv-loop μ-loop
-  returns-5 c = next_is c.keeps3.ensures (next_none c.before.before.loop.invariant c.before.loop-test.false)
+  returns-5 c = next_none c.before.loop.invariant c.loop-test.false

@@ -11,8 +11,8 @@ use mathlib.Core.Path.{◌≡◌, refl, ◌∙◌}
 use lib.ListN.{length}
 use native.Mathlib.Omega.{arith}
 use Rattle.eval_asks.specs.Lent.{plan_of, pool_of, table_of, text_of}
-use Rattle.eval_asks.specs.Cells.{Column, later_less}
-use Rattle.eval.specs.Columns.{code_near, tell_start}
+use Rattle.eval_asks.specs.Cells.{Column}
+use Rattle.eval.specs.Columns.{code_near, tell_start, later_less}
 
 abbrev pub calls : ℕ → lts.Claims
 calls t = (lay-reads.Asked, lay-reads.Learnt, fill-cells-reads.Asked, fill-cells-reads.Learnt, rows::turn-below t, rows::turn.Post)

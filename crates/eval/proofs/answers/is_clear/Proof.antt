@@ -1,7 +1,7 @@
 -- `answers::is_clear` meets its contract. Assumes nothing.
 use mathlib.Core.Path.{sym, ◌∙◌}
-use mathlib.Core.Bool.{false≢true}
 use borrow.Author.Tests.{not-true}
+use Rattle.eval_front.specs.Fronts.{never}
 use borrow.Author.Rules.{rules}
 use Rattle.eval.proofs.answers.is_clear.Statement.{statement}
 use Rattle.eval.proofs.answers.is_clear.Tie as tie
@@ -10,13 +10,13 @@ use Rattle.eval.proofs.answers.is_clear.Lts as lts
 use Rattle.eval_values.proofs.operands.is_some.Reads as is-some-reads
 
 returns : tie.Need-returns
-returns c = λ u. absurd (false≢true u)
+returns c = λ u. absurd (never u)
 
 is-some-requires : tie.Need-is-some-requires
 is-some-requires c κs = search rules
 
 returns-2 : tie.Need-returns-2
-returns-2 c = λ u. absurd (false≢true u)
+returns-2 c = λ u. absurd (never u)
 
 is-some-requires-2 : tie.Need-is-some-requires-2
 is-some-requires-2 c κs = search rules

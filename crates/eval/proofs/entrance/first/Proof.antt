@@ -12,7 +12,7 @@ use Rattle.eval.proofs.evaluate_segment.Reads as evaluate-segment-reads
 use Rattle.eval_shortcuts.proofs.keep_children.Reads as keep-children-reads
 use Rattle.table.proofs.records.child_count.Reads as child-count-reads
 use Rattle.table.proofs.records.first_child.Reads as first-child-reads
-use Rattle.eval_items.proofs.plans.past_sized.Reads as past-sized-reads
+use Rattle.text.proofs.bytes.word16.Reads as word16-reads
 use Rattle.text.proofs.bytes.word32.Reads as word32-reads
 use Prim.Native.Nat.{ℕ, ◌<◌}
 use lib.ListN.{get_or}
@@ -21,7 +21,7 @@ use Rattle.eval_asks.specs.Lent.{plan_of}
 use borrow.Author.Tests.{not-true, not-false}
 use Rattle.eval_laws.specs.Ranges.{range_of_lem}
 use Rattle.eval_asks.specs.Steady.{steady_then, asked_later}
-use Rattle.eval_asks.specs.Kinds.{each_asked, wildcard_done, kept_after, kept_room}
+use Rattle.eval_asks.specs.Kinds.{rest_in, each_asked, wildcard_done, kept_after, kept_room}
 use Rattle.eval.specs.Aheads.{ahead_each, ahead_then}
 use Rattle.eval.specs.Alone.{enter_bound, enter_head, enter_selector, enter_done, slice_ends, wildcard_ends, filter_fits, filter_ends}
 
@@ -43,15 +43,29 @@ word32-requires c κs = omega (arith, enter_bound c.before.before.before.require
 add-p : tie.Need-overflow-add-p
 add-p c = let p = c.before.before.before.before.requires in omega (arith, enter_bound p, p.asked.given.few_p)
 
-past-sized-requires : tie.Need-past-sized-requires
-past-sized-requires c κs = let p = c.before.before.before.before.before.requires in omega (arith, filter_fits p (λ k. (c.before.before.before.shared-slice-known.given k).fits) c.before.word32.ensures c.if2.true)
+add-rest : tie.Need-overflow-add-rest
+add-rest c = let p = c.before.before.before.before.before.requires in omega (arith, filter_fits p (λ k. (c.before.before.before.shared-slice-known.given k).fits) c.before.word32.ensures c.if2.true, p.asked.given.few_p)
+
+add-word16 : tie.Need-overflow-add-word16
+add-word16 c = let p = c.before.before.before.before.before.requires in omega (arith, filter_fits p (λ k. (c.before.before.before.shared-slice-known.given k).fits) c.before.word32.ensures c.if2.true, p.asked.given.few_p)
+
+word16-requires : tie.Need-word16-requires
+word16-requires c κs = let p = c.before.before.before.before.before.requires in omega (arith, filter_fits p (λ k. (c.before.before.before.shared-slice-known.given k).fits) c.before.word32.ensures c.if2.true)
+
+add-rest-2 : tie.Need-overflow-add-rest-2
+add-rest-2 c =
+    let p = c.before.before.before.before.before.before.requires in
+    let b : (k : ℕ) → get_or (plan_of c.before.before.before.before.before.before.args.lent.now) k 0 < 256 = λ k. (c.before.before.before.before.shared-slice-known.given k).fits in
+    let h = enter_head p 9 b c.before.before.word32.ensures c.before.if2.true in
+    let q = enter_selector p h (filter_ends p b c.before.before.word32.ensures c.before.if2.true c.word16.ensures) in
+    omega (arith, (rest_in p.asked q).1, p.asked.given.few_p)
 
 keep-children-requires : tie.Need-keep-children-requires
 keep-children-requires c κs =
     let p = c.before.before.before.before.before.before.before.before.requires in
     let b : (k : ℕ) → get_or (plan_of c.before.before.before.before.before.before.before.before.args.lent.now) k 0 < 256 = λ k. (c.before.before.before.before.before.before.shared-slice-known.given k).fits in
     let h = enter_head p 9 b c.before.before.before.before.word32.ensures c.before.before.before.if2.true in
-    let q = enter_selector p h (filter_ends p b c.before.before.before.before.word32.ensures c.before.before.before.if2.true c.before.before.past-sized.ensures) in
+    let q = enter_selector p h (filter_ends p b c.before.before.before.before.word32.ensures c.before.before.before.if2.true c.before.before.word16.ensures) in
     (p.asked, (q, h.kind_is))
 
 eval-filter-requires : tie.Need-eval-filter-requires
@@ -59,7 +73,7 @@ eval-filter-requires c κs =
     let p = c.before.before.before.before.before.before.before.before.before.before.before.before.requires in
     let b : (k : ℕ) → get_or (plan_of c.before.before.before.before.before.before.before.before.before.before.before.before.args.lent.now) k 0 < 256 = λ k. (c.before.before.before.before.before.before.before.before.before.before.shared-slice-known.given k).fits in
     let h = enter_head p 9 b c.before.before.before.before.before.before.before.before.word32.ensures c.before.before.before.before.before.before.before.if2.true in
-    let q = enter_selector p h (filter_ends p b c.before.before.before.before.before.before.before.before.word32.ensures c.before.before.before.before.before.before.before.if2.true c.before.before.before.before.before.before.past-sized.ensures) in
+    let q = enter_selector p h (filter_ends p b c.before.before.before.before.before.before.before.before.word32.ensures c.before.before.before.before.before.before.before.if2.true c.before.before.before.before.before.before.word16.ensures) in
     let k = c.before.before.before.keep-children.ensures in
     (asked_later k.0 p.asked (kept_room p.asked k.1 (not-true _ c.before.before.if3.true)), (q, h.kind_is))
 
@@ -70,7 +84,7 @@ returns-2 c =
     let h = enter_head p 9 b c.before.before.before.before.before.before.before.before.before.word32.ensures c.before.before.before.before.before.before.before.before.if2.true in
     let k = c.before.before.before.before.keep-children.ensures in
     let d = c.eval-filter.ensures in
-    enter_done p h (filter_ends p b c.before.before.before.before.before.before.before.before.before.word32.ensures c.before.before.before.before.before.before.before.before.if2.true c.before.before.before.before.before.before.before.past-sized.ensures) (steady_then k.0 d.0) (kept_after k.1 (not-true _ c.before.before.before.if3.true) d.1)
+    enter_done p h (filter_ends p b c.before.before.before.before.before.before.before.before.before.word32.ensures c.before.before.before.before.before.before.before.before.if2.true c.before.before.before.before.before.before.before.word16.ensures) (steady_then k.0 d.0) (kept_after k.1 (not-true _ c.before.before.before.if3.true) d.1)
 
 returns-3 : tie.Need-returns-3
 returns-3 c =
@@ -78,7 +92,7 @@ returns-3 c =
     let b : (k : ℕ) → get_or (plan_of c.before.before.before.before.before.before.before.before.before.before.args.lent.now) k 0 < 256 = λ k. (c.before.before.before.before.before.before.before.before.shared-slice-known.given k).fits in
     let h = enter_head p 9 b c.before.before.before.before.before.before.word32.ensures c.before.before.before.before.before.if2.true in
     let k = c.before.keep-children.ensures in
-    enter_done p h (filter_ends p b c.before.before.before.before.before.before.word32.ensures c.before.before.before.before.before.if2.true c.before.before.before.before.past-sized.ensures) k.0 (k.1.done (not-false _ c.if3.false))
+    enter_done p h (filter_ends p b c.before.before.before.before.before.before.word32.ensures c.before.before.before.before.before.if2.true c.before.before.before.before.word16.ensures) k.0 (k.1.done (not-false _ c.if3.false))
 
 add-each-place : tie.Need-overflow-add-each-place
 add-each-place c = let p = c.before.before.before.before.before.before.before.before.requires in omega (arith, enter_bound p, p.asked.given.few_p)
@@ -171,7 +185,10 @@ first_spec =
     returns
     word32-requires
     add-p
-    past-sized-requires
+    add-rest
+    add-word16
+    word16-requires
+    add-rest-2
     keep-children-requires
     eval-filter-requires
     returns-2

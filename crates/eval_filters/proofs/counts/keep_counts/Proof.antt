@@ -13,48 +13,48 @@ use Rattle.eval_filters.proofs.counts.count_passes.Reads as count-passes-reads
 use Rattle.eval_front.proofs.push.Reads as push-reads
 
 abbrev invariant-loop : tie.invariant-loop
-invariant-loop plan pool table text f i op list₀ at a₀ j₀ list a j = InKept plan pool table text f.root i f.e f.p f.z f.rest f.cap list₀ a₀ list a j
+invariant-loop plan pool table text root i e p z op rest list₀ at cap a₀ j₀ list a j = InKept plan pool table text root i e p z rest cap list₀ a₀ list a j
 
 abbrev decreases-loop : tie.decreases-loop
-decreases-loop plan pool table text f i op list₀ at a₀ j₀ list a j = f.e - j
+decreases-loop plan pool table text root i e p z op rest list₀ at cap a₀ j₀ list a j = e - j
 
 loop-holds : tie.Need-loop-init invariant-loop decreases-loop
 loop-holds c = record { low = omega arith; same = refl; room = c.before.before.before.before.before.requires.0.room; again = λ t k f k' h g. refl }
 
 same_length : tie.Need-same-length invariant-loop decreases-loop
-same_length c = c.before.before.before.before.loop.invariant.same
+same_length c = c.before.before.loop.invariant.same
 
 returns : tie.Need-returns invariant-loop decreases-loop
-returns c = range_done (kept_full c.before.before.before.before.loop.invariant c.if2.true c.before.before.before.before.before.before.before.before.before.before.requires.0.wide) refl
+returns c = range_done (kept_full c.before.before.loop.invariant c.if1.true c.before.before.before.before.before.before.before.before.requires.0.wide) refl
 
 count-passes-requires : tie.Need-count-passes-requires invariant-loop decreases-loop
 count-passes-requires c κs =
-    let s = c.before.before.before.before.before.before.before.before.before.before.requires.0 in
-    let l = c.before.before.before.before.loop.invariant.low in
-    let u = c.before.before.if1.true in
-    (record { few_p = s.given.few_p; few_l = s.given.few_l; tab = s.given.tab; root_in = s.root_in; node_in = omega (arith, s.range (omega arith)) }, (c.before.before.before.before.before.before.before.before.before.before.requires.1.0, c.before.before.before.before.before.before.before.before.before.before.requires.1.1.0))
+    let s = c.before.before.before.before.before.before.before.before.requires.0 in
+    let l = c.before.before.loop.invariant.low in
+    let u = c.before.loop-test.true in
+    (record { few_p = s.given.few_p; few_l = s.given.few_l; tab = s.given.tab; root_in = s.root_in; node_in = omega (arith, s.range (omega arith)) }, (c.before.before.before.before.before.before.before.before.requires.1.0, c.before.before.before.before.before.before.before.before.requires.1.1.0))
 
 push-requires : tie.Need-push-requires invariant-loop decreases-loop
 push-requires c κs =
-    let s = c.before.before.before.before.before.before.before.before.before.before.before.before.before.requires.0 in
-    let i = c.before.before.before.before.before.before.before.loop.invariant in
+    let s = c.before.before.before.before.before.before.before.before.before.before.before.requires.0 in
+    let i = c.before.before.before.before.before.loop.invariant in
     let l = i.low in
-    let u = c.before.before.before.before.before.if1.true in
+    let u = c.before.before.before.before.loop-test.true in
     record { room = i.room; wide = omega (arith, i.same, s.wide); small = s.small; number = omega (arith, s.range (omega arith), s.given.tab.size.few) }
 
 add-j : tie.Need-overflow-add-j invariant-loop decreases-loop
-add-j c = let s = c.before.before.before.before.before.before.before.before.before.before.before.before.before.before.before.before.requires.0 in let l = c.before.before.before.before.before.before.before.before.before.before.loop.invariant.low in let u = c.before.before.before.before.before.before.before.before.if1.true in omega (arith, s.range (omega arith), s.given.tab.size.few)
+add-j c = search rules
 
 loop-less : tie.Need-loop-smaller invariant-loop decreases-loop
 loop-less c = search rules
 
 loop-again : tie.Need-loop-preserved invariant-loop decreases-loop
 loop-again c =
-    let s = c.before.before.before.before.before.before.before.before.before.before.before.before.before.before.before.before.requires.0 in
-    let i = c.before.before.before.before.before.before.before.before.before.before.loop.invariant in
+    let s = c.before.before.before.before.before.before.before.before.before.before.before.before.before.before.requires.0 in
+    let i = c.before.before.before.before.before.before.before.before.loop.invariant in
     let l = i.low in
-    let u = c.before.before.before.before.before.before.before.before.if1.true in
-    kept_step i u c.before.before.before.before.before.count-passes.ensures c.before.before.before.before.if3.true (pushed_end (kept_visit s i u) _ c.before.before.before.before.before.before.before.before.before.before.before.before.before.before.before.before.requires.1.1.1 _ _ c.before.before.push.ensures) refl c.before.before.push.auto.0
+    let u = c.before.before.before.before.before.before.before.loop-test.true in
+    kept_step i u c.before.before.before.before.before.count-passes.ensures c.before.before.before.before.if2.true (pushed_end (kept_visit s i u) _ c.before.before.before.before.before.before.before.before.before.before.before.before.before.before.requires.1.1.1 _ _ c.before.before.push.ensures) refl c.before.before.push.auto.0
 
 add-j-2 : tie.Need-overflow-add-j-2 invariant-loop decreases-loop
 add-j-2 c = search rules
@@ -63,13 +63,13 @@ loop-less-2 : tie.Need-loop-smaller-2 invariant-loop decreases-loop
 loop-less-2 c = search rules
 
 loop-again-2 : tie.Need-loop-preserved-2 invariant-loop decreases-loop
-loop-again-2 c = kept_passed c.before.before.before.before.before.before.loop.invariant c.before.before.before.before.if1.true c.before.count-passes.ensures c.if3.false
+loop-again-2 c = kept_passed c.before.before.before.before.loop.invariant c.before.before.before.loop-test.true c.before.count-passes.ensures c.if2.false
 
 same-length-2 : tie.Need-same-length-2 invariant-loop decreases-loop
-same-length-2 c = c.before.before.loop.invariant.same
+same-length-2 c = c.before.loop.invariant.same
 
 returns-2 : tie.Need-returns-2 invariant-loop decreases-loop
-returns-2 c = range_done (kept_end c.before.before.loop.invariant c.if1.false) refl
+returns-2 c = range_done (kept_end c.before.loop.invariant c.loop-test.false) refl
 
 pub keep_counts_spec : {M : Type 1} → statement M
 keep_counts_spec =

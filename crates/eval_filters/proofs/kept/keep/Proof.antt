@@ -32,7 +32,7 @@ keep-pair-requires : tie.Need-keep-pair-requires
 keep-pair-requires c κs =
     let s = c.before.before.before.before.before.before.before.before.before.before.requires in
     let w = members_way _ s.1.1.0.ways s.1.1.1 c.before.before.before.before.if1.false c.before.before.before.if2.false in
-    (s.0, (s.1.0, (s.1.1.0.pair w, (s.1.1.0.tails, s.1.1.0.near w))))
+    (s.0, (s.1.0, (s.1.1.0.pair w, (s.1.1.0.tail, s.1.1.0.near w))))
 
 same-length-3 : tie.Need-same-length-3
 same-length-3 c = search rules

@@ -13,10 +13,10 @@ use Rattle.eval_filters.proofs.kept.passes.Reads as passes-reads
 use Rattle.eval_filters.proofs.kept.push_tail.Reads as push-tail-reads
 
 abbrev invariant-loop : tie.invariant-loop
-invariant-loop plan pool table text i t join u list₀ at root e p z tail rest cap a₀ j₀ near₀ next₀ list a j near next = InKept plan pool table text root i e p z rest cap list₀ a₀ list a j
+invariant-loop plan pool table text root i e p z t join u tail rest list₀ at cap a₀ j₀ near₀ next₀ list a j near next = InKept plan pool table text root i e p z rest cap list₀ a₀ list a j
 
 abbrev decreases-loop : tie.decreases-loop
-decreases-loop plan pool table text i t join u list₀ at root e p z tail rest cap a₀ j₀ near₀ next₀ list a j near next = e - j
+decreases-loop plan pool table text root i e p z t join u tail rest list₀ at cap a₀ j₀ near₀ next₀ list a j near next = e - j
 
 loop-holds : tie.Need-loop-init invariant-loop decreases-loop
 loop-holds c = record { low = omega arith; same = refl; room = c.before.before.before.before.before.requires.0.room; again = λ t k f k' h g. refl }
@@ -43,7 +43,7 @@ push-tail-requires c κs =
     (record { given = s.given; node_in = omega (arith, s.range (omega arith)); query = s.query; room = i.room; wide = omega (arith, i.same, s.wide); small = s.small }, c.before.before.before.before.before.before.before.before.before.before.before.requires.1.1.1)
 
 add-j : tie.Need-overflow-add-j invariant-loop decreases-loop
-add-j c = let s = c.before.before.before.before.before.before.before.before.before.before.before.before.before.before.requires.0 in let l = c.before.before.before.before.before.before.before.before.loop.invariant.low in let u = c.before.before.before.before.before.before.before.loop-test.true in omega (arith, s.range (omega arith), s.given.tab.size.few)
+add-j c = search rules
 
 loop-less : tie.Need-loop-smaller invariant-loop decreases-loop
 loop-less c = search rules

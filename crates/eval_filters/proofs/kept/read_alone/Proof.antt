@@ -13,16 +13,16 @@ read-itself-requires : tie.Need-read-itself-requires
 read-itself-requires c κs = search rules
 
 returns : tie.Need-returns
-returns c = record { tails = tail_end c.before.before.before.before.before.requires.1; pair = λ i. absurd (omega arith); near = λ i. absurd (omega arith); counts = λ i. absurd (omega arith); itself = λ i. c.before.read-itself.ensures c.if1.true; ends = λ i. c.before.before.before.before.before.requires.1; ways = omega arith }
+returns c = record { tail = tail_end c.before.before.before.before.before.requires.1; pair = λ i. absurd (omega arith); near = λ i. absurd (omega arith); counts = λ i. absurd (omega arith); itself = λ i. c.before.read-itself.ensures c.if1.true; ends = λ i. c.before.before.before.before.before.requires.1; ways = omega arith }
 
 read-counts-requires : tie.Need-read-counts-requires
 read-counts-requires c κs = search rules
 
 returns-2 : tie.Need-returns-2
-returns-2 c = record { tails = tail_end c.before.before.before.before.before.before.before.requires.1; pair = λ i. absurd (omega arith); near = λ i. absurd (omega arith); counts = λ i. c.before.read-counts.ensures c.if2.true; itself = λ i. absurd (omega arith); ends = λ i. c.before.before.before.before.before.before.before.requires.1; ways = omega arith }
+returns-2 c = record { tail = tail_end c.before.before.before.before.before.before.before.requires.1; pair = λ i. absurd (omega arith); near = λ i. absurd (omega arith); counts = λ i. c.before.read-counts.ensures c.if2.true; itself = λ i. absurd (omega arith); ends = λ i. c.before.before.before.before.before.before.before.requires.1; ways = omega arith }
 
 returns-3 : tie.Need-returns-3
-returns-3 c = record { tails = tail_end c.before.before.before.before.before.before.before.requires.1; pair = λ i. absurd (omega arith); near = λ i. absurd (omega arith); counts = λ i. absurd (omega arith); itself = λ i. absurd (omega arith); ends = λ i. c.before.before.before.before.before.before.before.requires.1; ways = omega arith }
+returns-3 c = record { tail = tail_end c.before.before.before.before.before.before.before.requires.1; pair = λ i. absurd (omega arith); near = λ i. absurd (omega arith); counts = λ i. absurd (omega arith); itself = λ i. absurd (omega arith); ends = λ i. c.before.before.before.before.before.before.before.requires.1; ways = omega arith }
 
 pub read_alone_spec : {M : Type 1} → statement M
 read_alone_spec =

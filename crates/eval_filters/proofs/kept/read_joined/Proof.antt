@@ -1,7 +1,7 @@
 -- `read_joined` meets its contract: each test that it passes says a part. Assumes nothing.
 use mathlib.Core.Path.{refl, sym, ◌∙◌}
-use mathlib.Core.Bool.{false≢true}
 use borrow.Author.Tests.{eqb-true, not-false}
+use Rattle.eval_front.specs.Fronts.{never}
 use Rattle.eval_filters.specs.Keeps.{join_kind_lem}
 use native.Mathlib.Omega.{arith}
 use borrow.Author.Rules.{rules}
@@ -11,7 +11,6 @@ use Rattle.eval_filters.proofs.kept.read_joined.Reads as reads
 use Rattle.eval_filters.proofs.kept.read_joined.Lts as lts
 use Rattle.eval_filters.proofs.atoms.read_atom.Reads as read-atom-reads
 use Rattle.eval_filters.proofs.kept.is_join.Reads as is-join-reads
-use Rattle.eval_filters.proofs.kept.no_pair.Reads as no-pair-reads
 use Rattle.eval_items.proofs.plans.past_sized.Reads as past-sized-reads
 
 shared-slice-read-join : tie.Need-shared-slice-read-join
@@ -26,29 +25,20 @@ returns c = λ e. record { same = refl; other = λ i. absurd (omega (arith, c.if
 is-join-requires : tie.Need-is-join-requires
 is-join-requires c κs = search rules
 
-no-pair-requires : tie.Need-no-pair-requires
-no-pair-requires c κs = search rules
-
 returns-2 : tie.Need-returns-2
-returns-2 c = λ e. absurd (false≢true (sym c.no-pair.ensures ∙ e))
+returns-2 c = λ e. absurd (never e)
 
 add-if3 : tie.Need-overflow-add-if3
 add-if3 c = search rules
 
-no-pair-requires-2 : tie.Need-no-pair-requires-2
-no-pair-requires-2 c κs = search rules
-
 returns-3 : tie.Need-returns-3
-returns-3 c = λ e. absurd (false≢true (sym c.no-pair2.ensures ∙ e))
+returns-3 c = λ e. absurd (never e)
 
 past-sized-requires : tie.Need-past-sized-requires
 past-sized-requires c κs = search rules
 
-no-pair-requires-3 : tie.Need-no-pair-requires-3
-no-pair-requires-3 c κs = search rules
-
 returns-4 : tie.Need-returns-4
-returns-4 c = λ e. absurd (false≢true (sym c.no-pair3.ensures ∙ e))
+returns-4 c = λ e. absurd (never e)
 
 add-read-atom : tie.Need-overflow-add-read-atom
 add-read-atom c = search rules
@@ -56,11 +46,8 @@ add-read-atom c = search rules
 read-atom-requires : tie.Need-read-atom-requires
 read-atom-requires c κs = search rules
 
-no-pair-requires-4 : tie.Need-no-pair-requires-4
-no-pair-requires-4 c κs = search rules
-
 returns-5 : tie.Need-returns-5
-returns-5 c = λ e. absurd (false≢true (sym c.no-pair4.ensures ∙ e))
+returns-5 c = λ e. absurd (never e)
 
 returns-6 : tie.Need-returns-6
 returns-6 c =
@@ -77,16 +64,12 @@ read_joined_spec =
     add-t11
     returns
     is-join-requires
-    no-pair-requires
     returns-2
     add-if3
-    no-pair-requires-2
     returns-3
     past-sized-requires
-    no-pair-requires-3
     returns-4
     add-read-atom
     read-atom-requires
-    no-pair-requires-4
     returns-5
     returns-6)

@@ -1,7 +1,6 @@
 -- `read_pair` meets its contract. Assumes nothing.
-use mathlib.Core.Path.{sym, ◌∙◌}
-use mathlib.Core.Bool.{false≢true}
 use borrow.Author.Tests.{eqb-true}
+use Rattle.eval_front.specs.Fronts.{never}
 use Rattle.eval_filters.specs.Keeps.{pair_alone, pair_joined}
 use native.Mathlib.Omega.{arith}
 use borrow.Author.Rules.{rules}
@@ -10,17 +9,13 @@ use Rattle.eval_filters.proofs.kept.read_pair.Tie as tie
 use Rattle.eval_filters.proofs.kept.read_pair.Reads as reads
 use Rattle.eval_filters.proofs.kept.read_pair.Lts as lts
 use Rattle.eval_filters.proofs.atoms.read_atom.Reads as read-atom-reads
-use Rattle.eval_filters.proofs.kept.no_pair.Reads as no-pair-reads
 use Rattle.eval_filters.proofs.kept.read_joined.Reads as read-joined-reads
 
 read-atom-requires : tie.Need-read-atom-requires
 read-atom-requires c κs = search rules
 
-no-pair-requires : tie.Need-no-pair-requires
-no-pair-requires c κs = search rules
-
 returns : tie.Need-returns
-returns c = λ e. absurd (false≢true (sym c.no-pair.ensures ∙ e))
+returns c = λ e. absurd (never e)
 
 returns-2 : tie.Need-returns-2
 returns-2 c = pair_alone (c.before.before.before.read-atom.ensures c.before.if1.false) (λ e. eqb-true _ _ e)
@@ -33,4 +28,4 @@ returns-3 c = pair_joined (c.before.before.before.before.read-atom.ensures c.bef
 
 pub read_pair_spec : {M : Type 1} → statement M
 read_pair_spec =
-    tie.close (tie.spec read-atom-requires no-pair-requires returns returns-2 read-joined-requires returns-3)
+    tie.close (tie.spec read-atom-requires returns returns-2 read-joined-requires returns-3)

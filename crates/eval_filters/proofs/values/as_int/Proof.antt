@@ -1,5 +1,5 @@
 -- `as_int` meets its contract. Assumes nothing.
-use mathlib.Core.Bool.{false≢true}
+use Rattle.eval_front.specs.Fronts.{never}
 use borrow.Author.Rules.{rules}
 use Rattle.eval_filters.proofs.values.as_int.Statement.{statement}
 use Rattle.eval_filters.proofs.values.as_int.Tie as tie
@@ -34,25 +34,25 @@ returns : tie.Need-returns
 returns c = search rules
 
 returns-2 : tie.Need-returns-2
-returns-2 c = λ t. absurd (false≢true t)
+returns-2 c = λ t. absurd (never t)
 
 returns-3 : tie.Need-returns-3
-returns-3 c = λ t. absurd (false≢true t)
+returns-3 c = λ t. absurd (never t)
 
 returns-4 : tie.Need-returns-4
-returns-4 c = λ t. absurd (false≢true t)
+returns-4 c = λ t. absurd (never t)
 
 returns-5 : tie.Need-returns-5
-returns-5 c = λ t. absurd (false≢true t)
+returns-5 c = λ t. absurd (never t)
 
 returns-6 : tie.Need-returns-6
-returns-6 c = λ t. absurd (false≢true t)
+returns-6 c = λ t. absurd (never t)
 
 returns-7 : tie.Need-returns-7
-returns-7 c = λ t. absurd (false≢true t)
+returns-7 c = λ t. absurd (never t)
 
 returns-8 : tie.Need-returns-8
-returns-8 c = λ t. absurd (false≢true t)
+returns-8 c = λ t. absurd (never t)
 
 pub as_int_spec : {M : Type 1} → statement M
 as_int_spec =

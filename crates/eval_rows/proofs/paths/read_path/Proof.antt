@@ -1,10 +1,10 @@
 -- `paths::read_path` meets its contract: what leads from a segment on leads from the one before it on. Assumes nothing.
 use Prim.Native.Nat.{◌-◌}
 use mathlib.Core.Path.{refl}
-use mathlib.Core.Bool.{false≢true}
 use native.Mathlib.Omega.{arith}
 use Rattle.definition.specs.Limits.{max_plan}
 use Rattle.eval_front.specs.Heads.{head_read, name_ends, index_ends}
+use Rattle.eval_front.specs.Fronts.{never}
 use Rattle.eval_rows.specs.Paths.{InPath, path_in, path_bound, path_next}
 use Rattle.eval_rows.specs.Paths.Leads.{stop}
 use Rattle.eval_rows.proofs.paths.read_path.Statement.{statement}
@@ -38,7 +38,7 @@ loop-again : tie.Need-loop-preserved invariant-loop decreases-loop
 loop-again c = let s = c.before.before.before.before.before.before.requires in let i = c.before.before.before.before.loop.invariant in let d = head_read 5 (λ k. (c.before.before.before.shared-slice-known2.given k).fits) (path_bound i.ask c.before.before.if1.true) c.before.word32.ensures.is c.if2.true in path_next i 5 (omega arith) (omega arith) d _ (omega arith) (name_ends i.ask.few d)
 
 returns : tie.Need-returns invariant-loop decreases-loop
-returns c = λ e. absurd (false≢true e)
+returns c = λ e. absurd (never e)
 
 add-q-2 : tie.Need-overflow-add-q-2 invariant-loop decreases-loop
 add-q-2 c = let i = c.before.before.before.before.before.loop.invariant in omega (arith, path_in i.ask, i.ask.few)

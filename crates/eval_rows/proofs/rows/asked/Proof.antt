@@ -18,7 +18,6 @@ use Rattle.eval_asks.proofs.cells.answer.Reads as answer-reads
 use Rattle.eval_asks.proofs.cells.place.Reads as place-reads
 use Rattle.eval_rows.proofs.turns.called.Reads as called-reads
 use Rattle.eval_filters.proofs.plain_turn.Reads as plain-turn-reads
-use Rattle.eval_rows.proofs.rows.told_of.Reads as told-of-reads
 
 abbrev invariant-loop : tie.invariant-loop
 invariant-loop plan pool table text root node c first z g known code edges₀ sets₀ marks₀ acc₀ q₀ edges sets marks acc q = InAsked plan pool table text root node z c acc q × ((length edges ≡ length edges₀) × ((length sets ≡ length sets₀) × ((length marks ≡ length marks₀) × Held code edges sets known)))
@@ -32,11 +31,8 @@ answer-requires c κs = search rules
 place-requires : tie.Need-place-requires invariant-loop decreases-loop
 place-requires c κs = search rules
 
-told-of-requires : tie.Need-told-of-requires invariant-loop decreases-loop
-told-of-requires c κs = search rules
-
 returns : tie.Need-returns invariant-loop decreases-loop
-returns c = (answer_left c.before.before.before.answer.ensures c.before.before.place.ensures c.before.if1.true c.told_of.ensures, c.before.before.before.before.before.before.before.before.before.before.before.before.requires.1.1)
+returns c = (answer_left c.before.before.answer.ensures c.before.place.ensures c.if1.true, c.before.before.before.before.before.before.before.before.before.before.before.requires.1.1)
 
 loop-holds : tie.Need-loop-init invariant-loop decreases-loop
 loop-holds c = (asked_start c.before.before.answer.ensures c.before.place.ensures, (refl, (refl, (refl, c.before.before.before.before.before.before.before.before.before.before.before.requires.1.1))))
@@ -56,20 +52,17 @@ loop-again c = let s = c.before.before.before.before.before.before.before.before
 plain-turn-requires : tie.Need-plain-turn-requires invariant-loop decreases-loop
 plain-turn-requires c κs = let s = c.before.before.before.before.before.before.before.before.before.before.before.before.before.before.before.requires in let i = c.before.before.before.loop.invariant in asked_turn s.0.0 s.0.1 i.0 c.before.before.loop-test.true
 
-told-of-requires-2 : tie.Need-told-of-requires-2 invariant-loop decreases-loop
-told-of-requires-2 c κs = search rules
-
 same_length : tie.Need-same-length invariant-loop decreases-loop
-same_length c = c.before.before.before.before.before.before.before.loop.invariant.1.0
+same_length c = c.before.before.before.before.before.before.loop.invariant.1.0
 
 same-length-2 : tie.Need-same-length-2 invariant-loop decreases-loop
-same-length-2 c = c.before.before.before.before.before.before.before.loop.invariant.1.1.0
+same-length-2 c = c.before.before.before.before.before.before.loop.invariant.1.1.0
 
 same-length-3 : tie.Need-same-length-3 invariant-loop decreases-loop
-same-length-3 c = c.before.before.before.before.before.before.before.loop.invariant.1.1.1.0
+same-length-3 c = c.before.before.before.before.before.before.loop.invariant.1.1.1.0
 
 returns-2 : tie.Need-returns-2 invariant-loop decreases-loop
-returns-2 c = let s = c.before.before.before.before.before.before.before.before.before.before.before.before.before.before.before.before.before.before.before.requires in let i = c.before.before.before.before.before.before.before.loop.invariant in (answer_none s.0.0 s.0.1 i.0 c.before.before.before.before.before.before.loop-test.true c.told-of2.ensures, i.1.1.1.1)
+returns-2 c = let s = c.before.before.before.before.before.before.before.before.before.before.before.before.before.before.before.before.before.before.requires in let i = c.before.before.before.before.before.before.loop.invariant in (answer_none s.0.0 s.0.1 i.0 c.before.before.before.before.before.loop-test.true, i.1.1.1.1)
 
 loop-less-2 : tie.Need-loop-smaller-2 invariant-loop decreases-loop
 loop-less-2 c = omega (arith, c.before.before.plain_turn.ensures.further (not-false _ c.if3.false), c.before.before.before.before.before.loop-test.true)
@@ -77,20 +70,17 @@ loop-less-2 c = omega (arith, c.before.before.plain_turn.ensures.further (not-fa
 loop-again-2 : tie.Need-loop-preserved-2 invariant-loop decreases-loop
 loop-again-2 c = let s = c.before.before.before.before.before.before.before.before.before.before.before.before.before.before.before.before.before.before.requires in let i = c.before.before.before.before.before.before.loop.invariant in (asked_further s.0.0 s.0.1 i.0 c.before.before.before.before.before.loop-test.true c.before.before.plain_turn.ensures (not-false _ c.if3.false), i.1)
 
-told-of-requires-3 : tie.Need-told-of-requires-3 invariant-loop decreases-loop
-told-of-requires-3 c κs = search rules
-
 same-length-4 : tie.Need-same-length-4 invariant-loop decreases-loop
-same-length-4 c = c.before.before.loop.invariant.1.0
+same-length-4 c = c.before.loop.invariant.1.0
 
 same-length-5 : tie.Need-same-length-5 invariant-loop decreases-loop
-same-length-5 c = c.before.before.loop.invariant.1.1.0
+same-length-5 c = c.before.loop.invariant.1.1.0
 
 same-length-6 : tie.Need-same-length-6 invariant-loop decreases-loop
-same-length-6 c = c.before.before.loop.invariant.1.1.1.0
+same-length-6 c = c.before.loop.invariant.1.1.1.0
 
 returns-3 : tie.Need-returns-3 invariant-loop decreases-loop
-returns-3 c = let s = c.before.before.before.before.before.before.before.before.before.before.before.before.before.before.requires in let i = c.before.before.loop.invariant in (answer_told s.0.0 s.0.1 i.0 c.before.loop-test.false c.told-of3.ensures, i.1.1.1.1)
+returns-3 c = let s = c.before.before.before.before.before.before.before.before.before.before.before.before.before.requires in let i = c.before.loop.invariant in (answer_told s.0.0 s.0.1 i.0 c.loop-test.false, i.1.1.1.1)
 
 pub asked_spec : {M : Type 1} → statement M
 asked_spec =
@@ -100,7 +90,6 @@ asked_spec =
     decreases-loop
     answer-requires
     place-requires
-    told-of-requires
     returns
     loop-holds
     called-requires
@@ -108,14 +97,12 @@ asked_spec =
     loop-less
     loop-again
     plain-turn-requires
-    told-of-requires-2
     same_length
     same-length-2
     same-length-3
     returns-2
     loop-less-2
     loop-again-2
-    told-of-requires-3
     same-length-4
     same-length-5
     same-length-6

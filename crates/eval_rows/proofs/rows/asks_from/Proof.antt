@@ -1,13 +1,13 @@
 -- `rows::asks_from` meets its contract. Assumes nothing.
 use mathlib.Core.Path.{refl, sym, ◌∙◌}
-use mathlib.Core.Bool.{false≢true}
+use Rattle.eval_front.specs.Fronts.{never}
 use Rattle.eval_rows.proofs.rows.asks_from.Statement.{statement}
 use Rattle.eval_rows.proofs.rows.asks_from.Tie as tie
 use Rattle.eval_rows.proofs.rows.asks_from.Reads as reads
 use Rattle.eval_rows.proofs.rows.asks_from.Lts as lts
 
 returns : tie.Need-returns
-returns c = λ u. absurd (false≢true (sym u ∙ c.if1.true))
+returns c = λ u. absurd (never (sym u ∙ c.if1.true))
 
 returns-2 : tie.Need-returns-2
 returns-2 c = λ u. refl

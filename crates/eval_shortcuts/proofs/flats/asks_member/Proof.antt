@@ -22,8 +22,17 @@ shared-slice-read-if2 c = (member_parts c.before.before.before.before.requires).
 returns-2 : tie.Need-returns-2
 returns-2 c = not_member _ _
 
-past-sized-requires : tie.Need-past-sized-requires
-past-sized-requires c κs = let z = c.before.before.before.before.before.requires in omega (arith, member_bound z _ c.before.before.before.word16.ensures c.before.before.if1.false c.if2.false)
+add-z : tie.Need-overflow-add-z
+add-z c = let z = c.before.before.before.before.before.requires in omega (arith, member_bound z _ c.before.before.before.word16.ensures c.before.before.if1.false c.if2.false, z.few)
+
+add-word16-2 : tie.Need-overflow-add-word16-2
+add-word16-2 c = let z = c.before.before.before.before.before.requires in omega (arith, member_bound z _ c.before.before.before.word16.ensures c.before.before.if1.false c.if2.false, z.few)
+
+word16-requires-2 : tie.Need-word16-requires-2
+word16-requires-2 c κs = let z = c.before.before.before.before.before.requires in omega (arith, member_bound z _ c.before.before.before.word16.ensures c.before.before.if1.false c.if2.false)
+
+add-z-2 : tie.Need-overflow-add-z-2
+add-z-2 c = let z = c.before.before.before.before.before.before.requires in omega (arith, member_bound z _ c.before.before.before.before.word16.ensures c.before.before.before.if1.false c.before.if2.false, z.few, c.word162.ensures.fits)
 
 add-if3 : tie.Need-overflow-add-if3
 add-if3 c = let z = c.before.before.before.before.before.before.requires in omega (arith, member_bound z _ c.before.before.before.before.word16.ensures c.before.before.before.if1.false c.before.if2.false, z.few)
@@ -35,13 +44,13 @@ add-read-atom : tie.Need-overflow-add-read-atom
 add-read-atom c = let z = c.before.before.before.before.before.before.before.requires in omega (arith, member_bound z _ c.before.before.before.before.before.word16.ensures c.before.before.before.before.if1.false c.before.before.if2.false, z.few)
 
 read-atom-requires : tie.Need-read-atom-requires
-read-atom-requires c κs = member_atom c.before.before.before.before.before.before.before.requires _ c.before.before.before.before.before.word16.ensures c.before.before.before.before.if1.false c.before.before.if2.false _ c.before.past-sized.ensures c.if3.false
+read-atom-requires c κs = member_atom c.before.before.before.before.before.before.before.requires _ c.before.before.before.before.before.word16.ensures c.before.before.before.before.if1.false c.before.before.if2.false _ c.before.word162.ensures c.if3.false
 
 returns-4 : tie.Need-returns-4
 returns-4 c = not_member _ _
 
 returns-5 : tie.Need-returns-5
-returns-5 c = member_of c.before.before.before.before.before.before.before.before.before.before.before.requires _ c.before.before.before.before.before.before.before.before.before.word16.ensures c.before.before.before.before.before.before.before.before.if1.false c.before.before.before.before.before.before.if2.false _ c.before.before.before.before.before.past-sized.ensures c.before.before.before.before.if3.false _ c.before.before.before.read-atom.ensures c.before.if4.false
+returns-5 c = member_of c.before.before.before.before.before.before.before.before.before.before.before.requires _ c.before.before.before.before.before.before.before.before.before.word16.ensures c.before.before.before.before.before.before.before.before.if1.false c.before.before.before.before.before.before.if2.false _ c.before.before.before.before.before.word162.ensures c.before.before.before.before.if3.false _ c.before.before.before.read-atom.ensures c.before.if4.false
 
 pub asks_member_spec : {M : Type 1} → statement M
 asks_member_spec =
@@ -53,7 +62,10 @@ asks_member_spec =
     add-p
     shared-slice-read-if2
     returns-2
-    past-sized-requires
+    add-z
+    add-word16-2
+    word16-requires-2
+    add-z-2
     add-if3
     returns-3
     add-read-atom

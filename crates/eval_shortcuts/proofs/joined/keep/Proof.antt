@@ -10,9 +10,7 @@ use Rattle.eval_shortcuts.proofs.joined.keep.Statement.{statement}
 use Rattle.eval_shortcuts.proofs.joined.keep.Tie as tie
 use Rattle.eval_shortcuts.proofs.joined.keep.Reads as reads
 use Rattle.eval_shortcuts.proofs.joined.keep.Lts as lts
-use borrow.Author.Rules.{rules}
 use Rattle.eval_filters.proofs.kept.push_tail.Reads as push-tail-reads
-use Rattle.eval_rows.proofs.rows.passed_to.Reads as passed-to-reads
 
 abbrev invariant-loop : tie.invariant-loop
 invariant-loop plan pool table text i way list₀ at root e p z cap tail rest a₀ j₀ near₀ list a j near = InKept plan pool table text root i e p z rest cap list₀ a₀ list a j
@@ -23,26 +21,20 @@ decreases-loop plan pool table text i way list₀ at root e p z cap tail rest a�
 loop-holds : tie.Need-loop-init invariant-loop decreases-loop
 loop-holds c = record { low = omega arith; same = refl; room = c.before.before.before.before.before.requires.0.kept.room; again = λ t k f k' h g. refl }
 
-passed-to-requires : tie.Need-passed-to-requires invariant-loop decreases-loop
-passed-to-requires c κs = search rules
-
 same_length : tie.Need-same-length invariant-loop decreases-loop
-same_length c = c.before.before.before.loop.invariant.same
+same_length c = c.before.before.loop.invariant.same
 
 returns : tie.Need-returns invariant-loop decreases-loop
-returns c = rows_full {f = c.before.before.before.before.before.before.before.before.before.args.f} c.before.before.before.loop.invariant c.passed_to.ensures c.before.if1.true c.before.before.before.before.before.before.before.before.before.requires.0.kept.wide
+returns c = rows_full {f = c.before.before.before.before.before.before.before.before.args.f} c.before.before.loop.invariant _ c.if1.true c.before.before.before.before.before.before.before.before.requires.0.kept.wide
 
 told-requires : tie.Need-told-requires invariant-loop decreases-loop
 told-requires c κs = let s = c.before.before.before.before.before.before.before.before.requires in ((rows_within c.before.before.loop.invariant s.0 c.before.loop-test.true, s.0.test), s.1)
 
-passed-to-requires-2 : tie.Need-passed-to-requires-2 invariant-loop decreases-loop
-passed-to-requires-2 c κs = search rules
-
 same-length-2 : tie.Need-same-length-2 invariant-loop decreases-loop
-same-length-2 c = c.before.before.before.before.before.before.loop.invariant.same
+same-length-2 c = c.before.before.before.before.before.loop.invariant.same
 
 returns-2 : tie.Need-returns-2 invariant-loop decreases-loop
-returns-2 c = rows_stuck {f = c.before.before.before.before.before.before.before.before.before.before.before.before.args.f} c.before.before.before.before.before.before.loop.invariant c.passed-to2.ensures c.before.before.before.before.before.loop-test.true (c.before.before.before.told.ensures.untold (not-true _ c.before.if2.true))
+returns-2 c = rows_stuck {f = c.before.before.before.before.before.before.before.before.before.before.before.args.f} c.before.before.before.before.before.loop.invariant _ c.before.before.before.before.loop-test.true (c.before.before.told.ensures.untold (not-true _ c.if2.true))
 
 push-tail-requires : tie.Need-push-tail-requires invariant-loop decreases-loop
 push-tail-requires c κs = let s = c.before.before.before.before.before.before.before.before.before.before.before.before.before.requires.0 in (kept_visit s.kept c.before.before.before.before.before.before.before.loop.invariant c.before.before.before.before.before.before.loop-test.true, (s.tail, s.low))
@@ -65,14 +57,11 @@ loop-less-2 c = let u = c.before.before.before.before.before.loop-test.true in o
 loop-again-2 : tie.Need-loop-preserved-2 invariant-loop decreases-loop
 loop-again-2 c = kept_passed c.before.before.before.before.before.before.loop.invariant c.before.before.before.before.before.loop-test.true (c.before.before.before.told.ensures.told (not-false _ c.before.if2.false)) c.if3.false
 
-passed-to-requires-3 : tie.Need-passed-to-requires-3 invariant-loop decreases-loop
-passed-to-requires-3 c κs = search rules
-
 same-length-3 : tie.Need-same-length-3 invariant-loop decreases-loop
-same-length-3 c = c.before.before.loop.invariant.same
+same-length-3 c = c.before.loop.invariant.same
 
 returns-3 : tie.Need-returns-3 invariant-loop decreases-loop
-returns-3 c = rows_end {f = c.before.before.before.before.before.before.before.before.args.f} c.before.before.loop.invariant c.passed-to3.ensures c.before.loop-test.false
+returns-3 c = rows_end {f = c.before.before.before.before.before.before.before.args.f} c.before.loop.invariant _ c.loop-test.false
 
 pub keep_spec : {M : Type 1} → statement M
 keep_spec =
@@ -81,11 +70,9 @@ keep_spec =
     invariant-loop
     decreases-loop
     loop-holds
-    passed-to-requires
     same_length
     returns
     told-requires
-    passed-to-requires-2
     same-length-2
     returns-2
     push-tail-requires
@@ -95,6 +82,5 @@ keep_spec =
     add-j-2
     loop-less-2
     loop-again-2
-    passed-to-requires-3
     same-length-3
     returns-3)
