@@ -1,8 +1,8 @@
 // The test of a text by the code of an expression, in a room for marks that is as small as it may be.
 ghost use Rattle.regex_match.specs.Tested.{Tested};
 
-use regex_match::{test, test_less};
 use regex_marks::weigh;
+use regex_match::{test, test_less};
 
 // Rooms for marks: a byte for each character position of the written-out expression. Where the second is too small, the counts of a short code are brought down to what
 // the text needs first, in a room for its words; where the largest is too small, those of any code.

@@ -16,9 +16,9 @@ ghost use Rattle.regex_states.specs.Ready.{cells, width, count, Tables, Ready};
 ghost use Rattle.regex_states.specs.Texts.{Inside, Followed, Stepped};
 ghost use Rattle.regex_states.specs.Rooms.{Found, Put, Blank, Settling, Room, Placed, Noted, Traced, Suits, Weighed, Empties, Sealed, Headed, Beyond, AllLow};
 
-use regex_match::test;
 use regex_chars::char_at;
 use regex_marks::{read, shift, weigh};
+use regex_match::test;
 use regex_plain::{ask, open_ended};
 
 // The bytes of a row, which are also the ASCII characters.

@@ -1,0 +1,5 @@
+-- The measures and invariants of the cycle of calls {short}.
+use Rattle.regex_rooms.proofs.+short.Given as goal
+
+abbrev pub decreases-short : goal.decreases-short
+decreases-short l = l.again

@@ -1,0 +1,1 @@
+-- The answers of the cycle of calls {with_less}.
