@@ -1,0 +1,38 @@
+-- `skip_selectors` meets its contract. The loop's invariant: for all selectors there, m of them are left at q and end where all end. The measure is m.
+use lib.ListN.{length}
+use Prim.Native.Nat.{ℕ, ◌+◌}
+use native.Mathlib.Omega.{arith}
+use mathlib.Core.Path.{◌≡◌, refl}
+use Rattle.eval_laws.specs.Bytes.{Holds}
+use Rattle.definition.specs.Plans.{code_selectors}
+use Rattle.definition.specs.Forms.{Selectors, many_selectors}
+use Rattle.eval_items.specs.EndLaws.{Left, left_step, left_first, left_last}
+use Rattle.eval_items.proofs.plans.skip_selectors.Lts as lts
+use Rattle.eval_items.proofs.plans.skip_selectors.Goals as goal
+
+pub loop-m-init : goal.loop-m-init
+loop-m-init c = λ ss k h e. (ss, k, record { holds = h; number = e; place = refl })
+
+pub next_selector-q-requires : goal.next_selector-q-requires
+next_selector-q-requires c =
+    let w = c.loop-m.invariant c.requires.ss c.requires.k c.requires.holds c.requires.number in
+    let f = left_first _ _ _ _ _ _ w.2 in
+    record { few = c.requires.few; s = f.0; k = w.1; holds = f.1 }
+
+pub overflow_sub-m : goal.overflow_sub-m
+overflow_sub-m c = omega arith
+
+pub loop-m-smaller : goal.loop-m-smaller
+loop-m-smaller c = omega arith
+
+pub loop-m-preserved : goal.loop-m-preserved
+loop-m-preserved c = λ ss k h e. let w = c.loop-m.invariant ss k h e in left_step _ _ _ _ _ _ w.2 c.loop-m-test.true _ c.next_selector-q.ensures
+
+pub next_selector-requires : goal.next_selector-requires
+next_selector-requires c =
+    let w = c.loop-m.invariant c.requires.ss c.requires.k c.requires.holds c.requires.number in
+    let f = left_first _ _ _ _ _ _ w.2 in
+    record { few = c.requires.few; s = f.0; k = w.1; holds = f.1 }
+
+pub returns : goal.returns
+returns c = λ ss k h e. let w = c.loop-m.invariant ss k h e in left_last _ _ _ _ _ _ w.2 c.loop-m-test.false _ c.next_selector.ensures

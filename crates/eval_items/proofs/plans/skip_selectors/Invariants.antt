@@ -1,0 +1,17 @@
+-- `skip_selectors` meets its contract. The loop's invariant: for all selectors there, m of them are left at q and end where all end. The measure is m.
+use lib.ListN.{length}
+use Prim.Native.Nat.{ℕ, ◌+◌}
+use native.Mathlib.Omega.{arith}
+use mathlib.Core.Path.{◌≡◌, refl}
+use Rattle.eval_laws.specs.Bytes.{Holds}
+use Rattle.definition.specs.Plans.{code_selectors}
+use Rattle.definition.specs.Forms.{Selectors, many_selectors}
+use Rattle.eval_items.specs.EndLaws.{Left, left_step, left_first, left_last}
+use Rattle.eval_items.proofs.plans.skip_selectors.Lts as lts
+use Rattle.eval_items.proofs.plans.skip_selectors.Given as goal
+
+abbrev pub invariant-loop-m : goal.invariant-loop-m
+invariant-loop-m l = (ss : Selectors) (k : ℕ) → Holds l.plan l.p (code_selectors ss k) → many_selectors ss ≡ l.n → (rs : Selectors) × (j : ℕ) × Left l.plan l.q l.m (l.p + length (code_selectors ss k)) rs j
+
+abbrev pub decreases-loop-m : goal.decreases-loop-m
+decreases-loop-m l = l.m
