@@ -11,10 +11,11 @@
 
 ghost use Rattle.std.specs.Prelude.{◌≤◌, length};
 
-use libc::{STDIN_FILENO, STDOUT_FILENO};
 use number_literals::Literal;
 use number_order::Order;
 use number_parse::{IntRead, NumberRead};
+use program_console::{input, output, rooms};
+use std::io;
 
 // The sign's weight, and the bits of an infinity.
 const SIGN: u64 = 9223372036854775808;
@@ -29,72 +30,69 @@ enum Operand {
     Bad,
 }
 
-fn print(text: &[u8]) {
-    io::write_all(STDOUT_FILENO, text);
+fn print(rt: &impl Print, text: &[u8]) -> io::Result<()> {
+    output::text(rt, text)
 }
 
-fn print_number(n: u64) {
-    io::print_decimal(STDOUT_FILENO, n);
+fn print_number(rt: &impl Print, n: u64) -> io::Result<()> {
+    print!(rt; "{n}")
 }
 
-fn print_end(end: usize) {
-    print_number(end as u64);
+fn print_end(rt: &impl Print, end: usize) -> io::Result<()> {
+    print_number(rt, end as u64)
 }
 
-fn print_signed(v: i64) {
+fn print_signed(rt: &impl Print, v: i64) -> io::Result<()> {
     if v < 0 {
-        print(b"-");
+        print(rt, b"-")?;
     }
-    print_number(number_order::magnitude(v));
+    print_number(rt, number_order::magnitude(v))
 }
 
-fn show_int(s: &[u8])
+fn show_int(rt: &impl Print, s: &[u8]) -> io::Result<()>
     requires { 2 ≤ length s.now }
 {
     match number_parse::parse_i_json_int(s, 2) {
         IntRead::Next(end, v) => {
-            print(b"next ");
-            print_end(end);
-            print(b" ");
-            print_signed(v);
+            print(rt, b"next ")?;
+            print_end(rt, end)?;
+            print(rt, b" ")?;
+            print_signed(rt, v)
         }
         IntRead::OutOfRange(end) => {
-            print(b"out ");
-            print_end(end);
+            print(rt, b"out ")?;
+            print_end(rt, end)
         }
-        IntRead::Nothing(_) => {
-            print(b"nothing");
-        }
+        IntRead::Nothing(_) => print(rt, b"nothing"),
     }
 }
 
-fn show_literal(end: usize, v: Literal) {
+fn show_literal(rt: &impl Print, end: usize, v: Literal) -> io::Result<()> {
     match v {
         Literal::Int(i) => {
-            print(b"int ");
-            print_end(end);
-            print(b" ");
-            print_signed(i);
+            print(rt, b"int ")?;
+            print_end(rt, end)?;
+            print(rt, b" ")?;
+            print_signed(rt, i)
         }
         Literal::Float(b) => {
-            print(b"float ");
-            print_end(end);
-            print(b" ");
-            io::print_hex(STDOUT_FILENO, b, 16);
+            print(rt, b"float ")?;
+            print_end(rt, end)?;
+            print!(rt; " {b:016x}")
         }
         Literal::Beyond => {
-            print(b"beyond ");
-            print_end(end);
+            print(rt, b"beyond ")?;
+            print_end(rt, end)
         }
     }
 }
 
-fn show_number(s: &[u8])
+fn show_number(rt: &impl Print, s: &[u8]) -> io::Result<()>
     requires { 2 ≤ length s.now }
 {
     match number_parse::parse_number(s, 2) {
-        NumberRead::Next(end, v) => show_literal(end, v),
-        NumberRead::Nothing(_) => print(b"nothing"),
+        NumberRead::Next(end, v) => show_literal(rt, end, v),
+        NumberRead::Nothing(_) => print(rt, b"nothing"),
     }
 }
 
@@ -140,91 +138,102 @@ fn read_operand(s: &[u8]) -> Operand {
     }
 }
 
-fn show_order(o: Order) {
+fn show_order(rt: &impl Print, o: Order) -> io::Result<()> {
     match o {
-        Order::Less => print(b"<"),
-        Order::Equal => print(b"="),
-        Order::Greater => print(b">"),
+        Order::Less => print(rt, b"<"),
+        Order::Equal => print(rt, b"="),
+        Order::Greater => print(rt, b">"),
     }
 }
 
-fn compare_int_float(i: i64, b: u64) {
+fn compare_int_float(rt: &impl Print, i: i64, b: u64) -> io::Result<()> {
     if b % SIGN < INFINITY {
-        show_order(number_order::compare_i64_num(i, number_order::float_of(b)));
+        show_order(
+            rt,
+            number_order::compare_i64_num(i, number_order::float_of(b)),
+        )?;
     }
+    Ok(())
 }
 
-fn compare_float_int(a: u64, i: i64) {
+fn compare_float_int(rt: &impl Print, a: u64, i: i64) -> io::Result<()> {
     if a % SIGN < INFINITY {
-        show_order(number_order::compare_num_i64(number_order::float_of(a), i));
+        show_order(
+            rt,
+            number_order::compare_num_i64(number_order::float_of(a), i),
+        )?;
     }
+    Ok(())
 }
 
-fn compare_floats(a: u64, b: u64) {
+fn compare_floats(rt: &impl Print, a: u64, b: u64) -> io::Result<()> {
     if a % SIGN < INFINITY {
         if b % SIGN < INFINITY {
-            show_order(number_order::compare_nums(
-                number_order::float_of(a),
-                number_order::float_of(b),
-            ));
+            show_order(
+                rt,
+                number_order::compare_nums(number_order::float_of(a), number_order::float_of(b)),
+            )?;
         }
     }
+    Ok(())
 }
 
-fn compare_operands(a: Operand, b: Operand) {
+fn compare_operands(rt: &impl Print, a: Operand, b: Operand) -> io::Result<()> {
     match a {
         Operand::Int(i) => match b {
-            Operand::Int(j) => show_order(number_order::compare_i64(i, j)),
-            Operand::Float(q) => compare_int_float(i, q),
-            Operand::Bad => print(b"bad"),
+            Operand::Int(j) => show_order(rt, number_order::compare_i64(i, j)),
+            Operand::Float(q) => compare_int_float(rt, i, q),
+            Operand::Bad => print(rt, b"bad"),
         },
         Operand::Float(p) => match b {
-            Operand::Int(j) => compare_float_int(p, j),
-            Operand::Float(q) => compare_floats(p, q),
-            Operand::Bad => print(b"bad"),
+            Operand::Int(j) => compare_float_int(rt, p, j),
+            Operand::Float(q) => compare_floats(rt, p, q),
+            Operand::Bad => print(rt, b"bad"),
         },
-        Operand::Bad => print(b"bad"),
+        Operand::Bad => print(rt, b"bad"),
     }
 }
 
-fn show_comparison(s: &[u8])
+fn show_comparison(rt: &impl Print, s: &[u8]) -> io::Result<()>
     requires { 2 ≤ length s.now }
 {
     let start = 2;
     let end = program_lines::find(s, start, s.len(), b' ');
     if end < s.len() {
         let next = end + 1;
-        compare_operands(read_operand(&s[start..end]), read_operand(&s[next..]));
+        compare_operands(rt, read_operand(&s[start..end]), read_operand(&s[next..]))?;
     }
+    Ok(())
 }
 
-fn show_line(s: &[u8]) {
+fn show_line(rt: &impl Print, s: &[u8]) -> io::Result<()> {
     if s.len() < 2 {
-        return;
+        return Ok(());
     }
     if s[0] == b'i' {
-        show_int(s);
+        show_int(rt, s)?;
     }
     if s[0] == b'n' {
-        show_number(s);
+        show_number(rt, s)?;
     }
     if s[0] == b'c' {
-        show_comparison(s);
+        show_comparison(rt, s)?;
     }
-    print(b"\n");
+    print(rt, b"\n")
 }
 
-fn run(s: &[u8]) {
+fn run(rt: &impl Print, s: &[u8]) -> io::Result<()> {
     let mut at = 0;
     while at < s.len() {
         let end = program_lines::find(s, at, s.len(), b'\n');
-        show_line(&s[at..end]);
+        show_line(rt, &s[at..end])?;
         at = end + 1;
     }
+    Ok(())
 }
 
-fn main() {
-    let mut buffer = io::large_buffer();
-    let n = io::read_full(STDIN_FILENO, &mut buffer);
-    run(&buffer[..n]);
+fn main(rt: HostRuntime) -> io::Result<()> {
+    let mut buffer = rooms::large_buffer();
+    let n = input::full(&mut rt.reader(), &mut buffer)?;
+    run(&rt, &buffer[..n])
 }
