@@ -277,6 +277,8 @@ def inline(body, names, root="c", places=False):
         p = names.path(alias[rootname] + fields)
         if not p and places:
             return ".".join([root] + alias[rootname] + fields)
+        if not p:
+            return root
         # What was told of an enum's payload has no name now; the search knows it.
         if p[0].startswith("known_told"):
             return "(search rules)"

@@ -91,9 +91,9 @@ module _ {x : ℕ} {s : List ℕ} {a o : Cursor} (g : Opens 0x28 s a) (k : Skipp
 
 -- ---- *( S "," S function-argument )
 
-no_more : (n p : ℕ) → me_more_arguments n p no_more ≡ (empty, n)
+nothing_more : (n p : ℕ) → me_more_arguments n p no_more ≡ (empty, n)
 unfolding write_more_arguments sorts_more arguments_from skip
-no_more n p = refl
+nothing_more n p = refl
 
 -- what is known at the head of the loop
 pub record ArgumentsLoop (sorts : ℕ) (s P P' Q Q' : List ℕ) (a b : Cursor) (known : ℕ) : Type 0 where
@@ -107,7 +107,7 @@ module _ {sorts known : ℕ} {s P P' Q Q' : List ℕ} {a b : Cursor} (lp : Argum
   -- no comma stands there
   pub arguments_last : Is s e 0x2C false → Read spell_more_arguments write_more_arguments (λ t. arguments_from sorts (sorts_more t)) 5 s P P' Q Q' a b known
   unfolding furthers
-  arguments_last n = loop_end furthers lp.loop (λ s₁ q. n s₁ (k.rest ∙ q)) (no_more known b.pool)
+  arguments_last n = loop_end furthers lp.loop (λ s₁ q. n s₁ (k.rest ∙ q)) (nothing_more known b.pool)
 
   module _ {g : ℕ} {o : Cursor} (i : Is s e 0x2C true) (j : Skipped s (e + 1) g) (m : Moved b o g) where
     -- behind the comma
