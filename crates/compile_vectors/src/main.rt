@@ -8,8 +8,9 @@
 
 ghost use Rattle.std.specs.Prelude.{◌≤◌, length};
 
-use libc::{STDIN_FILENO, STDOUT_FILENO};
+use program_console::{input, output, rooms};
 use program_lines::{Decoded, Number};
+use std::io;
 
 const INPUT_ROOM: usize = 131072;
 
@@ -17,31 +18,38 @@ const BLANK: u8 = b' ';
 
 const NEWLINE: u8 = b'\n';
 
-fn bad_line() -> bool {
-    io::write_all(STDOUT_FILENO, b"bad line\n");
-    false
+fn bad_line(rt: &impl Print) -> io::Result<bool> {
+    output::text(rt, b"bad line\n")?;
+    Ok(false)
 }
 
 // Compiles a query and writes what it comes to. The answer is whether that is the refusal given.
-fn verdict(query: &[u8], want: usize, plan: &mut [u8], pool: &mut [u8]) -> bool {
+fn verdict(
+    rt: &impl Print,
+    query: &[u8],
+    want: usize,
+    plan: &mut [u8],
+    pool: &mut [u8],
+) -> io::Result<bool> {
     let c = refusals::of_compile(compile::compile(query, plan, pool));
     let refusal = c.refusal as usize;
     if refusal == 0 {
-        io::write_all(STDOUT_FILENO, b"ok");
+        output::text(rt, b"ok")?;
     } else {
-        io::write_all(STDOUT_FILENO, b"refused ");
-        io::print_decimal(STDOUT_FILENO, refusal as u64);
+        output::text(rt, b"refused")?;
+        output::next_number(rt, refusal)?;
     }
     if refusal == want {
-        io::write_all(STDOUT_FILENO, b"\n");
+        output::newline(rt)?;
     } else {
-        io::write_all(STDOUT_FILENO, b" differs\n");
+        output::text(rt, b" differs\n")?;
     }
-    refusal == want
+    Ok(refusal == want)
 }
 
 // The verdict on the query whose digits stand between two places.
 fn decoded(
+    rt: &impl Print,
     s: &[u8],
     from: usize,
     to: usize,
@@ -49,34 +57,35 @@ fn decoded(
     query: &mut [u8],
     plan: &mut [u8],
     pool: &mut [u8],
-) -> bool
+) -> io::Result<bool>
     requires { (from ≤ to) × (to ≤ length s.now) }
 {
     match program_lines::decode(s, from, to, query) {
-        Decoded::Bytes(n) => verdict(&query[..n], want, plan, pool),
-        Decoded::TooLong => bad_line(),
-        Decoded::Bad => bad_line(),
+        Decoded::Bytes(n) => verdict(rt, &query[..n], want, plan, pool),
+        Decoded::TooLong => bad_line(rt),
+        Decoded::Bad => bad_line(rt),
     }
 }
 
 // The verdict on the line between two places.
 fn line(
+    rt: &impl Print,
     s: &[u8],
     from: usize,
     to: usize,
     query: &mut [u8],
     plan: &mut [u8],
     pool: &mut [u8],
-) -> bool
+) -> io::Result<bool>
     requires { (from ≤ to) × (to ≤ length s.now) }
 {
     let middle = program_lines::find(s, from, to, BLANK);
     if middle == to {
-        return bad_line();
+        return bad_line(rt);
     }
     match program_lines::read_number(s, middle + 1, to) {
-        Number::Is(want) => decoded(s, from, middle, want, query, plan, pool),
-        Number::Not => bad_line(),
+        Number::Is(want) => decoded(rt, s, from, middle, want, query, plan, pool),
+        Number::Not => bad_line(rt),
     }
 }
 
@@ -87,27 +96,30 @@ fn one_unless(same: bool) -> u64
 }
 
 // The verdict on each line, and the counts.
-fn run(s: &[u8], query: &mut [u8], plan: &mut [u8], pool: &mut [u8]) {
+fn run(
+    rt: &impl Print,
+    s: &[u8],
+    query: &mut [u8],
+    plan: &mut [u8],
+    pool: &mut [u8],
+) -> io::Result<()> {
     let mut at = 0;
     let mut count = 0u64;
     let mut other = 0u64;
     while at < s.len() {
         let end = program_lines::find(s, at, s.len(), NEWLINE);
-        other += one_unless(line(s, at, end, query, plan, pool));
+        other += one_unless(line(rt, s, at, end, query, plan, pool)?);
         count += 1;
         at = end + 1;
     }
-    io::print_decimal(STDOUT_FILENO, count);
-    io::write_all(STDOUT_FILENO, b" queries, ");
-    io::print_decimal(STDOUT_FILENO, other);
-    io::write_all(STDOUT_FILENO, b" answers differ\n");
+    println!(rt; "{count} queries, {other} answers differ")
 }
 
-fn main() {
-    let mut input = [0u8; INPUT_ROOM];
-    let mut query = io::large_buffer();
-    let mut plan = io::large_buffer();
-    let mut pool = io::large_buffer();
-    let n = io::read_full(STDIN_FILENO, &mut input);
-    run(&input[..n], &mut query, &mut plan, &mut pool);
+fn main(rt: HostRuntime) -> io::Result<()> {
+    let mut room = [0u8; INPUT_ROOM];
+    let mut query = rooms::large_buffer();
+    let mut plan = rooms::large_buffer();
+    let mut pool = rooms::large_buffer();
+    let n = input::full(&mut rt.reader(), &mut room)?;
+    run(&rt, &room[..n], &mut query, &mut plan, &mut pool)
 }

@@ -9,7 +9,9 @@ ghost use Rattle.std.specs.Prelude.{◌≡◌, ◌≤◌, length};
 ghost use Rattle.compile.specs.Outcomes.{outcome};
 
 use compile::Compiled;
-use program_console::output;
+use program_console::{input, output, rooms};
+use std::io;
+use std::io::Read;
 use tally::KINDS;
 
 // Room for one byte more than a query may have: of a longer line so many bytes are taken, and the query is refused by its length all the same.
@@ -33,24 +35,25 @@ fn digit(n: u8) -> u8 {
 }
 
 // Writes a kind and how often it occurs.
-fn show_kind(kind: usize, count: u64) {
+fn show_kind(rt: &impl Print, kind: usize, count: u64) -> io::Result<()> {
     let high = digit((kind / 16 % 16) as u8);
     let low = digit((kind % 16) as u8);
     let digits = [high, low];
-    output::text(&digits);
-    output::next_number(count as usize);
-    output::newline();
+    output::text(rt, &digits)?;
+    output::next_number(rt, count as usize)?;
+    output::newline(rt)
 }
 
 // Writes the kinds that occur.
-fn show(counts: [u64; KINDS]) {
+fn show(rt: &impl Print, counts: [u64; KINDS]) -> io::Result<()> {
     let mut k = 0;
     while k < KINDS {
         if 0 < counts[k] {
-            show_kind(k, counts[k]);
+            show_kind(rt, k, counts[k])?;
         }
         k += 1;
     }
+    Ok(())
 }
 
 // Compiles a query. The rooms are never too small, so no query is passed over for them.
@@ -87,30 +90,43 @@ fn end_line(line: &[u8], used: usize, counts: &mut [u64; KINDS], plans: &mut u64
 }
 
 // Takes every line.
-fn run(buffer: &mut [u8], line: &mut [u8], counts: &mut [u64; KINDS], plans: &mut u64) {
+fn run(
+    reader: &mut impl Read,
+    buffer: &mut [u8],
+    line: &mut [u8],
+    counts: &mut [u64; KINDS],
+    plans: &mut u64,
+) -> io::Result<()> {
     let mut at = 0;
     let mut end = 0;
     let mut left = LINES;
     while 0 < left {
-        let next = program_console::input::next(buffer, at, end, line);
+        let next = input::next(reader, buffer, at, end, line)?;
         if !next.found {
-            return;
+            return Ok(());
         }
         end_line(line, next.used, counts, plans);
         at = next.at;
         end = next.end;
         left -= 1;
     }
+    Ok(())
 }
 
-fn main() {
-    let mut buffer = io::large_buffer();
+fn main(rt: HostRuntime) -> io::Result<()> {
+    let mut buffer = rooms::large_buffer();
     let mut line = [0u8; QUERY_ROOM];
     let mut counts = [0u64; KINDS];
     let mut plans = 0u64;
-    run(&mut buffer, &mut line, &mut counts, &mut plans);
-    show(counts);
-    output::text(b"plans");
-    output::next_number(plans as usize);
-    output::newline();
+    run(
+        &mut rt.reader(),
+        &mut buffer,
+        &mut line,
+        &mut counts,
+        &mut plans,
+    )?;
+    show(&rt, counts)?;
+    output::text(&rt, b"plans")?;
+    output::next_number(&rt, plans as usize)?;
+    output::newline(&rt)
 }

@@ -5,8 +5,10 @@
 
 #![tactic(auto)]
 
-use program_console::output;
+use program_console::{input, output, rooms};
 use refusals::RunNumbers;
+use std::io;
+use std::io::Read;
 
 // Room for one byte more than a query may have: of a longer line so many bytes are taken, and the query is refused by its length all the same.
 const QUERY_ROOM: usize = 4097;
@@ -16,20 +18,20 @@ const PLACES: usize = 4096;
 const LINES: u64 = 0xffff_ffff_ffff_ffff;
 
 // Writes what a query came to.
-fn show(outcome: RunNumbers, list: &[u32]) {
+fn show(rt: &impl Print, outcome: RunNumbers, list: &[u32]) -> io::Result<()> {
     if outcome.refusal == 0 {
-        output::text(b"ok");
-        output::next_number(outcome.count);
-        output::nodes(list, outcome.count);
+        output::text(rt, b"ok")?;
+        output::next_number(rt, outcome.count)?;
+        output::nodes(rt, list, outcome.count)?;
     } else {
-        output::text(b"refused");
-        output::next_number(outcome.refusal as usize);
+        output::text(rt, b"refused")?;
+        output::next_number(rt, outcome.refusal as usize)?;
     }
-    output::newline();
+    output::newline(rt)
 }
 
 // Answers a query.
-fn answer(query: &[u8]) {
+fn answer(rt: &impl Print, query: &[u8]) -> io::Result<()> {
     // A line for each node: the map, its members a and b, and the elements of a.
     let table = b"\
         \x07\0\0\0\0\0\0\0\0\0\0\0\0\0\0\0\x01\0\0\0\x02\0\0\0\
@@ -42,37 +44,42 @@ fn answer(query: &[u8]) {
     let text = b"ab\xc3\xa9";
     let mut list = [0u32; PLACES];
     let selection = select::select(query, table, text, &mut list, 0);
-    show(refusals::of_select(selection), &list);
+    show(rt, refusals::of_select(selection), &list)
 }
 
 // Answers the line of which so many bytes were read, or one more than its room has if it has more.
-fn end_line(line: &[u8], used: usize) {
+fn end_line(rt: &impl Print, line: &[u8], used: usize) -> io::Result<()> {
     if line.len() < used {
-        answer(line);
-        return;
+        return answer(rt, line);
     }
-    answer(&line[0..used]);
+    answer(rt, &line[0..used])
 }
 
 // Answers every line.
-fn run(buffer: &mut [u8], line: &mut [u8]) {
+fn run(
+    rt: &impl Print,
+    reader: &mut impl Read,
+    buffer: &mut [u8],
+    line: &mut [u8],
+) -> io::Result<()> {
     let mut at = 0;
     let mut end = 0;
     let mut left = LINES;
     while 0 < left {
-        let next = program_console::input::next(buffer, at, end, line);
+        let next = input::next(reader, buffer, at, end, line)?;
         if !next.found {
-            return;
+            return Ok(());
         }
-        end_line(line, next.used);
+        end_line(rt, line, next.used)?;
         at = next.at;
         end = next.end;
         left -= 1;
     }
+    Ok(())
 }
 
-fn main() {
-    let mut buffer = io::large_buffer();
+fn main(rt: HostRuntime) -> io::Result<()> {
+    let mut buffer = rooms::large_buffer();
     let mut line = [0u8; QUERY_ROOM];
-    run(&mut buffer, &mut line);
+    run(&rt, &mut rt.reader(), &mut buffer, &mut line)
 }

@@ -4,6 +4,7 @@ use program_console::output;
 use program_lines::words;
 use program_lines::words::NumberWord;
 use refusals::RunNumbers;
+use std::io;
 
 // The longest list.
 const LIST_ROOM: usize = 65535;
@@ -12,6 +13,7 @@ const NOT_SET: u32 = 0xffff_ffff;
 
 // Answers run and select, the length of whose list and whose start position begin at a place. The plan of run stands in for the query.
 pub fn answer<'a>(
+    rt: &impl Print,
     line: &[u8],
     from: usize,
     query: &'a [u8],
@@ -19,60 +21,67 @@ pub fn answer<'a>(
     table: &'a [u8],
     text: &'a [u8],
     select: bool,
-) {
+) -> io::Result<()> {
     let NumberWord::Is(length, next) = words::number(line, from) else {
-        calls::bad_line();
-        return;
+        return calls::bad_line(rt);
     };
     let NumberWord::Is(start, _) = words::number(line, next) else {
-        calls::bad_line();
-        return;
+        return calls::bad_line(rt);
     };
     if LIST_ROOM < length {
-        calls::too_long();
-        return;
+        return calls::too_long(rt);
     }
     let mut list = [NOT_SET; LIST_ROOM];
     if select {
-        show_select(query, table, text, &mut list[0..length], start);
+        show_select(rt, query, table, text, &mut list[0..length], start)
     } else {
-        show_run(query, pool, table, text, &mut list[0..length], start);
+        show_run(rt, query, pool, table, text, &mut list[0..length], start)
     }
 }
 
-fn show_select<'a>(query: &[u8], table: &'a [u8], text: &'a [u8], list: &mut [u32], start: usize) {
+fn show_select<'a>(
+    rt: &impl Print,
+    query: &[u8],
+    table: &'a [u8],
+    text: &'a [u8],
+    list: &mut [u32],
+    start: usize,
+) -> io::Result<()> {
     show(
+        rt,
         refusals::of_select(select::select(query, table, text, list, start)),
         list,
-    );
+    )
 }
 
 fn show_run<'a>(
+    rt: &impl Print,
     plan: &'a [u8],
     pool: &'a [u8],
     table: &'a [u8],
     text: &'a [u8],
     list: &mut [u32],
     start: usize,
-) {
+) -> io::Result<()> {
     show(
+        rt,
         refusals::of_run(run::run(plan, pool, table, text, list, start)),
         list,
-    );
+    )
 }
 
 // Writes the outcome and the places that were written.
-fn show(outcome: RunNumbers, list: &[u32]) {
+fn show(rt: &impl Print, outcome: RunNumbers, list: &[u32]) -> io::Result<()> {
     if outcome.refusal == 0 {
-        output::text(b"ok");
-        output::next_number(outcome.count);
+        output::text(rt, b"ok")?;
+        output::next_number(rt, outcome.count)?;
     } else {
-        output::text(b"refused");
-        output::next_number(outcome.refusal as usize);
-        output::next_number(outcome.node);
+        output::text(rt, b"refused")?;
+        output::next_number(rt, outcome.refusal as usize)?;
+        output::next_number(rt, outcome.node)?;
     }
-    show_places(list, written(list));
-    output::newline();
+    show_places(rt, list, written(list))?;
+    output::newline(rt)
 }
 
 // One more than the last place that was written, or 0.
@@ -88,21 +97,22 @@ fn written(list: &[u32]) -> usize {
 }
 
 // Writes the first n places.
-fn show_places(list: &[u32], n: usize) {
+fn show_places(rt: &impl Print, list: &[u32], n: usize) -> io::Result<()> {
     let mut i = 0;
     while i < n {
         if list.len() <= i {
-            return;
+            return Ok(());
         }
-        show_place(list[i]);
+        show_place(rt, list[i])?;
         i += 1;
     }
+    Ok(())
 }
 
-fn show_place(node: u32) {
+fn show_place(rt: &impl Print, node: u32) -> io::Result<()> {
     if node == NOT_SET {
-        output::text(b" .");
+        output::text(rt, b" .")
     } else {
-        output::next_number(node as usize);
+        output::next_number(rt, node as usize)
     }
 }

@@ -37,7 +37,10 @@ mod table_calls;
 mod tally_calls;
 
 use calls::Call;
+use program_console::{input, rooms};
 use program_lines::words;
+use std::io;
+use std::io::Read;
 use text::parts;
 
 // Room for a line with the largest table and the largest text, or with the largest plan and the largest pool and a table.
@@ -46,99 +49,92 @@ const LINE_ROOM: usize = 524800;
 const LINES: u64 = 0xffff_ffff_ffff_ffff;
 
 // Answers a line with a call, if it has as many words as the call.
-fn call(line: &[u8], from: usize, call: Call, many: usize) {
+fn call(rt: &impl Print, line: &[u8], from: usize, call: Call, many: usize) -> io::Result<()> {
     if words::count(line) != many {
-        calls::bad_line();
-        return;
+        return calls::bad_line(rt);
     }
-    calls::start(line, from, call);
+    calls::start(rt, line, from, call)
 }
 
 // Answers a line whose first word is none of table, text, key, path, records and texts.
-fn answer_more(line: &[u8], name: &[u8], from: usize) {
+fn answer_more(rt: &impl Print, line: &[u8], name: &[u8], from: usize) -> io::Result<()> {
     if parts::same_bytes(name, b"compile") {
-        call(line, from, Call::Compile, 4);
-        return;
+        return call(rt, line, from, Call::Compile, 4);
     }
     if parts::same_bytes(name, b"plan") {
-        call(line, from, Call::Plan, 3);
-        return;
+        return call(rt, line, from, Call::Plan, 3);
     }
     if parts::same_bytes(name, b"run") {
-        call(line, from, Call::Run, 7);
-        return;
+        return call(rt, line, from, Call::Run, 7);
     }
     if parts::same_bytes(name, b"select") {
-        call(line, from, Call::Select, 6);
-        return;
+        return call(rt, line, from, Call::Select, 6);
     }
     if parts::same_bytes(name, b"take") {
-        call(line, from, Call::Take, 5);
-        return;
+        return call(rt, line, from, Call::Take, 5);
     }
-    calls::bad_line();
+    calls::bad_line(rt)
 }
 
 // Answers a line by its first word.
-fn answer(line: &[u8]) {
+fn answer(rt: &impl Print, line: &[u8]) -> io::Result<()> {
     let end = words::end(line, 0);
     let name = words::first(line, end);
     let from = name.len() + 1;
     if parts::same_bytes(name, b"table") {
-        call(line, from, Call::Table, 3);
-        return;
+        return call(rt, line, from, Call::Table, 3);
     }
     if parts::same_bytes(name, b"text") {
-        call(line, from, Call::Text, 4);
-        return;
+        return call(rt, line, from, Call::Text, 4);
     }
     if parts::same_bytes(name, b"key") {
-        call(line, from, Call::Key, 4);
-        return;
+        return call(rt, line, from, Call::Key, 4);
     }
     if parts::same_bytes(name, b"path") {
-        call(line, from, Call::Path, 5);
-        return;
+        return call(rt, line, from, Call::Path, 5);
     }
     if parts::same_bytes(name, b"records") {
-        call(line, from, Call::Records, 3);
-        return;
+        return call(rt, line, from, Call::Records, 3);
     }
     if parts::same_bytes(name, b"texts") {
-        call(line, from, Call::Texts, 3);
-        return;
+        return call(rt, line, from, Call::Texts, 3);
     }
-    answer_more(line, name, from);
+    answer_more(rt, line, name, from)
 }
 
 // Answers the line of which so many bytes were read, or one more than its room has if it had too many.
-fn end_line(line: &[u8], used: usize) {
+fn end_line(rt: &impl Print, line: &[u8], used: usize) -> io::Result<()> {
     if line.len() < used {
-        calls::too_long();
-        return;
+        return calls::too_long(rt);
     }
-    answer(&line[0..used]);
+    answer(rt, &line[0..used])
 }
 
 // Answers every line.
-fn run(buffer: &mut [u8], line: &mut [u8]) {
+fn run(
+    rt: &impl Print,
+    reader: &mut impl Read,
+    buffer: &mut [u8],
+    line: &mut [u8],
+) -> io::Result<()> {
     let mut at = 0;
     let mut end = 0;
     let mut left = LINES;
     while 0 < left {
-        let next = program_console::input::next(buffer, at, end, line);
+        let next = input::next(reader, buffer, at, end, line)?;
         if !next.found {
-            return;
+            return Ok(());
         }
-        end_line(line, next.used);
+        end_line(rt, line, next.used)?;
         at = next.at;
         end = next.end;
         left -= 1;
     }
+    Ok(())
 }
 
-fn main() {
-    let mut buffer = io::large_buffer();
+fn main(rt: HostRuntime) -> io::Result<()> {
+    let mut buffer = rooms::large_buffer();
     let mut line = [0u8; LINE_ROOM];
-    run(&mut buffer, &mut line);
+    run(&rt, &mut rt.reader(), &mut buffer, &mut line)
 }

@@ -5,6 +5,7 @@ use crate::calls;
 use program_console::output;
 use program_lines::words;
 use program_lines::words::NumberWord;
+use std::io;
 
 // The most that is lent for a plan, for a pool or for a path.
 pub const ROOM: usize = 65536;
@@ -12,25 +13,23 @@ pub const ROOM: usize = 65536;
 const FILL: u8 = 0xa5;
 
 // Answers plan.
-pub fn check(plan: &[u8], pool: &[u8]) {
+pub fn check(rt: &impl Print, plan: &[u8], pool: &[u8]) -> io::Result<()> {
     if plan_check::check_plan(plan, pool) {
-        output::text(b"ok\n");
+        output::text(rt, b"ok\n")
     } else {
-        output::text(b"refused 11\n");
+        output::text(rt, b"refused 11\n")
     }
 }
 
 // Answers compile, the sizes of whose rooms begin at a place.
-pub fn answer(line: &[u8], from: usize, query: &[u8]) {
+pub fn answer(rt: &impl Print, line: &[u8], from: usize, query: &[u8]) -> io::Result<()> {
     let NumberWord::Is(plan_room, next) = words::number(line, from) else {
-        calls::bad_line();
-        return;
+        return calls::bad_line(rt);
     };
     let NumberWord::Is(pool_room, _) = words::number(line, next) else {
-        calls::bad_line();
-        return;
+        return calls::bad_line(rt);
     };
-    lend(query, plan_room, pool_room);
+    lend(rt, query, plan_room, pool_room)
 }
 
 // A room whose bytes are known.
@@ -41,38 +40,35 @@ pub fn filled() -> [u8; 65536]
 }
 
 // Lends rooms of two sizes.
-fn lend(query: &[u8], plan_room: usize, pool_room: usize) {
+fn lend(rt: &impl Print, query: &[u8], plan_room: usize, pool_room: usize) -> io::Result<()> {
     if ROOM < plan_room {
-        calls::too_long();
-        return;
+        return calls::too_long(rt);
     }
     if ROOM < pool_room {
-        calls::too_long();
-        return;
+        return calls::too_long(rt);
     }
     let mut plan = filled();
     let mut pool = filled();
-    show(query, &mut plan[0..plan_room], &mut pool[0..pool_room]);
+    show(rt, query, &mut plan[0..plan_room], &mut pool[0..pool_room])
 }
 
 // Compiles into two rooms and writes the answer.
-fn show(query: &[u8], plan: &mut [u8], pool: &mut [u8]) {
+fn show(rt: &impl Print, query: &[u8], plan: &mut [u8], pool: &mut [u8]) -> io::Result<()> {
     let done = refusals::of_compile(compile::compile(query, plan, pool));
     let n = done.plan;
     let m = done.pool;
     if done.refusal == 0 {
-        output::text(b"ok ");
-        output::bytes(words::first(plan, n));
-        output::text(b" ");
-        output::bytes(words::first(pool, m));
-        show_changed(plan, n, pool, m);
-        return;
+        output::text(rt, b"ok ")?;
+        output::bytes(rt, words::first(plan, n))?;
+        output::text(rt, b" ")?;
+        output::bytes(rt, words::first(pool, m))?;
+        return show_changed(rt, plan, n, pool, m);
     }
-    output::text(b"refused");
-    output::next_number(done.refusal as usize);
-    output::next_number(n);
-    output::next_number(m);
-    show_changed(plan, 0, pool, 0);
+    output::text(rt, b"refused")?;
+    output::next_number(rt, done.refusal as usize)?;
+    output::next_number(rt, n)?;
+    output::next_number(rt, m)?;
+    show_changed(rt, plan, 0, pool, 0)
 }
 
 // Whether every byte of a room from a place on holds what it held before the call.
@@ -88,14 +84,12 @@ pub fn kept(room: &[u8], from: usize) -> bool {
 }
 
 // Ends the answer, and says if a byte of a room behind its first bytes changed.
-fn show_changed(plan: &[u8], n: usize, pool: &[u8], m: usize) {
+fn show_changed(rt: &impl Print, plan: &[u8], n: usize, pool: &[u8], m: usize) -> io::Result<()> {
     if !kept(plan, n) {
-        output::text(b" changed\n");
-        return;
+        return output::text(rt, b" changed\n");
     }
     if !kept(pool, m) {
-        output::text(b" changed\n");
-        return;
+        return output::text(rt, b" changed\n");
     }
-    output::newline();
+    output::newline(rt)
 }

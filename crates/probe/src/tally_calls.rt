@@ -1,70 +1,90 @@
 // The call take: a plan with its pool, taken into counts.
 use crate::calls;
-use program_console::output;
+use program_console::{output, rooms};
 use program_lines::words;
 use program_lines::words::{ByteWord, NumberWord};
+use std::io;
 use tally::KINDS;
 
 // A count has eight bytes.
 const COUNTS_BYTES: usize = 2048;
 
 // Answers take, whose words begin at a place.
-pub fn answer(line: &[u8], from: usize) {
+pub fn answer(rt: &impl Print, line: &[u8], from: usize) -> io::Result<()> {
     let mut room = [0u8; COUNTS_BYTES];
     match words::bytes(line, from, &mut room) {
-        ByteWord::Bytes(n, next) => with_plans(line, next, words::first(&room, n)),
-        ByteWord::TooLong => calls::too_long(),
-        ByteWord::Bad => calls::bad_line(),
+        ByteWord::Bytes(n, next) => with_plans(rt, line, next, words::first(&room, n)),
+        ByteWord::TooLong => calls::too_long(rt),
+        ByteWord::Bad => calls::bad_line(rt),
     }
 }
 
 // Reads the number of plans behind the counts.
-fn with_plans(line: &[u8], from: usize, counts: &[u8]) {
+fn with_plans(rt: &impl Print, line: &[u8], from: usize, counts: &[u8]) -> io::Result<()> {
     match words::number(line, from) {
-        NumberWord::Is(plans, next) => with_plan(line, next, counts, plans),
-        _ => calls::bad_line(),
+        NumberWord::Is(plans, next) => with_plan(rt, line, next, counts, plans),
+        _ => calls::bad_line(rt),
     }
 }
 
 // Reads the plan.
-fn with_plan(line: &[u8], from: usize, counts: &[u8], plans: usize) {
-    let mut room = io::large_buffer();
+fn with_plan(
+    rt: &impl Print,
+    line: &[u8],
+    from: usize,
+    counts: &[u8],
+    plans: usize,
+) -> io::Result<()> {
+    let mut room = rooms::large_buffer();
     match words::bytes(line, from, &mut room) {
-        ByteWord::Bytes(n, next) => with_pool(line, next, counts, plans, words::first(&room, n)),
-        ByteWord::TooLong => calls::too_long(),
-        ByteWord::Bad => calls::bad_line(),
+        ByteWord::Bytes(n, next) => with_pool(
+            rt,
+            line,
+            next,
+            counts,
+            plans,
+            words::first(&room, n),
+        ),
+        ByteWord::TooLong => calls::too_long(rt),
+        ByteWord::Bad => calls::bad_line(rt),
     }
 }
 
 // Reads the pool behind the plan.
-fn with_pool(line: &[u8], from: usize, counts: &[u8], plans: usize, plan: &[u8]) {
-    let mut room = io::large_buffer();
+fn with_pool(
+    rt: &impl Print,
+    line: &[u8],
+    from: usize,
+    counts: &[u8],
+    plans: usize,
+    plan: &[u8],
+) -> io::Result<()> {
+    let mut room = rooms::large_buffer();
     match words::bytes(line, from, &mut room) {
-        ByteWord::Bytes(n, _) => take(counts, plans, plan, words::first(&room, n)),
-        ByteWord::TooLong => calls::too_long(),
-        ByteWord::Bad => calls::bad_line(),
+        ByteWord::Bytes(n, _) => take(rt, counts, plans, plan, words::first(&room, n)),
+        ByteWord::TooLong => calls::too_long(rt),
+        ByteWord::Bad => calls::bad_line(rt),
     }
 }
 
 // Takes the plan into the counts and writes the answer.
-fn take(word: &[u8], before: usize, plan: &[u8], pool: &[u8]) {
+fn take(rt: &impl Print, word: &[u8], before: usize, plan: &[u8], pool: &[u8]) -> io::Result<()> {
     if word.len() != COUNTS_BYTES {
-        calls::bad_line();
-        return;
+        return calls::bad_line(rt);
     }
     let mut counts = counts_of(word);
     let mut plans = before as u64;
     let refusal = tally::tally(plan, pool, &mut counts, &mut plans);
     if refusal == 0 {
         let bytes = bytes_of(counts);
-        output::text(b"ok ");
-        output::bytes(&bytes);
-        output::next_number(plans as usize);
+        output::text(rt, b"ok ")?;
+        output::bytes(rt, &bytes)?;
+        output::next_number(rt, plans as usize)?;
     } else {
-        output::text(b"refused");
-        output::next_number(refusal as usize);
+        output::text(rt, b"refused")?;
+        output::next_number(rt, refusal as usize)?;
     }
-    output::newline();
+    output::newline(rt)
 }
 
 fn wide(b: u8) -> u64 {

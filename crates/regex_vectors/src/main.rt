@@ -8,84 +8,88 @@ ghost use Rattle.std.specs.Prelude.{◌≡◌, true};
 ghost use Rattle.definition.specs.Utf8.{is_utf8};
 
 use plan_format::kinds::{MATCH, SEARCH};
-use program_console::output;
+use program_console::{input, output, rooms};
 use program_lines::words;
 use program_lines::words::ByteWord;
+use std::io;
+use std::io::Read;
 
 // How many lines are answered at most.
 const LINES: u64 = 1048576;
 
-fn bad_line() {
-    output::text(b"bad line\n");
+fn bad_line(rt: &impl Print) -> io::Result<()> {
+    output::text(rt, b"bad line\n")
 }
 
-fn show(whole: bool, part: bool) {
+fn show(rt: &impl Print, whole: bool, part: bool) -> io::Result<()> {
     if whole {
         if part {
-            output::text(b"match and search");
+            output::text(rt, b"match and search")
         } else {
-            output::text(b"match");
+            output::text(rt, b"match")
         }
     } else if part {
-        output::text(b"search");
+        output::text(rt, b"search")
     } else {
-        output::text(b"neither");
+        output::text(rt, b"neither")
     }
 }
 
 // The answer for a text and an expression.
-fn answer(text: &[u8], expression: &[u8])
+fn answer(rt: &impl Print, text: &[u8], expression: &[u8]) -> io::Result<()>
     requires { (is_utf8 text.now ≡ true) × (is_utf8 expression.now ≡ true) }
 {
     let whole = regex_rooms::holds(MATCH, text, expression);
     let part = regex_rooms::holds(SEARCH, text, expression);
-    show(whole, part);
-    output::newline();
+    show(rt, whole, part)?;
+    output::newline(rt)
 }
 
-fn verdict(expression: &[u8], text: &[u8]) {
+fn verdict(rt: &impl Print, expression: &[u8], text: &[u8]) -> io::Result<()> {
     if !text::encoding::is_utf8(expression) {
-        bad_line();
-        return;
+        return bad_line(rt);
     }
     if !text::encoding::is_utf8(text) {
-        bad_line();
-        return;
+        return bad_line(rt);
     }
-    answer(text, expression);
+    answer(rt, text, expression)
 }
 
 // Reads the text behind an expression.
-fn with_text(line: &[u8], from: usize, expression: &[u8]) {
-    let mut room = io::buffer();
+fn with_text(rt: &impl Print, line: &[u8], from: usize, expression: &[u8]) -> io::Result<()> {
+    let mut room = rooms::buffer();
     match words::bytes(line, from, &mut room) {
-        ByteWord::Bytes(n, _) => verdict(expression, words::first(&room, n)),
-        _ => bad_line(),
+        ByteWord::Bytes(n, _) => verdict(rt, expression, words::first(&room, n)),
+        _ => bad_line(rt),
     }
 }
 
 // The answer for a line of which so many bytes were read, or one more than its room has if it has more.
-fn end_line(line: &[u8], used: usize) {
-    let mut room = io::buffer();
+fn end_line(rt: &impl Print, line: &[u8], used: usize) -> io::Result<()> {
+    let mut room = rooms::buffer();
     if line.len() < used {
-        bad_line();
-        return;
+        return bad_line(rt);
     }
     match words::bytes(&line[0..used], 0, &mut room) {
-        ByteWord::Bytes(n, next) => with_text(&line[0..used], next, words::first(&room, n)),
-        _ => bad_line(),
+        ByteWord::Bytes(n, next) => with_text(rt, &line[0..used], next, words::first(&room, n)),
+        _ => bad_line(rt),
     }
 }
 
 // The answer for each line.
-fn run(buffer: &mut [u8], line: &mut [u8]) {
+fn run(
+    rt: &impl Print,
+    reader: &mut impl Read,
+    buffer: &mut [u8],
+    line: &mut [u8],
+) -> io::Result<()> {
     let mut at = 0;
     let mut end = 0;
     let mut left = LINES;
     while 0 < left {
-        let next = program_console::input::next(buffer, at, end, line);
+        let next = input::next(reader, buffer, at, end, line)?;
         if next.found {
-            end_line(line, next.used);
+            end_line(rt, line, next.used)?;
             at = next.at;
             end = next.end;
             left -= 1;
@@ -93,10 +97,11 @@ fn run(buffer: &mut [u8], line: &mut [u8]) {
             left = 0;
         }
     }
+    Ok(())
 }
 
-fn main() {
-    let mut buffer = io::large_buffer();
-    let mut line = io::large_buffer();
-    run(&mut buffer, &mut line);
+fn main(rt: HostRuntime) -> io::Result<()> {
+    let mut buffer = rooms::large_buffer();
+    let mut line = rooms::large_buffer();
+    run(&rt, &mut rt.reader(), &mut buffer, &mut line)
 }

@@ -1,10 +1,11 @@
 // An example: its words are read one after the other, each into a room of its own, and what select answers is compared with what is wanted.
 ghost use Rattle.std.specs.Prelude.{◌≤◌};
 
-use program_console::output;
+use program_console::{output, rooms};
 use program_lines::words;
 use program_lines::words::ByteWord;
 use refusals::RunNumbers;
+use std::io;
 use text::parts;
 
 // Room for the list of nodes that are wanted.
@@ -37,78 +38,90 @@ fn name(line: &[u8]) -> &[u8] {
     words::first(line, words::end(line, 0))
 }
 
-fn bad_line(line: &[u8]) -> Verdict {
-    output::text(b"wrong ");
-    output::text(name(line));
-    output::text(b": bad line\n");
-    Verdict::Wrong
+fn bad_line(rt: &impl Print, line: &[u8]) -> io::Result<Verdict> {
+    output::text(rt, b"wrong ")?;
+    output::text(rt, name(line))?;
+    output::text(rt, b": bad line\n")?;
+    Ok(Verdict::Wrong)
 }
 
 // Runs the example of a line.
-pub fn run(line: &[u8]) -> Verdict {
+pub fn run(rt: &impl Print, line: &[u8]) -> io::Result<Verdict> {
     if words::count(line) != 8 {
-        return bad_line(line);
+        return bad_line(rt, line);
     }
-    let mut room = io::buffer();
+    let mut room = rooms::buffer();
     let from = words::end(line, 0) + 1;
     match words::bytes(line, from, &mut room) {
-        ByteWord::Bytes(n, next) => with_table(line, next, words::first(&room, n)),
-        _ => bad_line(line),
+        ByteWord::Bytes(n, next) => with_table(rt, line, next, words::first(&room, n)),
+        _ => bad_line(rt, line),
     }
 }
 
 // Reads the table behind a query.
-fn with_table(line: &[u8], from: usize, query: &[u8]) -> Verdict {
-    let mut room = io::large_buffer();
+fn with_table(rt: &impl Print, line: &[u8], from: usize, query: &[u8]) -> io::Result<Verdict> {
+    let mut room = rooms::large_buffer();
     match words::bytes(line, from, &mut room) {
-        ByteWord::Bytes(n, next) => with_text(line, next, query, words::first(&room, n)),
-        _ => bad_line(line),
+        ByteWord::Bytes(n, next) => with_text(rt, line, next, query, words::first(&room, n)),
+        _ => bad_line(rt, line),
     }
 }
 
 // Reads the text behind a table, and selects.
-fn with_text(line: &[u8], from: usize, query: &[u8], table: &[u8]) -> Verdict {
-    let mut room = io::large_buffer();
+fn with_text(
+    rt: &impl Print,
+    line: &[u8],
+    from: usize,
+    query: &[u8],
+    table: &[u8],
+) -> io::Result<Verdict> {
+    let mut room = rooms::large_buffer();
     match words::bytes(line, from, &mut room) {
         ByteWord::Bytes(n, next) => {
             let mut list = [0u32; PLACES];
             let selection = select::select(query, table, words::first(&room, n), &mut list, 0);
-            judge(line, next, refusals::of_select(selection), &list)
+            judge(rt, line, next, refusals::of_select(selection), &list)
         }
-        _ => bad_line(line),
+        _ => bad_line(rt, line),
     }
 }
 
 // Compares what came with the two answers that begin at a place.
-fn judge(line: &[u8], from: usize, outcome: RunNumbers, list: &[u32]) -> Verdict {
+fn judge(
+    rt: &impl Print,
+    line: &[u8],
+    from: usize,
+    outcome: RunNumbers,
+    list: &[u32],
+) -> io::Result<Verdict> {
     let middle = words::end(line, words::end(line, from) + 1) + 1;
     if !fits(line, from, outcome, list) {
-        show_wrong(line, outcome, list);
-        return Verdict::Wrong;
+        show_wrong(rt, line, outcome, list)?;
+        return Ok(Verdict::Wrong);
     }
-    output::text(b"ok ");
-    output::text(name(line));
+    output::text(rt, b"ok ")?;
+    output::text(rt, name(line))?;
     if fits(line, middle, outcome, list) {
-        output::newline();
-        return Verdict::Same;
+        output::newline(rt)?;
+        return Ok(Verdict::Same);
     }
-    output::text(b", not as the RFC\n");
-    Verdict::Other
+    output::text(rt, b", not as the RFC\n")?;
+    Ok(Verdict::Other)
 }
 
 // Writes what came and is not wanted.
-fn show_wrong(line: &[u8], outcome: RunNumbers, list: &[u32]) {
-    output::text(b"wrong ");
-    output::text(name(line));
+fn show_wrong(rt: &impl Print, line: &[u8], outcome: RunNumbers, list: &[u32]) -> io::Result<()> {
+    output::text(rt, b"wrong ")?;
+    output::text(rt, name(line))?;
     if outcome.refusal == 0 {
-        output::text(b": ok");
-        output::next_number(outcome.count);
-        output::nodes(list, outcome.count);
+        output::text(rt, b": ok")?;
+        output::next_number(rt, outcome.count)?;
+        output::nodes(rt, list, outcome.count)?;
     } else {
-        output::text(b": refused");
-        output::next_number(outcome.refusal as usize);
+        output::text(rt, b": refused")?;
+        output::next_number(rt, outcome.refusal as usize)?;
     }
-    output::newline();
+    output::newline(rt)
 }
 
 // The kind of answer that a word names.

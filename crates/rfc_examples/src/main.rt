@@ -20,7 +20,9 @@
 mod examples;
 
 use examples::Verdict;
-use program_console::output;
+use program_console::{input, output, rooms};
+use std::io;
+use std::io::Read;
 
 // How many lines are answered at most.
 const LINES: u64 = 1048576;
@@ -63,26 +65,29 @@ fn more(n: u64) -> u64 {
 }
 
 // Runs the example of which so many bytes were read, or one more than its room has if it has more.
-fn end_line(line: &[u8], used: usize) -> Verdict {
+fn end_line(rt: &impl Print, line: &[u8], used: usize) -> io::Result<Verdict> {
     if line.len() < used {
-        output::text(b"wrong: too long\n");
-        return Verdict::Wrong;
+        output::text(rt, b"wrong: too long\n")?;
+        return Ok(Verdict::Wrong);
     }
-    examples::run(&line[0..used])
+    examples::run(rt, &line[0..used])
 }
 
 // Writes how many examples there were.
-fn show(tally: Tally) {
-    io::print_decimal(libc::STDOUT_FILENO, tally.same);
-    output::text(b" as the RFC, ");
-    io::print_decimal(libc::STDOUT_FILENO, tally.other);
-    output::text(b" not as the RFC, ");
-    io::print_decimal(libc::STDOUT_FILENO, tally.wrong);
-    output::text(b" wrong\n");
+fn show(rt: &impl Print, tally: Tally) -> io::Result<()> {
+    let same = tally.same;
+    let other = tally.other;
+    let wrong = tally.wrong;
+    println!(rt; "{same} as the RFC, {other} not as the RFC, {wrong} wrong")
 }
 
 // Runs every example.
-fn run(buffer: &mut [u8], line: &mut [u8]) {
+fn run(
+    rt: &impl Print,
+    reader: &mut impl Read,
+    buffer: &mut [u8],
+    line: &mut [u8],
+) -> io::Result<()> {
     let mut tally = Tally {
         same: 0,
         other: 0,
@@ -92,9 +97,9 @@ fn run(buffer: &mut [u8], line: &mut [u8]) {
     let mut end = 0;
     let mut left = LINES;
     while 0 < left {
-        let next = program_console::input::next(buffer, at, end, line);
+        let next = input::next(reader, buffer, at, end, line)?;
         if next.found {
-            tally = counted(tally, end_line(line, next.used));
+            tally = counted(tally, end_line(rt, line, next.used)?);
             at = next.at;
             end = next.end;
             left -= 1;
@@ -102,11 +107,11 @@ fn run(buffer: &mut [u8], line: &mut [u8]) {
             left = 0;
         }
     }
-    show(tally);
+    show(rt, tally)
 }
 
-fn main() {
-    let mut buffer = io::large_buffer();
-    let mut line = io::large_buffer();
-    run(&mut buffer, &mut line);
+fn main(rt: HostRuntime) -> io::Result<()> {
+    let mut buffer = rooms::large_buffer();
+    let mut line = rooms::large_buffer();
+    run(&rt, &mut rt.reader(), &mut buffer, &mut line)
 }

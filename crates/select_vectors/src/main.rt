@@ -11,10 +11,12 @@
 
 #![tactic(auto)]
 
-use program_console::output;
+use program_console::{input, output, rooms};
 use program_lines::words;
 use program_lines::words::{ByteWord, NumberWord};
 use refusals::RunNumbers;
+use std::io;
+use std::io::Read;
 
 // How many places the list of selected nodes has.
 const PLACES: usize = 1024;
@@ -23,9 +25,9 @@ const NOT_SET: u32 = 0xffff_ffff;
 // How many lines are answered at most.
 const LINES: u64 = 1048576;
 
-fn bad_line() -> bool {
-    output::text(b"bad line\n");
-    false
+fn bad_line(rt: &impl Print) -> io::Result<bool> {
+    output::text(rt, b"bad line\n")?;
+    Ok(false)
 }
 
 fn wide(node: u32) -> usize {
@@ -62,65 +64,77 @@ fn fits(line: &[u8], from: usize, outcome: RunNumbers, list: &[u32]) -> bool {
     }
 }
 
-fn show(outcome: RunNumbers, list: &[u32]) {
+fn show(rt: &impl Print, outcome: RunNumbers, list: &[u32]) -> io::Result<()> {
     if outcome.refusal == 0 {
-        output::text(b"ok");
-        output::nodes(list, outcome.count);
+        output::text(rt, b"ok")?;
+        output::nodes(rt, list, outcome.count)
     } else {
-        output::text(b"refused");
-        output::next_number(outcome.refusal as usize);
+        output::text(rt, b"refused")?;
+        output::next_number(rt, outcome.refusal as usize)
     }
 }
 
 // Writes what came, and whether it is the answer behind the row that begins at a place. The answer is whether it is.
-fn judge(line: &[u8], from: usize, outcome: RunNumbers, list: &[u32]) -> bool {
+fn judge(
+    rt: &impl Print,
+    line: &[u8],
+    from: usize,
+    outcome: RunNumbers,
+    list: &[u32],
+) -> io::Result<bool> {
     let same = fits(line, words::end(line, from) + 1, outcome, list);
-    show(outcome, list);
+    show(rt, outcome, list)?;
     if same {
-        output::newline();
+        output::newline(rt)?;
     } else {
-        output::text(b" differs\n");
+        output::text(rt, b" differs\n")?;
     }
-    same
+    Ok(same)
 }
 
 // Reads the text behind a table, and selects.
-fn with_text(line: &[u8], from: usize, query: &[u8], table: &[u8]) -> bool {
-    let mut room = io::buffer();
+fn with_text(
+    rt: &impl Print,
+    line: &[u8],
+    from: usize,
+    query: &[u8],
+    table: &[u8],
+) -> io::Result<bool> {
+    let mut room = rooms::buffer();
     match words::bytes(line, from, &mut room) {
         ByteWord::Bytes(n, next) => {
             let mut list = [NOT_SET; PLACES];
             let selection = select::select(query, table, words::first(&room, n), &mut list, 0);
-            judge(line, next, refusals::of_select(selection), &list)
+            judge(rt, line, next, refusals::of_select(selection), &list)
         }
-        _ => bad_line(),
+        _ => bad_line(rt),
     }
 }
 
 // Reads the table behind a query.
-fn with_table(line: &[u8], from: usize, query: &[u8]) -> bool {
-    let mut room = io::buffer();
+fn with_table(rt: &impl Print, line: &[u8], from: usize, query: &[u8]) -> io::Result<bool> {
+    let mut room = rooms::buffer();
     match words::bytes(line, from, &mut room) {
-        ByteWord::Bytes(n, next) => with_text(line, next, query, words::first(&room, n)),
-        _ => bad_line(),
+        ByteWord::Bytes(n, next) => with_text(rt, line, next, query, words::first(&room, n)),
+        _ => bad_line(rt),
     }
 }
 
 // The verdict on a line.
-fn verdict(line: &[u8]) -> bool {
-    let mut room = io::buffer();
+fn verdict(rt: &impl Print, line: &[u8]) -> io::Result<bool> {
+    let mut room = rooms::buffer();
     match words::bytes(line, 0, &mut room) {
-        ByteWord::Bytes(n, next) => with_table(line, next, words::first(&room, n)),
-        _ => bad_line(),
+        ByteWord::Bytes(n, next) => with_table(rt, line, next, words::first(&room, n)),
+        _ => bad_line(rt),
     }
 }
 
 // The verdict on the line of which so many bytes were read, or one more than its room has if it has more.
-fn end_line(line: &[u8], used: usize) -> bool {
+fn end_line(rt: &impl Print, line: &[u8], used: usize) -> io::Result<bool> {
     if line.len() < used {
-        return bad_line();
+        return bad_line(rt);
     }
-    verdict(&line[0..used])
+    verdict(rt, &line[0..used])
 }
 
 // One more unless so many lines were counted as are answered at most.
@@ -132,24 +146,26 @@ fn more_unless(n: u64, same: bool) -> u64 {
     if same { n } else { more(n) }
 }
 
-fn show_counts(count: u64, other: u64) {
-    io::print_decimal(libc::STDOUT_FILENO, count);
-    output::text(b" cases, ");
-    io::print_decimal(libc::STDOUT_FILENO, other);
-    output::text(b" answers differ\n");
+fn show_counts(rt: &impl Print, count: u64, other: u64) -> io::Result<()> {
+    println!(rt; "{count} cases, {other} answers differ")
 }
 
 // The verdict on each line, and the counts.
-fn run(buffer: &mut [u8], line: &mut [u8]) {
+fn run(
+    rt: &impl Print,
+    reader: &mut impl Read,
+    buffer: &mut [u8],
+    line: &mut [u8],
+) -> io::Result<()> {
     let mut count = 0u64;
     let mut other = 0u64;
     let mut at = 0;
     let mut end = 0;
     let mut left = LINES;
     while 0 < left {
-        let next = program_console::input::next(buffer, at, end, line);
+        let next = input::next(reader, buffer, at, end, line)?;
         if next.found {
-            other = more_unless(other, end_line(line, next.used));
+            other = more_unless(other, end_line(rt, line, next.used)?);
             count = more(count);
             at = next.at;
             end = next.end;
@@ -158,11 +174,11 @@ fn run(buffer: &mut [u8], line: &mut [u8]) {
             left = 0;
         }
     }
-    show_counts(count, other);
+    show_counts(rt, count, other)
 }
 
-fn main() {
-    let mut buffer = io::large_buffer();
-    let mut line = io::large_buffer();
-    run(&mut buffer, &mut line);
+fn main(rt: HostRuntime) -> io::Result<()> {
+    let mut buffer = rooms::large_buffer();
+    let mut line = rooms::large_buffer();
+    run(&rt, &mut rt.reader(), &mut buffer, &mut line)
 }
