@@ -558,7 +558,7 @@ def turn(path, crate, names_all, measured=False):
                     new = names.needs[k]
                     break
             if new is None or new in names.settled:
-                if new is None:
+                if new is None and not decl[-1].endswith(("search rules", "search needs")):
                     lost.append(decl)
                 continue
             t = answer(decl, name, new, names, measured, places)

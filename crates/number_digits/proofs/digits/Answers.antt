@@ -1,10 +1,8 @@
 -- `number_digits::digits` meets its contract. The loop's invariant: what was passed are digits, and they write `acc`. The measure is what is left.
 use mathlib.Core.Path.{ap, ◌∙◌}
 use Prim.Native.Nat.{ℕ, ◌+◌, ◌-◌, ◌*◌, min}
-use lib.ListN.{length}
-use borrow.Author.Rules.{rules}
 use Rattle.number_digits.specs.Runs.{limit}
-use Rattle.number_digits.proofs.Loops.{Passed, begin, pass, at_end, at_low, at_high}
+use Rattle.number_digits.proofs.Loops.{begin, pass, at_end, at_low, at_high}
 use Rattle.number_digits.proofs.digits.Goals as goal
 
 pub loop-i-init : goal.loop-i-init

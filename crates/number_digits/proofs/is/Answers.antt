@@ -1,5 +1,4 @@
 -- `number_digits::is` meets its contract: the test of the byte, and nothing past the end.
-use borrow.Author.Rules.{rules}
 use Rattle.number_digits.proofs.Places.{is_tested, is_past}
 use Rattle.number_digits.proofs.is.Goals as goal
 

@@ -1,5 +1,4 @@
 -- `number_digits::read_unsigned` meets its contract: the run's length and its first byte say which law of proofs/Shapes.antt answers.
-use borrow.Author.Rules.{rules}
 use Rattle.number_digits.proofs.Shapes.{none_there, number_there, zero_there, zero_first}
 use Rattle.number_digits.proofs.read_unsigned.Goals as goal
 

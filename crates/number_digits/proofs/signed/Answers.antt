@@ -1,5 +1,4 @@
 -- `number_digits::signed` meets its contract: a negative number is the complement of its magnitude less 1.
-use borrow.Author.Rules.{rules}
 use Rattle.number_digits.proofs.Bits.{less_fits, complement_is, zero_is, plus_fits, plus_is}
 use Rattle.number_digits.proofs.signed.Goals as goal
 

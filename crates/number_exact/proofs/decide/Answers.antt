@@ -1,7 +1,6 @@
 -- `number_exact::decide` meets its contract: the order of twice the fraction and the middle says which number of steps is nearest.
 use Prim.Native.Nat.{◌+◌, ◌*◌}
 use native.Mathlib.Omega.{arith}
-use borrow.Author.Rules.{rules}
 use Rattle.number_limbs.specs.Limbs.{value, zeros, zeros_limbs}
 use Rattle.number_exact.proofs.Middle.{compared, if_less, if_equal, if_greater, Compared}
 use Rattle.number_exact.proofs.Sizes.{fits}

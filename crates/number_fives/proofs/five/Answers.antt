@@ -5,7 +5,6 @@ use Prim.Native.Nat.{ℕ, ◌+◌, ◌-◌, ◌≤◌, ◌<◌}
 use native.Mathlib.Nat.{zero-add}
 use native.Mathlib.Omega.{arith}
 use lib.Dec.{T}
-use borrow.Author.Rules.{rules}
 use Rattle.number_fives.proofs.LowEntries.{low}
 use Rattle.number_fives.proofs.MiddleEntries.{middle}
 use Rattle.number_fives.proofs.HighEntries.{high}
@@ -38,15 +37,3 @@ returns-then-i-lt-HIGH_FROM c = ruled_part fives low middle high tested refl c.a
 pub returns : goal.returns
 unfolding low middle high fives
 returns c = ruled_part fives (low ++ middle) high [] tested refl c.args.i (c.args.i - 434) (behind 434 c.args.i c.if-i-lt-HIGH_FROM.false) (within 434 217 c.args.i c.requires c.if-i-lt-HIGH_FROM.false)
-
--- LOST: the older form had, for which no goal was found:
--- array-read-result : tie.Need-array-read-result
--- array-read-result c = search rules
-
--- LOST: the older form had, for which no goal was found:
--- array-read-result-2 : tie.Need-array-read-result-2
--- array-read-result-2 c = search rules
-
--- LOST: the older form had, for which no goal was found:
--- array-read-result-3 : tie.Need-array-read-result-3
--- array-read-result-3 c = search rules

@@ -4,8 +4,6 @@ use mathlib.Core.Bool.{true, false}
 use Prim.Native.Nat.{◌≤◌}
 use native.Mathlib.Omega.{arith}
 use lib.IntN.{pos}
-use borrow.Author.Rules.{rules}
-use Rattle.definition.specs.Literals.{nearest}
 use Rattle.number_integers.specs.Signed.{signed}
 use Rattle.number_rounding.specs.Decimal.{nearest_zero}
 use Rattle.number_floats.proofs.Places.{high_right, low_right, high_place, low_place, scaled, found}

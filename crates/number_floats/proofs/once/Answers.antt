@@ -1,5 +1,4 @@
 -- `number_floats::once` meets its contract: the one operation rounds the exact product or quotient.
-use borrow.Author.Rules.{rules}
 use Rattle.number_floats.proofs.Operations.{times_nearest, times_number, over_nearest, over_number}
 use Rattle.number_floats.proofs.once.Goals as goal
 

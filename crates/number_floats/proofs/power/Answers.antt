@@ -2,9 +2,8 @@
 use native.Mathlib.Omega.{arith}
 use mathlib.Core.Path.{◌≡◌, subst}
 use mathlib.Core.Bool.{false}
-use Prim.Native.Nat.{ℕ, ◌-◌, ◌^◌, ◌≤◌}
+use Prim.Native.Nat.{ℕ, ◌^◌}
 use lib.Ieee.Exact.{HasValue}
-use borrow.Author.Rules.{rules}
 use Rattle.number_floats.proofs.Powers.{one_value, power_step}
 use Rattle.number_floats.proofs.power.Goals as goal
 

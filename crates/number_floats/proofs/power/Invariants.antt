@@ -1,11 +1,7 @@
 -- `number_floats::power` meets its contract: behind i products stands ten to i.
-use native.Mathlib.Omega.{arith}
-use mathlib.Core.Path.{◌≡◌, subst}
 use mathlib.Core.Bool.{false}
-use Prim.Native.Nat.{ℕ, ◌-◌, ◌^◌, ◌≤◌}
+use Prim.Native.Nat.{◌-◌, ◌^◌, ◌≤◌}
 use lib.Ieee.Exact.{HasValue}
-use borrow.Author.Rules.{rules}
-use Rattle.number_floats.proofs.Powers.{one_value, power_step}
 use Rattle.number_floats.proofs.power.Given as goal
 
 abbrev pub invariant-loop-i : goal.invariant-loop-i

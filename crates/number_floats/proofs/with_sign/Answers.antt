@@ -1,7 +1,6 @@
 -- `number_floats::with_sign` meets its contract.
 use mathlib.Core.Path.{refl, sym}
 use native.Mathlib.Nat.{zero-add}
-use borrow.Author.Rules.{rules}
 use Rattle.number_floats.proofs.with_sign.Goals as goal
 
 pub returns-then-negative : goal.returns-then-negative

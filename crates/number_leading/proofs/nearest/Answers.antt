@@ -1,7 +1,6 @@
 -- `number_leading::nearest` meets its contract: the product's leading word brackets the fraction.
 use Rattle.number_leading.proofs.Interval.{bracket, keep, double, top_word}
 use native.Mathlib.Omega.{arith}
-use borrow.Author.Rules.{rules}
 use Rattle.number_leading.proofs.nearest.Goals as goal
 
 pub overflow_mul-hi : goal.overflow_mul-hi

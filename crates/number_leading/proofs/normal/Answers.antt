@@ -1,10 +1,8 @@
 -- `number_leading::normal` meets its contract: each turn doubles the number.
-use mathlib.Core.Path.{◌≡◌, sym}
-use Prim.Native.Nat.{◌-◌, ◌*◌, ◌^◌, ◌≤◌, ◌<◌}
+use mathlib.Core.Path.{sym}
 use native.Mathlib.Nat.{mul-one, lt_of_lt_of_le}
 use native.Mathlib.Omega.{arith}
 use lib.Pow.{pow_pos}
-use borrow.Author.Rules.{rules}
 use Rattle.number_leading.proofs.Shifts.{doubled, power_up, few}
 use Rattle.number_leading.proofs.normal.Goals as goal
 

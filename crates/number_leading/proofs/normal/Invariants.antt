@@ -1,11 +1,6 @@
 -- `number_leading::normal` meets its contract: each turn doubles the number.
-use mathlib.Core.Path.{◌≡◌, sym}
+use mathlib.Core.Path.{◌≡◌}
 use Prim.Native.Nat.{◌-◌, ◌*◌, ◌^◌, ◌≤◌, ◌<◌}
-use native.Mathlib.Nat.{mul-one, lt_of_lt_of_le}
-use native.Mathlib.Omega.{arith}
-use lib.Pow.{pow_pos}
-use borrow.Author.Rules.{rules}
-use Rattle.number_leading.proofs.Shifts.{doubled, power_up, few}
 use Rattle.number_leading.proofs.normal.Given as goal
 
 abbrev pub invariant-loop-m : goal.invariant-loop-m

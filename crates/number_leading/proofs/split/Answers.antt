@@ -4,7 +4,6 @@ use Prim.Native.Nat.{ℕ, ◌-◌, ◌/◌, ◌%◌, ◌^◌, ◌<◌}
 use native.Mathlib.Nat.{mod-lt, lt_of_lt_of_le}
 use native.Mathlib.Omega.{arith}
 use lib.Pow.{pow_pos, pow_mono}
-use borrow.Author.Rules.{rules}
 use Rattle.number_leading.specs.Leads.{Between}
 use Rattle.number_leading.proofs.Interval.{settled_down, settled_up, between, quotient_small, none_left}
 use Rattle.number_leading.proofs.Shifts.{one_shl}

@@ -1,6 +1,5 @@
 -- `number_limbs::fill` meets its contract: the two stores put the number into a list that is 0.
 use native.Mathlib.Omega.{arith}
-use borrow.Author.Rules.{rules}
 use Rattle.number_limbs.proofs.Powers.{placed, placed_limbs}
 use Rattle.number_limbs.proofs.fill.Goals as goal
 

@@ -1,9 +1,6 @@
 -- `number_limbs::mul_add` meets its contract: each turn multiplies one limb and carries on.
 use native.Mathlib.Omega.{arith}
-use Prim.Native.Nat.{◌-◌}
-use lib.ListN.{length}
-use borrow.Author.Rules.{rules}
-use Rattle.number_limbs.proofs.Steps.{Inv, begin, product, bound, more, finish}
+use Rattle.number_limbs.proofs.Steps.{begin, product, bound, more, finish}
 use Rattle.number_limbs.proofs.mul_add.Goals as goal
 
 pub loop-i-init : goal.loop-i-init

@@ -1,9 +1,7 @@
 -- `number_limbs::mul_add` meets its contract: each turn multiplies one limb and carries on.
-use native.Mathlib.Omega.{arith}
 use Prim.Native.Nat.{◌-◌}
 use lib.ListN.{length}
-use borrow.Author.Rules.{rules}
-use Rattle.number_limbs.proofs.Steps.{Inv, begin, product, bound, more, finish}
+use Rattle.number_limbs.proofs.Steps.{Inv}
 use Rattle.number_limbs.proofs.mul_add.Given as goal
 
 abbrev pub invariant-loop-i : goal.invariant-loop-i

@@ -1,14 +1,8 @@
 -- `number_limbs::mul_times` meets its contract: each turn is one product, and nothing runs over the end.
-use native.Mathlib.Nat.{pow-zero}
-use mathlib.Core.Path.{◌≡◌, refl, sym, ◌∙◌, ap, subst}
-use Prim.Native.Nat.{ℕ, ◌-◌, ◌*◌, ◌^◌, ◌≤◌, ◌<◌}
-use native.Mathlib.Nat.{mul-one}
-use native.Mathlib.Omega.{arith}
+use mathlib.Core.Path.{◌≡◌}
+use Prim.Native.Nat.{◌-◌, ◌*◌, ◌^◌, ◌≤◌}
 use lib.ListN.{length}
-use borrow.Author.Rules.{rules}
 use Rattle.number_limbs.specs.Limbs.{value, Limbs}
-use Rattle.number_limbs.proofs.Steps.{K}
-use Rattle.number_limbs.proofs.Whole.{no_carry}
 use Rattle.number_limbs.proofs.mul_times.Given as goal
 
 abbrev pub invariant-loop-j : goal.invariant-loop-j

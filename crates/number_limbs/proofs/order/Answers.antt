@@ -2,10 +2,9 @@
 use native.Mathlib.Nat.{le_refl, le_of_eq}
 use borrow.Author.Rules.{scaled_Fits}
 use mathlib.Core.Path.{◌≡◌, sym, ◌∙◌, ap, subst}
-use Prim.Native.Nat.{ℕ, ◌-◌, ◌≤◌}
+use Prim.Native.Nat.{ℕ, ◌-◌}
 use native.Mathlib.Omega.{arith}
 use lib.ListN.{length, drop, drop_of_length-le}
-use borrow.Author.Rules.{rules}
 use Rattle.number_limbs.specs.Limbs.{value}
 use Rattle.number_limbs.proofs.Whole.{same_more, decides_down}
 use Rattle.number_limbs.proofs.order.Goals as goal

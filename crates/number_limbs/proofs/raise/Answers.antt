@@ -3,7 +3,6 @@ use mathlib.Core.Path.{sym, subst}
 use Prim.Native.Nat.{ℕ, ◌^◌, ◌<◌}
 use native.Mathlib.Nat.{one-le-pow}
 use lib.ListN.{length}
-use borrow.Author.Rules.{rules}
 use Rattle.number_limbs.specs.Limbs.{value}
 use Rattle.number_limbs.proofs.Powers.{chunks_fit, rest_fits, raised}
 use Rattle.number_limbs.proofs.Steps.{K}

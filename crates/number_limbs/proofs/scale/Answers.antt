@@ -3,7 +3,6 @@ use mathlib.Core.Path.{refl, ap, ◌∙◌}
 use Prim.Native.Nat.{ℕ, ◌*◌, ◌^◌}
 use native.Mathlib.Omega.{arith}
 use lib.ListN.{length}
-use borrow.Author.Rules.{rules}
 use Rattle.number_limbs.specs.Limbs.{value}
 use Rattle.number_limbs.proofs.Powers.{first_fits, second_fits}
 use Rattle.number_limbs.proofs.scale.Goals as goal

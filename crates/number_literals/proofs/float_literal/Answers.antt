@@ -1,7 +1,6 @@
 -- `number_literals::float_literal` meets its contract: the exponent less the count of fraction digits, by its sign.
 use mathlib.Core.Path.{sym, ap, ◌∙◌}
 use native.Mathlib.Omega.{arith}
-use borrow.Author.Rules.{rules}
 use Rattle.definition.specs.Literals.{float_numeral}
 use Rattle.number_literals.proofs.Exponents.{down_less, up_less, past_less}
 use Rattle.number_literals.proofs.Ranges.{low_beyond}

@@ -1,5 +1,4 @@
 -- `number_literals::numeral` meets its contract: an exponent or a fraction makes a float.
-use borrow.Author.Rules.{rules}
 use borrow.Author.Tests.{lt-ltb, le-ltb}
 use Rattle.number_literals.proofs.numeral.Goals as goal
 

@@ -5,7 +5,6 @@ use Rattle.definition.specs.Literals.{float, nearest}
 use Rattle.definition.specs.Tables.{is_finite}
 use Rattle.number_integers.specs.Signed.{signed}
 use Rattle.number_literals.proofs.Ranges.{in_float, past_beyond}
-use borrow.Author.Rules.{rules}
 use Rattle.number_literals.proofs.rounded.Goals as goal
 
 pub returns-then-finite : goal.returns-then-finite

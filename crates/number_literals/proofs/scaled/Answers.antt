@@ -1,7 +1,6 @@
 -- `number_literals::scaled` meets its contract: each test is a side of the range.
 use mathlib.Core.Path.{sym, ◌∙◌}
 use Rattle.number_literals.proofs.Ranges.{wide_beyond, far_beyond}
-use borrow.Author.Rules.{rules}
 use Rattle.number_literals.proofs.scaled.Goals as goal
 
 pub returns-then-n-ge-LIMIT : goal.returns-then-n-ge-LIMIT

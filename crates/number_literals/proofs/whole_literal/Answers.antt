@@ -1,7 +1,6 @@
 -- `number_literals::whole_literal` meets its contract: an i64 holds a magnitude up to 2^63 with a minus, and below it without.
 use mathlib.Core.Path.{sym, ap, ◌∙◌}
 use native.Mathlib.Omega.{arith}
-use borrow.Author.Rules.{rules}
 use mir.Syntax.{w64}
 use mir.ValLaws.{to_z-of_z}
 use Rattle.definition.specs.Literals.{integer}

@@ -1,6 +1,5 @@
 -- `number_nearest::nearest` meets its contract: both ways give the nearest number of steps.
 use native.Mathlib.Omega.{arith}
-use borrow.Author.Rules.{rules}
 use Rattle.number_leading.specs.Leads.{Leads}
 use Rattle.number_leading.specs.declared.Lead.TheVariants.{Sure, Unsure}
 use Rattle.number_nearest.proofs.nearest.Goals as goal

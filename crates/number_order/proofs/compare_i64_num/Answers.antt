@@ -1,8 +1,6 @@
 -- `number_order::compare_i64_num` meets its contract: the two signs say which law of proofs/Mixed.antt decides.
 use mathlib.Core.Path.{ap, ◌∙◌, sym, subst}
 use lib.Dec.{T}
-use lib.Ieee.{binary64, fits}
-use borrow.Author.Rules.{rules}
 use Rattle.number_order.specs.Exact.{reverse}
 use Rattle.number_order.proofs.Patterns.{plus_pattern, minus_pattern, no_nan}
 use Rattle.number_order.proofs.Mixed.{minus_plus, plus_plus, minus_minus, above_float, zero_float}

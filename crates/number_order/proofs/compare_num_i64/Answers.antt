@@ -3,7 +3,6 @@ use mathlib.Core.Path.{ap, ◌∙◌}
 use lib.IntN.{ℤ}
 use mir.Syntax.{w64}
 use mir.ValLaws.{to_z-of_z}
-use borrow.Author.Rules.{rules}
 use Rattle.number_order.specs.Exact.{answer, reverse, of_integer, of_float, order_of}
 use Rattle.number_order.proofs.Orders.{reversed_order}
 use Rattle.number_order.proofs.compare_num_i64.Goals as goal

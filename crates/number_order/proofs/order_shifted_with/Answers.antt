@@ -3,7 +3,6 @@ use mathlib.Core.Path.{◌≡◌, sym, ap, ◌∙◌}
 use Prim.Native.Nat.{ℕ, ◌*◌, ◌/◌, ◌^◌, compare}
 use native.Mathlib.Nat.{zero-mul}
 use native.Mathlib.Omega.{arith}
-use borrow.Author.Rules.{rules}
 use Rattle.number_order.specs.Exact.{answer}
 use Rattle.number_order.proofs.Orders.{lt_compare, gt_compare}
 use Rattle.number_order.proofs.Shifts.{past_digits, under_quotient, over_quotient, back_fits}

@@ -2,7 +2,6 @@
 use mathlib.Core.Path.{ap, ◌∙◌}
 use Prim.Native.Nat.{ℕ, ◌+◌, ◌-◌, ◌*◌, ◌/◌, ◌%◌, ◌^◌, compare}
 use native.Mathlib.Omega.{arith}
-use borrow.Author.Rules.{rules}
 use Rattle.number_order.specs.Exact.{answer}
 use Rattle.number_order.proofs.Shifts.{low_bits, high_bits, with_fraction, no_fraction}
 use Rattle.number_order.proofs.order_with_bits.Goals as goal

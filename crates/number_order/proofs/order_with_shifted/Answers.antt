@@ -2,7 +2,6 @@
 use mathlib.Core.Path.{sym, ap, ◌∙◌}
 use Prim.Native.Nat.{ℕ, compare}
 use native.Mathlib.Omega.{arith}
-use borrow.Author.Rules.{rules}
 use Rattle.number_order.specs.Exact.{answer}
 use Rattle.number_order.proofs.Orders.{lt_compare}
 use Rattle.number_order.proofs.Shifts.{past_all, shift_fits}

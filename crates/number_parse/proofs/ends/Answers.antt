@@ -1,5 +1,4 @@
 -- `number_parse::ends` meets its contract: the test of the byte, and the end of the text.
-use borrow.Author.Rules.{rules}
 use Rattle.number_parse.proofs.Chars.{ends_past, ends_tested}
 use Rattle.number_parse.proofs.ends.Goals as goal
 

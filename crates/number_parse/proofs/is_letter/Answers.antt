@@ -1,5 +1,4 @@
 -- `number_parse::is_letter` meets its contract: the letter in either case.
-use borrow.Author.Rules.{rules}
 use Rattle.number_parse.proofs.Chars.{small_letter, other_letter}
 use Rattle.number_parse.proofs.is_letter.Goals as goal
 

@@ -1,5 +1,4 @@
 -- `number_parse::parse_i_json_int` meets its contract: the sign and what stands behind it say which law of proofs/Ints.antt answers.
-use borrow.Author.Rules.{rules}
 use Rattle.number_parse.proofs.Ints.{plus_zero, plus_positive, plus_nothing, minus_zero_lem, minus_positive, minus_nothing}
 use Rattle.number_parse.proofs.parse_i_json_int.Goals as goal
 

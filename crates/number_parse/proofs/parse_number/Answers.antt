@@ -2,7 +2,6 @@
 use Prim.Native.Nat.{◌^◌, ◌<◌}
 use native.Mathlib.Omega.{arith}
 use lib.ListN.{length}
-use borrow.Author.Rules.{rules}
 use Rattle.number_parse.specs.Parts.{WholeAt, FractionAt, ExponentAt}
 use Rattle.number_parse.proofs.Together.{whole_at, fraction_at, exponent_at, no_whole, no_fraction, no_exponent_lem, no_end, number_there}
 use Rattle.number_parse.proofs.parse_number.Goals as goal

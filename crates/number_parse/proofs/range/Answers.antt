@@ -4,7 +4,6 @@ use mir.Syntax.{w64}
 use mir.ValLaws.{to_z-of_z}
 use borrow.Author.Tests.{le-leb, lt-leb}
 use Rattle.definition.specs.Limits.{max_int}
-use Rattle.number_integers.specs.Signed.{signed}
 use Rattle.number_parse.specs.declared.IntRead.TheVariants.{Next}
 use Rattle.number_parse.proofs.Ints.{small_fits}
 use Rattle.number_parse.proofs.range.Goals as goal

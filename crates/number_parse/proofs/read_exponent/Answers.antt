@@ -1,5 +1,4 @@
 -- `number_parse::read_exponent` meets its contract: the letter, and the sign and the digits behind it.
-use borrow.Author.Rules.{rules}
 use Rattle.number_parse.specs.Parts.{LetterAt}
 use Rattle.number_parse.proofs.Exponents.{minus_power, plus_power, plain_power, without_letter}
 use Rattle.number_parse.proofs.read_exponent.Goals as goal

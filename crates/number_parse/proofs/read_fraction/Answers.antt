@@ -1,6 +1,5 @@
 -- `number_parse::read_fraction` meets its contract: the point and the digits behind it.
 use native.Mathlib.Omega.{arith}
-use borrow.Author.Rules.{rules}
 use Rattle.number_parse.proofs.Fractions.{point_alone, point_digits, no_point}
 use Rattle.number_parse.proofs.read_fraction.Goals as goal
 

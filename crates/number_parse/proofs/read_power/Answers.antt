@@ -1,5 +1,4 @@
 -- `number_parse::read_power` meets its contract: some digits, or none.
-use borrow.Author.Rules.{rules}
 use Rattle.number_parse.proofs.Exponents.{no_power, power_there}
 use Rattle.number_parse.proofs.read_power.Goals as goal
 

@@ -1,5 +1,4 @@
 -- `number_parse::read_whole` meets its contract: the sign and what stands behind it say which law of proofs/Wholes.antt answers.
-use borrow.Author.Rules.{rules}
 use Rattle.number_parse.proofs.Wholes.{plus_zero, plus_positive, plus_nothing, minus_zero_lem, minus_positive, minus_nothing}
 use Rattle.number_parse.proofs.read_whole.Goals as goal
 

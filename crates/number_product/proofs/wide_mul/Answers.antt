@@ -3,7 +3,6 @@ use mathlib.Core.Path.{◌∙◌}
 use Prim.Native.Nat.{◌*◌, ◌/◌, ◌%◌}
 use native.Mathlib.Omega.{arith}
 use Rattle.number_product.proofs.Product.{K, fits, b00, b01, b10, b11, mid_1, mid_2, hi_1, hi_2, hi_3, low, total, whole}
-use borrow.Author.Rules.{rules}
 use Rattle.number_product.proofs.wide_mul.Goals as goal
 
 pub overflow_mul-p00 : goal.overflow_mul-p00

@@ -1,7 +1,6 @@
 -- `parser_scan::both` meets its contract: the second byte is looked for behind the first.
 --
 use Rattle.parser_scan.proofs.Runs.{both_holds, both_not}
-use borrow.Author.Rules.{rules}
 use Rattle.parser_scan.proofs.both.Goals as goal
 
 pub is-requires-then-is : goal.is-requires-then-is

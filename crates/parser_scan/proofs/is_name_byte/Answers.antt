@@ -3,7 +3,6 @@
 use mathlib.Core.Path.{sym, ◌∙◌}
 use mathlib.Core.Bool.{or-true}
 use borrow.Author.Tests.{ne_eqb, eq-eqb}
-use borrow.Author.Rules.{rules}
 use Rattle.parser_scan.proofs.is_name_byte.Goals as goal
 
 pub returns-then-between : goal.returns-then-between

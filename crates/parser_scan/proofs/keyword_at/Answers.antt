@@ -2,7 +2,6 @@
 --
 use mathlib.Core.Path.{sym, ◌∙◌}
 use Rattle.parser_scan.specs.Text.{keyword_number}
-use borrow.Author.Rules.{rules}
 use Rattle.parser_scan.proofs.keyword_at.Goals as goal
 
 pub returns-then-same_bytes : goal.returns-then-same_bytes
@@ -20,15 +19,3 @@ returns-then-same_bytes-3 c = rw (sym c.same_bytes.ensures ∙ c.if-same_bytes.f
 pub returns : goal.returns
 unfolding keyword_number
 returns c = rw (sym c.same_bytes.ensures ∙ c.if-same_bytes.false, sym c.same_bytes-2.ensures ∙ c.if-same_bytes-2.false, sym c.same_bytes-3.ensures ∙ c.if-same_bytes-3.false)
-
--- LOST: the older form had, for which no goal was found:
--- slice-aggregate-same-bytes : tie.Need-slice-aggregate-same-bytes
--- slice-aggregate-same-bytes c = search rules
-
--- LOST: the older form had, for which no goal was found:
--- slice-aggregate-same-bytes-2 : tie.Need-slice-aggregate-same-bytes-2
--- slice-aggregate-same-bytes-2 c = search rules
-
--- LOST: the older form had, for which no goal was found:
--- slice-aggregate-same-bytes-3 : tie.Need-slice-aggregate-same-bytes-3
--- slice-aggregate-same-bytes-3 c = search rules

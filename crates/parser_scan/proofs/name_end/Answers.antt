@@ -1,11 +1,8 @@
 -- `parser_scan::name_end` meets its contract: the loop passes name bytes one by one.
 --
-use borrow.Author.Rules.{rules}
 use mathlib.Core.Path.{sym, ◌∙◌}
-use Prim.Native.Nat.{◌-◌}
-use lib.ListN.{length}
 use Rattle.parser_scan.specs.Text.{is_name_byte}
-use Rattle.parser_scan.proofs.Runs.{Passing, passing_start, passing_step, passing_stop, passing_end}
+use Rattle.parser_scan.proofs.Runs.{passing_start, passing_step, passing_stop, passing_end}
 use Rattle.parser_scan.proofs.name_end.Goals as goal
 
 pub loop-i-init : goal.loop-i-init

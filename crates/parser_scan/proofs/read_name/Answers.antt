@@ -5,7 +5,6 @@ use native.Mathlib.Omega.{arith}
 use borrow.Author.Tests.{not-true, not-false}
 use Rattle.parser_scan.specs.Text.{at, nothing}
 use Rattle.parser_scan.proofs.Names.{no_name_digit, no_name_other, no_name_end, name_at}
-use borrow.Author.Rules.{rules}
 use mathlib.Core.Path.{ap}
 use mathlib.Core.Bool.{not}
 use Rattle.parser_scan.proofs.read_name.Goals as goal

@@ -6,7 +6,6 @@ use Rattle.definition.specs.Grammar.Operator.{eq_operator, ne_operator, lt_opera
 use Rattle.definition.specs.Plans.{operator_byte}
 use Rattle.definition.specs.Walk.{operator_form}
 use Rattle.parser_scan.proofs.Operators.{long_operator, short_operator, no_operator}
-use borrow.Author.Rules.{rules}
 use Rattle.parser_scan.proofs.read_operator.Goals as goal
 
 pub returns-then-both : goal.returns-then-both

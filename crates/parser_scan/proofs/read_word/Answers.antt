@@ -5,7 +5,6 @@ use native.Mathlib.Omega.{arith}
 use borrow.Author.Tests.{not-true, not-false}
 use Rattle.parser_scan.specs.Text.{at, nothing}
 use Rattle.parser_scan.proofs.Names.{no_word, no_word_end, word_at}
-use borrow.Author.Rules.{rules}
 use mathlib.Core.Path.{ap}
 use mathlib.Core.Bool.{not}
 use Rattle.parser_scan.proofs.read_word.Goals as goal

@@ -1,11 +1,8 @@
 -- `parser_scan::skip_blanks` meets its contract: the loop passes blanks one by one.
 --
-use borrow.Author.Rules.{rules}
 use mathlib.Core.Path.{sym, ◌∙◌}
-use Prim.Native.Nat.{◌-◌}
-use lib.ListN.{length}
 use Rattle.definition.specs.Lexical.{is_blank}
-use Rattle.parser_scan.proofs.Runs.{Passing, passing_start, passing_step, passing_stop, passing_end, skipped}
+use Rattle.parser_scan.proofs.Runs.{passing_start, passing_step, passing_stop, passing_end, skipped}
 use Rattle.parser_scan.proofs.skip_blanks.Goals as goal
 
 pub loop-i-init : goal.loop-i-init

@@ -1,11 +1,9 @@
 -- `parser_scan::word_end` meets its contract: the loop passes function characters one by one.
 --
-use borrow.Author.Rules.{rules}
-use mathlib.Core.Path.{sym, ◌∙◌}
 use Prim.Native.Nat.{◌-◌}
 use lib.ListN.{length}
 use Rattle.definition.specs.Lexical.{is_function_char}
-use Rattle.parser_scan.proofs.Runs.{Passing, passing_start, passing_step, passing_stop, passing_end}
+use Rattle.parser_scan.proofs.Runs.{Passing}
 use Rattle.parser_scan.proofs.word_end.Given as goal
 
 abbrev pub invariant-loop-i : goal.invariant-loop-i

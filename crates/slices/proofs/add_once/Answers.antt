@@ -1,6 +1,5 @@
 -- `slices::add_once` meets its contract. A sum with n fits, since both are small.
 use native.Mathlib.Omega.{arith}
-use borrow.Author.Rules.{rules}
 use mir.Syntax.{w64}
 use mir.ValLaws.{to_z_pos, to_z-of_z}
 use Rattle.slices.proofs.Signs.{sum_fits, range_mag}

@@ -1,6 +1,5 @@
 -- `slices::given_start` meets its contract. The flag decides, and then the sign of the step.
 use native.Mathlib.Omega.{arith}
-use borrow.Author.Rules.{rules}
 use mir.Syntax.{w64}
 use lib.IntN.{pos, negsuc}
 use mir.ValLaws.{to_z_pos, to_z-of_z}

@@ -1,6 +1,5 @@
 -- `slices::given_stop` meets its contract. The flag decides, and then the sign of the step.
 use native.Mathlib.Omega.{arith}
-use borrow.Author.Rules.{rules}
 use mir.Syntax.{w64}
 use lib.IntN.{pos, negsuc, neg_ℤ, +ℤ_comm}
 use mathlib.Core.Path.{◌∙◌}

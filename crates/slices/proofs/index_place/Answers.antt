@@ -1,5 +1,4 @@
 -- `slices::index_place` meets its contract. n is added once, and the element there is the answer.
-use borrow.Author.Rules.{rules}
 use mathlib.Core.Path.{◌∙◌, ap}
 use mir.Syntax.{w64}
 use mir.ValLaws.{to_z-of_z}

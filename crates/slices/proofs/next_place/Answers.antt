@@ -1,6 +1,5 @@
 -- `slices::next_place` meets its contract. Behind the last place the walk stands still, so that no step can pass the list.
 use native.Mathlib.Omega.{arith}
-use borrow.Author.Rules.{rules}
 use Rattle.definition.specs.Limits.{max_nodes}
 use Rattle.slices.proofs.Stepping.{moved_down, moved_up, next_last, next_moved, safe_down, safe_up}
 use Rattle.slices.proofs.next_place.Goals as goal

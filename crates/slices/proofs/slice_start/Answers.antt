@@ -1,6 +1,5 @@
 -- `slices::slice_start` meets its contract. The three steps of the definition, one call each.
 use native.Mathlib.Omega.{arith}
-use borrow.Author.Rules.{rules}
 use mir.Syntax.{w64}
 use mir.ValLaws.{to_z-of_z, to_z_pos}
 use Rattle.definition.specs.Slices.{slice_start}

@@ -1,5 +1,4 @@
 -- `slices::slice_walk` meets its contract. The definition step by step; what is brought into a range lies in it.
-use borrow.Author.Rules.{rules}
 use mir.Syntax.{w64}
 use mir.ValLaws.{to_z-of_z}
 use Rattle.definition.specs.Slices.{slice_places}

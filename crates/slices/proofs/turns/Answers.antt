@@ -1,6 +1,5 @@
 -- `slices::turns` meets its contract. One division, where there is a place at all.
 use native.Mathlib.Omega.{arith}
-use borrow.Author.Rules.{rules}
 use Prim.Native.Nat.{◌-◌}
 use native.Mathlib.Nat.{div-le_self}
 use Rattle.slices.proofs.Turning.{turns_by_division}

@@ -1,5 +1,4 @@
 -- `slices::walk_between` meets its contract. The signed numbers are turned into places, and the sign of the step decides.
-use borrow.Author.Rules.{rules}
 use mir.Syntax.{w64}
 use lib.IntN.{pos, negsuc}
 use mir.ValLaws.{to_z-of_z}

@@ -1,6 +1,5 @@
 -- `slices::walk_down` meets its contract. A start at n goes on a step below it.
 use native.Mathlib.Omega.{arith}
-use borrow.Author.Rules.{rules}
 use Rattle.slices.proofs.Answers.{walk_down, walk_end, walk_end_none}
 use Rattle.slices.proofs.walk_down.Goals as goal
 

@@ -1,5 +1,4 @@
 -- `slices::walk_up` meets its contract. A step of 0 walks nowhere.
-use borrow.Author.Rules.{rules}
 use Rattle.slices.proofs.Answers.{walk_nowhere, walk_up}
 use Rattle.slices.proofs.walk_up.Goals as goal
 
