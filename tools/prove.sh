@@ -71,7 +71,7 @@ progress() {
 status=0
 watched "$log" prove "$@" || status=$?
 if [ $status -ne 0 ]; then
-    grep -E '(^|: )error|: not proved|: no proof|^rt: ' "$log" | grep -v '^rt: chose' | awk 'NR <= 10 { print substr($0, 1, 240) }' >&2 || tail -n 5 "$log" >&2
+    grep -E '(^|: )error|: not proved|: no proof|^rt: ' "$log" | grep -vE '^rt: (chose|.*: begins with)' | awk 'NR <= 10 { print substr($0, 1, 240) }' >&2 || tail -n 5 "$log" >&2
     echo "Not proved. The whole log is $log." >&2
 elif [ $SECONDS -ge 5 ]; then
     echo "$total crates are proved, in $(minutes $SECONDS)." >&2
