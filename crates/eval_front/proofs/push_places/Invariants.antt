@@ -1,0 +1,14 @@
+-- `push_places` meets its contract: the places that are left give the whole.
+use mathlib.Core.Path.{refl, ◌∙◌}
+use native.Mathlib.Omega.{arith}
+use Rattle.definition.specs.Limits.{max_nodes}
+use Rattle.slices.specs.Laws.{inside_at}
+use Rattle.eval_front.specs.Loops.{InWalked}
+use Rattle.eval_front.specs.Places.{push_bound, walked_step, walked_end}
+use Rattle.eval_front.proofs.push_places.Given as goal
+
+abbrev pub invariant-loop-w : goal.invariant-loop-w
+invariant-loop-w l = InWalked l.cap l.initial.list l.initial.a l.initial.w l.list l.a l.w
+
+abbrev pub decreases-loop-w : goal.decreases-loop-w
+decreases-loop-w l = l.w.left
