@@ -14,14 +14,14 @@ use Rattle.eval_laws.specs.Todos.{Todo, todo_start, todo_end, todo_to, at_query,
 use Rattle.eval_values.specs.declared.members.Member.TheVariants.{Nothing as Absent}
 use Rattle.eval_items.specs.Leaves.{cap_for}
 use Rattle.eval_items.specs.LeafLaws.{name_else}
-use Rattle.eval_front.specs.Visits.{Query}
+use Rattle.eval_front.specs.Visits.{Query, Given}
 use Rattle.eval_filters.specs.Queries.{found_lost}
 use Rattle.eval_filters.specs.Tests.{Left, compared, none_compares}
 use Rattle.eval_filters.specs.Kept.{Tested}
 use Rattle.eval_filters.specs.Atoms.{AtomAt, name_long, name_one, name_lost}
 use Rattle.eval_filters.specs.declared.atoms.Atom.{Atom}
 
-module _ {P L S X : List ℕ} {m q e : ℕ} (Node-in : m < node_count S) (other : kind_at S m ≡ kind_map → ⊥) {t : Atom} (b : AtomAt P q e t) where
+module _ {P L S X : List ℕ} (given : Given P L S X) {m q e : ℕ} (node_in : m < node_count S) (other : kind_at S m ≡ kind_map → ⊥) {t : Atom} (b : AtomAt P q e t) where
   module _ (R : Json) (acc want : Bits) (d : Left P L q e R (node_at S X m) acc want) (more : q < e) where
     -- the query of the test, from the node itself
     scalar_query : QueryAt P L q e R (node_at S X m) acc Value.nothing Value.nothing want (node_at S X m)
@@ -37,8 +37,8 @@ module _ {P L S X : List ℕ} {m q e : ℕ} (Node-in : m < node_count S) (other 
     scalar_found =
         let y = scalar_query in
         let w : Query P L (q + 1) = record { f = y.f; k = y.k; at = y.at } in
-        let o = name_else (name_one given Node-in w b.here) other in
-        found_lost P L S X given.tab m q Node-in _ (name_lost given Node-in w b.here Absent o refl) refl 0x19 y.f y.k y.at
+        let o = name_else (name_one given node_in w b.here) other in
+        found_lost P L S X given.tab m q node_in _ (name_lost given node_in w b.here Absent o refl) refl 0x19 y.f y.k y.at
 
     scalar_tested : t.form ≡ 1 → Left P L t.next e R (node_at S X m) false want
     scalar_tested i =

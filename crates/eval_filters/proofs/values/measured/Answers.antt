@@ -1,0 +1,23 @@
+-- `measured` meets its contract.
+use native.Mathlib.Omega.{arith}
+use mir.Syntax.{w64}
+use mir.ValLaws.{to_z_pos}
+use borrow.Author.Tests.{not-false}
+use Rattle.eval_values.specs.Values.{inside_of, parts_of}
+use Rattle.eval_items.specs.OpLaws.{length_small}
+use Rattle.eval_filters.specs.Values.{operand_in, operand_next, operand_length}
+use borrow.Author.Rules.{rules}
+use Rattle.eval_filters.proofs.values.measured.Lts as lts
+use Rattle.eval_filters.proofs.values.measured.Goals as goal
+
+pub bounds-plan-z : goal.bounds-plan-z
+bounds-plan-z c = operand_in (operand_next c.requires _ c.operand-a.ensures (not-false _ c.if-not-a.false) c.if-e-z.false)
+
+pub length-n-requires : goal.length-n-requires
+length-n-requires c = (inside_of c.args.table.now c.args.text.now c.args.pool.now c.requires.within.tab c.operand-a.result.v (c.operand-a.ensures.fine (not-false _ c.if-not-a.false)), parts_of c.args.table.now c.args.text.now c.args.pool.now c.requires.within.tab c.operand-a.result.v (c.operand-a.ensures.fine (not-false _ c.if-not-a.false)))
+
+pub overflow_cast-k : goal.overflow_cast-k
+overflow_cast-k c = omega (arith, c.length-n.ensures, length_small c.args.table.now c.args.text.now c.args.pool.now c.requires.within.tab c.requires.within.few_l c.operand-a.result.v (c.operand-a.ensures.fine (not-false _ c.if-not-a.false)))
+
+pub returns : goal.returns
+returns c = operand_length c.requires _ c.operand-a.ensures (not-false _ c.if-not-a.false) c.if-e-z.false c.if-plan-z-ne-LENGTH.false _ c.length-n.ensures _ (to_z_pos w64 _ (omega (arith, c.length-n.ensures, length_small c.args.table.now c.args.text.now c.args.pool.now c.requires.within.tab c.requires.within.few_l c.operand-a.result.v (c.operand-a.ensures.fine (not-false _ c.if-not-a.false)))))
