@@ -194,11 +194,26 @@ fn compare_operands(rt: &impl Print, a: Operand, b: Operand) -> io::Result<()> {
     }
 }
 
+// The place of the first byte x from a place on, or the end of the text.
+fn find(s: &[u8], from: usize, x: u8) -> usize
+    requires { from ≤ length s.now }
+    ensures { (from ≤ result) × (result ≤ length s.now) }
+{
+    let mut i = from;
+    while i < s.len() {
+        if s[i] == x {
+            return i;
+        }
+        i += 1;
+    }
+    i
+}
+
 fn show_comparison(rt: &impl Print, s: &[u8]) -> io::Result<()>
     requires { 2 ≤ length s.now }
 {
     let start = 2;
-    let end = program_lines::find(s, start, s.len(), b' ');
+    let end = find(s, start, b' ');
     if end < s.len() {
         let next = end + 1;
         compare_operands(rt, read_operand(&s[start..end]), read_operand(&s[next..]))?;
@@ -225,7 +240,7 @@ fn show_line(rt: &impl Print, s: &[u8]) -> io::Result<()> {
 fn run(rt: &impl Print, s: &[u8]) -> io::Result<()> {
     let mut at = 0;
     while at < s.len() {
-        let end = program_lines::find(s, at, s.len(), b'\n');
+        let end = find(s, at, b'\n');
         show_line(rt, &s[at..end])?;
         at = end + 1;
     }

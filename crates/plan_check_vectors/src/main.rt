@@ -94,6 +94,21 @@ fn decode(s: &[u8], d: &mut [u8]) -> usize
     n
 }
 
+// The place of a byte in s, or the end.
+fn find(s: &[u8], b: u8, from: usize) -> usize
+    requires { from ≤ length s.now }
+    ensures { (from ≤ result) × (result ≤ length s.now) }
+{
+    let mut i = from;
+    while i < s.len() {
+        if s[i] == b {
+            return i;
+        }
+        i += 1;
+    }
+    i
+}
+
 // The verdict on a plan and a pool is written.
 fn verdict(rt: &impl Print, code: &[u8], pool: &[u8]) -> io::Result<()> {
     if plan_check::check_plan(code, pool) {
@@ -105,7 +120,7 @@ fn verdict(rt: &impl Print, code: &[u8], pool: &[u8]) -> io::Result<()> {
 
 // The verdict on a line.
 fn line(rt: &impl Print, s: &[u8], code: &mut [u8], pool: &mut [u8]) -> io::Result<()> {
-    let b = program_lines::find(s, 0, s.len(), b' ');
+    let b = find(s, b' ', 0);
     let n = decode(&s[..b], code);
     if s.len() <= b {
         return Ok(());
@@ -118,7 +133,7 @@ fn line(rt: &impl Print, s: &[u8], code: &mut [u8], pool: &mut [u8]) -> io::Resu
 fn lines(rt: &impl Print, s: &[u8], code: &mut [u8], pool: &mut [u8]) -> io::Result<()> {
     let mut at = 0;
     while at < s.len() {
-        let e = program_lines::find(s, at, s.len(), b'\n');
+        let e = find(s, b'\n', at);
         line(rt, &s[at..e], code, pool)?;
         at = e + 1;
     }

@@ -118,11 +118,26 @@ fn verdict(rt: &impl Print, query: &[u8]) -> io::Result<()> {
     output::text(rt, b"passed\n")
 }
 
+// The end of the line that begins at `at`: the place of its line feed, or the end of the input.
+fn line_end(s: &[u8], at: usize) -> usize
+    requires { at ≤ length s.now }
+    ensures { (at ≤ result) × (result ≤ length s.now) }
+{
+    let mut i = at;
+    while i < s.len() {
+        if s[i] == b'\n' {
+            return i;
+        }
+        i += 1;
+    }
+    i
+}
+
 // The verdict on each line of the input.
 fn verdicts(rt: &impl Print, s: &[u8]) -> io::Result<()> {
     let mut at = 0;
     while at < s.len() {
-        let e = program_lines::find(s, at, s.len(), b'\n');
+        let e = line_end(s, at);
         verdict(rt, &s[at..e])?;
         at = e + 1;
     }
