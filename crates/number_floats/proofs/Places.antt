@@ -13,7 +13,8 @@ use Rattle.definition.specs.Literals.{nearest, exponent_right}
 use Rattle.number_integers.specs.Signed.{signed}
 use Rattle.number_rounding.specs.Near.{Rounded}
 use Rattle.number_rounding.specs.Bits.{NearestBits, sign_bit}
-use Rattle.number_rounding.specs.Decimal.{above, below, nearest_bits, nearest_rounded}
+use Rattle.number_rounding.specs.Decimal.{above, below}
+use Rattle.number_rounding.proofs.Decimal.{nearest_bits, nearest_rounded}
 use Rattle.number_leading.specs.Leads as leads
 use Rattle.number_floats.specs.Scaled.{Scaled}
 

@@ -1,8 +1,7 @@
 -- The bits of the nearest float: c steps of 2 ^ k units that are nearest have the bits k * 2 ^ 52 + c, or those of an infinity where that is past the largest float.
--- Assumes nothing.
-use Rattle.std.specs.Prelude.{◌≡◌, refl, ◌⊎◌, Bool, true, false, not, cond, ℕ, zero, suc, ◌+◌, ◌-◌, ◌*◌, ◌/◌, ◌^◌, ◌≤◌, ◌<◌, min, T, leb, Float}
-use Rattle.std.proofs.Common.{sym, ap, ◌∙◌, subst, ⊎_elim, le_refl, le_trans, le_of_eq, le_antisymm, lt_irrefl, lt_of_lt_of_le, lt_of_le_of_lt, lt_of_not-le, not-le_of_lt, mul-le-mul_right, mul-lt-mul_of_pos_right, le_of_mul-le-mul_right, mul-div_cancel, eq-or-lt_of_le, arith, leb→le, lit<, pow-add, pow_pos, pow_mono}
-use Rattle.std.proofs.Math.Dec.{nleb→lt}
+-- That they are so is in proofs/Bits. Assumes nothing.
+use Rattle.std.specs.Prelude.{◌≡◌, refl, ◌⊎◌, Bool, cond, ℕ, zero, suc, ◌+◌, ◌-◌, ◌*◌, ◌/◌, ◌^◌, ◌≤◌, ◌<◌, min, Float}
+use Rattle.std.proofs.Common.{sym, ap, ◌∙◌, subst, ⊎_elim, le_refl, le_trans, le_of_eq, le_antisymm, lt_irrefl, lt_of_lt_of_le, lt_of_le_of_lt, lt_of_not-le, not-le_of_lt, mul-le-mul_right, mul-lt-mul_of_pos_right, le_of_mul-le-mul_right, mul-div_cancel, eq-or-lt_of_le, arith, lit<, pow-add, pow_pos, pow_mono}
 use Rattle.std.specs.Float.{binary64}
 use Rattle.std.specs.Float.Ieee.{size, units, round, to_bits, low}
 use Rattle.std.specs.Float.Ieee.Digits.{size-lt, size-le}
@@ -10,8 +9,7 @@ use Rattle.std.specs.Float.Ieee.Exact.{HasValue, units_val}
 use Rattle.std.specs.Float.Ieee.Fits.{round_is}
 use Rattle.std.specs.Float.Ieee.Order.{drop, kept}
 use Rattle.std.specs.Float.Ieee.Scale.{grid, overflow}
-use Rattle.number_rounding.specs.Round.{kept_le, full, grid_nearest}
-use Rattle.number_rounding.specs.Unique.{Magnitude, carry, next, exponents, one_nearest, bits_of, bits_are}
+use Rattle.number_rounding.specs.Unique.{Magnitude, carry, next, exponents, bits_of, bits_are}
 use Rattle.number_rounding.specs.Decided.{Best}
 
 -- the bits of an infinity without its sign: one more than those of the largest float
@@ -22,21 +20,12 @@ infinity = 2047 * 2 ^ 52
 abbrev pub sign_bit : Bool → ℕ
 sign_bit s = cond s (2 ^ 63) 0
 
--- ---- the nearest number of steps is what `round` keeps
+-- ---- numbers of steps
 
 -- Up to 2 ^ 53 steps are a magnitude.
 pub capped : (c k : ℕ) → c ≤ 2 ^ 53 → Magnitude (c * 2 ^ k)
 capped zero k h = record { q = 0; k = k; is = refl; fit = lit< tt }
 capped (suc c) k h = next c k h
-
-pub kept_steps : (a b c k : ℕ) → 0 < b → Best a b c k → c * 2 ^ k ≡ grid binary64 a b
-kept_steps a b c k B r =
-    let n = a * 2 ^ low binary64 in
-    one_nearest a b B (c * 2 ^ k) (grid binary64 a b) (capped c k r.fit) (capped (kept 53 n b) (drop 53 n b) (kept_le 53 n b (omega arith) B)) r.nearest (grid_nearest a b B)
-
--- What `round` keeps is itself a nearest number of steps.
-pub kept_best : (a b : ℕ) → 0 < b → Best a b (kept 53 (a * 2 ^ low binary64) b) (drop 53 (a * 2 ^ low binary64) b)
-kept_best a b B = let n = a * 2 ^ low binary64 in record { fit = kept_le 53 n b (omega arith) B; full = full 53 n b (omega arith) B; nearest = grid_nearest a b B }
 
 -- ---- the bits of a number of steps
 
@@ -69,7 +58,7 @@ top_bits s c k e = ap (bits_of s) (carry c k e) ∙ normal_bits s (2 ^ 52) (suc 
     same : (t k c : ℕ) → c ≡ 2 ^ 53 → t + suc k * 2 ^ 52 + 2 ^ 52 ≡ t + k * 2 ^ 52 + c
     same t k c e = omega arith
 
-steps_bits : (s : Bool) (c k : ℕ) → c ≤ 2 ^ 53 → (k ≡ 0) ⊎ (2 ^ 52 ≤ c) → bits_of s (c * 2 ^ k) ≡ sign_bit s + k * 2 ^ 52 + c
+pub steps_bits : (s : Bool) (c k : ℕ) → c ≤ 2 ^ 53 → (k ≡ 0) ⊎ (2 ^ 52 ≤ c) → bits_of s (c * 2 ^ k) ≡ sign_bit s + k * 2 ^ 52 + c
 steps_bits s c k h f =
     ⊎_elim (λ (e : c ≡ 2 ^ 53). top_bits s c k e) (λ (l : c < 2 ^ 53). ⊎_elim (λ (z : k ≡ 0). low_bits s c k z l) (λ (g : 2 ^ 52 ≤ c). normal_bits s c k g l) f) (eq-or-lt_of_le h)
 
@@ -108,35 +97,10 @@ past s q k h = rw (borrow.Author.Tests.le-ltb (q * 2 ^ k) (overflow binary64) h)
 pub round_past : (s : Bool) (a b : ℕ) → overflow binary64 ≤ grid binary64 a b → to_bits binary64 (round binary64 s a b) ≡ sign_bit s + infinity
 round_past s a b h = let n = a * 2 ^ low binary64 in ap (to_bits binary64) (round_is binary64 s a b) ∙ past s (kept 53 n b) (drop 53 n b) h
 
-round_within : (s : Bool) (a b : ℕ) → grid binary64 a b < overflow binary64 → to_bits binary64 (round binary64 s a b) ≡ bits_of s (grid binary64 a b)
+pub round_within : (s : Bool) (a b : ℕ) → grid binary64 a b < overflow binary64 → to_bits binary64 (round binary64 s a b) ≡ bits_of s (grid binary64 a b)
 round_within s a b h =
     let n = a * 2 ^ low binary64 in
     bits_are (round binary64 s a b) s (grid binary64 a b) (subst (λ (z : Float). HasValue z s (grid binary64 a b) (2 ^ low binary64)) (sym (round_is binary64 s a b)) (units_val binary64 s (kept 53 n b) (drop 53 n b) h))
-
--- The bits of the nearest float, by its number of steps.
-pub round_bits : (s : Bool) (a b c k : ℕ) → 0 < b → Best a b c k → to_bits binary64 (round binary64 s a b) ≡ sign_bit s + min (k * 2 ^ 52 + c) infinity
-round_bits s a b c k B r = go (leb (overflow binary64) (c * 2 ^ k)) (leb→le (overflow binary64) (c * 2 ^ k)) (nleb→lt (overflow binary64) (c * 2 ^ k))
-  where
-    e : c * 2 ^ k ≡ grid binary64 a b
-    e = kept_steps a b c k B r
-
-    small : (t x : ℕ) → x < infinity → t + x ≡ t + min x infinity
-    small t x h = omega arith
-
-    large : (t x : ℕ) → infinity ≤ x → t + infinity ≡ t + min x infinity
-    large t x h = omega arith
-
-    sum : (t x y : ℕ) → t + x + y ≡ t + (x + y)
-    sum t x y = omega arith
-
-    go : (v : Bool) → (T v → overflow binary64 ≤ c * 2 ^ k) → (T (not v) → c * 2 ^ k < overflow binary64) → to_bits binary64 (round binary64 s a b) ≡ sign_bit s + min (k * 2 ^ 52 + c) infinity
-    go true h l = round_past s a b (le_trans (h tt) (le_of_eq e)) ∙ large (sign_bit s) (k * 2 ^ 52 + c) (over c k r.fit r.full (h tt))
-    go false h l =
-        round_within s a b (lt_of_le_of_lt (le_of_eq (sym e)) (l tt))
-        ∙ ap (bits_of s) (sym e)
-        ∙ steps_bits s c k r.fit r.full
-        ∙ sum (sign_bit s) (k * 2 ^ 52) c
-        ∙ small (sign_bit s) (k * 2 ^ 52 + c) (under c k r.fit r.full (l tt))
 
 -- r is the bits of the float nearest to a / b, an infinity's where that is past the largest float
 pub record NearestBits (a b r : ℕ) : Type 0 where
@@ -144,7 +108,3 @@ pub record NearestBits (a b r : ℕ) : Type 0 where
   pub k : ℕ
   pub best : Best a b c k
   pub is : r ≡ min (k * 2 ^ 52 + c) infinity
-
--- With the bit of the sign they are the bits that `round` gives.
-pub bits_of_round : (s : Bool) (a b r : ℕ) → 0 < b → NearestBits a b r → to_bits binary64 (round binary64 s a b) ≡ sign_bit s + r
-bits_of_round s a b r B n = round_bits s a b n.c n.k B n.best ∙ ap (λ (z : ℕ). sign_bit s + z) (sym n.is)

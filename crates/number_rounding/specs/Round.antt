@@ -1,7 +1,7 @@
--- The library's `round` gives the nearest float, a tie to the even one, where nothing overflows. Assumes nothing.
+-- What the library's `round` keeps is nearest, a tie to the even one; proofs/Round makes it the float where nothing overflows. Assumes nothing.
 -- In units of the smallest float a fraction is n / b. `round` drops k = `drop p n b` binary digits of its whole part and keeps the whole number nearest to n / (b * 2 ^ k),
 -- `kept p n b`. So it is nearest among the multiples of 2 ^ k; and what is no multiple of 2 ^ k lies below the least number of p digits there, and is farther.
-use Rattle.std.specs.Prelude.{◌≡◌, refl, ◌⊎◌, Bool, true, false, not, T, leb, Float}
+use Rattle.std.specs.Prelude.{◌≡◌, refl, ◌⊎◌, Bool, true, false, not, T, leb}
 use Rattle.std.proofs.Common.{sym, ◌∙◌, inl, inr, ⊎_elim, le_trans, le_of_eq, lt_of_le_of_lt, mul_comm, mul_assoc, suc-mul, mul-pos, mul-le-mul_right, mul-lt-mul_of_pos_right, div-add-mod', mod-lt, le-div_iff_mul-le, arith, leb→le, pow_pos, pow_mono}
 use Rattle.std.proofs.Math.Path.{ap, subst}
 use Prim.Native.Nat.{ℕ, zero, suc, ◌+◌, ◌-◌, ◌*◌, ◌/◌, ◌%◌, ◌^◌, ◌≤◌, ◌<◌, zero-le, compare, Ordering}
@@ -9,15 +9,14 @@ use Rattle.std.proofs.Math.Nat.{lt_of_lt_of_le, eq_of_mul-eq-mul_right, div-div-
 use Rattle.std.proofs.Math.Dec.{nleb→lt}
 use Rattle.std.proofs.Math.Pow.{pow-add}
 use Rattle.std.specs.Float.{binary64}
-use Rattle.std.specs.Float.Ieee.{low, size, nearest, round}
+use Rattle.std.specs.Float.Ieee.{low, size, nearest}
 use Rattle.std.specs.Float.Ieee.Digits.{size_reaches, back}
-use Rattle.std.specs.Float.Ieee.Exact.{HasValue, units_val}
-use Rattle.std.specs.Float.Ieee.Fits.{nearest-le, round_is, kept-lt}
+use Rattle.std.specs.Float.Ieee.Fits.{nearest-le, kept-lt}
 use Rattle.std.specs.Float.Ieee.Nearest.{closest, nearest-ge}
 use Rattle.std.specs.Float.Ieee.Order.{drop, kept}
-use Rattle.std.specs.Float.Ieee.Scale.{grid, overflow}
+use Rattle.std.specs.Float.Ieee.Scale.{grid}
 use Rattle.number_integers.specs.Compare.{Says, said}
-use Rattle.number_rounding.specs.Near.{gap, Nearest, Rounded}
+use Rattle.number_rounding.specs.Near.{gap, Nearest}
 
 -- ---- the whole number nearest to n / u
 
@@ -150,7 +149,7 @@ full p n b P B = go (drop p n b) refl
     go zero e = inl e
     go (suc k) e = inr (kept_ge p n b P B (omega arith))
 
--- What `round` keeps, before it is compared with the largest float, is nearest to a / b, a tie to the even one;
+-- What `round` keeps, before it is compared with the largest float, is nearest to a / b, a tie to the even one.
 pub grid_nearest : (a b : ℕ) → 0 < b → Nearest a b (grid binary64 a b)
 unfolding Wins
 grid_nearest a b B =
@@ -167,14 +166,4 @@ grid_nearest a b B =
             fit = kept_le 53 n b (omega arith) B;
             full = full 53 n b (omega arith) B;
           };
-    }
-
--- so `round` gives the float nearest to a / b, with the sign, where that is no overflow.
-pub round_nearest : (s : Bool) (a b : ℕ) → 0 < b → grid binary64 a b < overflow binary64 → Rounded (round binary64 s a b) s a b
-round_nearest s a b B h =
-    let n = a * 2 ^ low binary64 in
-    record {
-      X = grid binary64 a b;
-      value = subst (λ (z : Float). HasValue z s (grid binary64 a b) (2 ^ low binary64)) (sym (round_is binary64 s a b)) (units_val binary64 s (kept 53 n b) (drop 53 n b) h);
-      nearest = grid_nearest a b B;
     }

@@ -1,19 +1,18 @@
--- Only one float is nearest to a fraction with ties to even: what `Rounded` says pins the float. Assumes nothing.
+-- What makes only one float nearest to a fraction with ties to even, which proofs/Unique concludes. Assumes nothing.
 -- Two magnitudes that are both nearest are equally near. If they differed, no magnitude could lie between them, and both would have an even significand;
 -- but of two neighbouring magnitudes one has an odd significand.
 use Rattle.std.specs.Prelude.{◌≡◌, refl, ◌⊎◌, Bool, true, false, not, cond, ◌&&◌, ℕ, zero, suc, ◌+◌, ◌-◌, ◌*◌, ◌/◌, ◌%◌, ◌^◌, ◌≤◌, ◌<◌, ℤ, pos, negsuc, Float}
-use Rattle.std.proofs.Common.{sym, ap, ◌∙◌, subst, inr, ⊎_elim, arith, eqb-true, pow-add, pow_pos, pow_mono}
+use Rattle.std.proofs.Common.{sym, ap, ◌∙◌, inr, ⊎_elim, arith, eqb-true, pow-add, pow_pos, pow_mono}
 use native.Mathlib.Nat.{le_refl, le_trans, le_of_eq, le_of_lt, le_antisymm, lt_irrefl, lt_of_lt_of_le, lt_of_le_of_lt, lt_of_mul-lt-mul_right, le_of_mul-le-mul_right, mul_assoc, mul_right_comm, mul-one, zero-mul, mul-le-mul_right, mul-lt-mul_of_pos_right, mul-div_cancel, eq_of_mul-eq-mul_right, pow-succ'}
 use Rattle.std.proofs.lemmas.Bool.{eqb-false}
 use lib.Dec.{T, leb, leb→le, nleb→lt, eqb, ltb, ltb→lt}
 use Rattle.std.proofs.Math.Pow.{pow-lt}
 use Rattle.std.specs.Float.{nan, inf, fin, binary64}
-use Rattle.std.specs.Float.Ieee.{up, down, size, fits, to_bits, of_bits}
-use Rattle.std.specs.Float.Ieee.Bits.{of_bits-to_bits}
+use Rattle.std.specs.Float.Ieee.{up, down, size, fits, to_bits}
 use Rattle.std.specs.Float.Ieee.Digits.{back}
 use Rattle.std.specs.Float.Ieee.Exact.{HasValue}
 use Rattle.std.specs.Float.Ieee.Fits.{and_l, and_r, down_pos}
-use Rattle.number_rounding.specs.Near.{gap, EvenDigits, Nearest, Rounded}
+use Rattle.number_rounding.specs.Near.{gap, EvenDigits}
 
 -- X units are the magnitude of a float, if that is no overflow
 pub record Magnitude (X : ℕ) : Type 0 where
@@ -24,16 +23,16 @@ pub record Magnitude (X : ℕ) : Type 0 where
 
 -- ---- equally near means that the fraction lies in the middle, and what lies between is nearer
 
-middle : (n x y : ℕ) → x < y → gap n x ≡ gap n y → x + y ≡ n + n
+pub middle : (n x y : ℕ) → x < y → gap n x ≡ gap n y → x + y ≡ n + n
 middle n x y h e = omega arith
 
-between : (n x y z : ℕ) → x + y ≡ n + n → x < z → z < y → gap n z < gap n x
+pub between : (n x y z : ℕ) → x + y ≡ n + n → x < z → z < y → gap n z < gap n x
 between n x y z e h k = omega arith
 
 -- ---- the significand of an even magnitude, with at most 53 digits
 
 -- the same with 2 ^ 53 written as 2 ^ 52 at the next exponent
-record Even (X : ℕ) : Type 0 where
+pub record Even (X : ℕ) : Type 0 where
   pub q : ℕ
   pub k : ℕ
   pub is : X ≡ q * 2 ^ k
@@ -45,7 +44,7 @@ record Even (X : ℕ) : Type 0 where
 pub carry : (q k : ℕ) → q ≡ 2 ^ 53 → q * 2 ^ k ≡ 2 ^ 52 * 2 ^ suc k
 carry q k e = ap (λ (z : ℕ). z * 2 ^ k) e ∙ mul_assoc (2 ^ 52) 2 (2 ^ k) ∙ ap (λ (z : ℕ). 2 ^ 52 * z) (sym (pow-succ' 2 k))
 
-normal : (X : ℕ) → EvenDigits X → Even X
+pub normal : (X : ℕ) → EvenDigits X → Even X
 normal X d = go (eqb d.q (2 ^ 53)) refl
   where
     go : (t : Bool) → eqb d.q (2 ^ 53) ≡ t → Even X
@@ -100,59 +99,12 @@ module _ (X Y : ℕ) (x : Even X) (y : Even Y) (l : X < Y) (m : Y ≤ suc x.q * 
       let b : 2 ^ 52 * 2 ^ suc y.k ≤ x.q * 2 ^ x.k = le_trans (native.Mathlib.Nat.mul-le-mul_left (2 ^ 52) (pow_mono h)) (mul-le-mul_right (2 ^ x.k) g) in
       lt_irrefl X (le_trans l (le_trans (le_of_eq y.is) (le_trans (le_of_lt a) (le_trans b (le_of_eq (sym x.is))))))
 
-  apart : ⊥
+  pub apart : ⊥
   apart = go (leb x.k y.k) (leb→le x.k y.k) (nleb→lt x.k y.k)
     where
       go : (t : Bool) → (T t → x.k ≤ y.k) → (T (not t) → y.k < x.k) → ⊥
       go true h k = on_grid (h tt)
       go false h k = off_grid (k tt)
-
--- ---- two nearest magnitudes are one
-
-module _ (a b : ℕ) (B : 0 < b) where
-  -- both nearest, unequal and in this order: impossible
-  in_order : (X Y : ℕ) → Nearest a b X → gap (a * 2 ^ 1074) (X * b) ≡ gap (a * 2 ^ 1074) (Y * b) → EvenDigits X → EvenDigits Y → X < Y → ⊥
-  in_order X Y r g d f l =
-      let x = normal X d in
-      let z = suc x.q * 2 ^ x.k in
-      let w = next x.q x.k x.fit in
-      let n = a * 2 ^ 1074 in
-      let lo : X < z = lt_of_le_of_lt (le_of_eq x.is) (mul-lt-mul_of_pos_right (le_refl (suc x.q)) (pow_pos x.k)) in
-      let mid : X * b + Y * b ≡ n + n = middle n (X * b) (Y * b) (mul-lt-mul_of_pos_right l B) g in
-      let near : gap n (X * b) ≤ gap n (z * b) = subst (λ (v : ℕ). gap n (X * b) ≤ gap n (v * b)) (sym w.is) (r.near w.q w.k w.fit) in
-      apart X Y x (normal Y f) l (upto z lo mid near)
-    where
-      upto : (z : ℕ) → X < z → X * b + Y * b ≡ a * 2 ^ 1074 + a * 2 ^ 1074 → gap (a * 2 ^ 1074) (X * b) ≤ gap (a * 2 ^ 1074) (z * b) → Y ≤ z
-      upto z lo mid near = go (leb Y z) (leb→le Y z) (nleb→lt Y z)
-        where
-          go : (t : Bool) → (T t → Y ≤ z) → (T (not t) → z < Y) → Y ≤ z
-          go true h k = h tt
-          go false h k =
-              let c = between (a * 2 ^ 1074) (X * b) (Y * b) (z * b) mid (mul-lt-mul_of_pos_right lo B) (mul-lt-mul_of_pos_right (k tt) B) in
-              absurd (lt_irrefl (gap (a * 2 ^ 1074) (z * b)) (lt_of_lt_of_le c near))
-
-  pub one_nearest : (X Y : ℕ) → Magnitude X → Magnitude Y → Nearest a b X → Nearest a b Y → X ≡ Y
-  one_nearest X Y u v r s = go (eqb X Y) refl
-    where
-      n : ℕ
-      n = a * 2 ^ 1074
-
-      g : gap n (X * b) ≡ gap n (Y * b)
-      g =
-          le_antisymm (subst (λ (z : ℕ). gap n (X * b) ≤ gap n (z * b)) (sym v.is) (r.near v.q v.k v.fit))
-          (subst (λ (z : ℕ). gap n (Y * b) ≤ gap n (z * b)) (sym u.is) (s.near u.q u.k u.fit))
-
-      go : (t : Bool) → eqb X Y ≡ t → X ≡ Y
-      go true e = eqb-true X Y e
-      go false e =
-          let d = eqb-false X Y e in
-          let x = r.tie v.q v.k v.fit (g ∙ ap (λ (z : ℕ). gap n (z * b)) v.is) (λ w. d (w ∙ sym v.is)) in
-          let y = s.tie u.q u.k u.fit (sym g ∙ ap (λ (z : ℕ). gap n (z * b)) u.is) (λ w. d (sym (w ∙ sym u.is))) in
-          absurd (order (leb X Y) (leb→le X Y) (nleb→lt X Y) d x y)
-        where
-          order : (t : Bool) → (T t → X ≤ Y) → (T (not t) → Y < X) → (X ≡ Y → ⊥) → EvenDigits X → EvenDigits Y → ⊥
-          order true h k d x y = in_order X Y r g x y (lib.Arith.lt_of_le-ne (h tt) d)
-          order false h k d x y = in_order Y X s (sym g) y x (k tt)
 
 -- ---- the magnitude of a float
 
@@ -224,13 +176,3 @@ bits_are (inf t) s X h = absurd h
 bits_are (fin t m e) s X h =
     let n : m * up e * 2 ^ 1074 / down e ≡ X = ap (λ (z : ℕ). z / down e) h.1 ∙ mul-div_cancel X (down_pos e) in
     ap (λ (z : ℕ). cond t (2 ^ 63) 0 + (size z - 53) * 2 ^ 52 + z / 2 ^ (size z - 53)) n ∙ ap (λ (z : Bool). cond z (2 ^ 63) 0 + (size X - 53) * 2 ^ 52 + X / 2 ^ (size X - 53)) h.0
-
--- Two floats that are both nearest to a fraction, with the same sign, have the same bits.
-pub same_bits : (x y : Float) (s : Bool) (a b : ℕ) → 0 < b → T (fits binary64 x) → T (fits binary64 y) → Rounded x s a b → Rounded y s a b → to_bits binary64 x ≡ to_bits binary64 y
-same_bits x y s a b B f g u v =
-    let e : u.X ≡ v.X = one_nearest a b B u.X v.X (magnitude x s u.X f u.value) (magnitude y s v.X g v.value) u.nearest v.nearest in
-    bits_are x s u.X u.value ∙ ap (bits_of s) e ∙ sym (bits_are y s v.X v.value)
-
--- So they are one float.
-pub one_float : (x y : Float) (s : Bool) (a b : ℕ) → 0 < b → T (fits binary64 x) → T (fits binary64 y) → Rounded x s a b → Rounded y s a b → x ≡ y
-one_float x y s a b B f g u v = sym (of_bits-to_bits binary64 x f) ∙ ap (of_bits binary64) (same_bits x y s a b B f g u v) ∙ of_bits-to_bits binary64 y g

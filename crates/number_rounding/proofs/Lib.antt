@@ -1,0 +1,4 @@
+pub mod Round
+pub mod Unique
+pub mod Bits
+pub mod Decimal
