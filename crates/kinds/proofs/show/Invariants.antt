@@ -1,5 +1,5 @@
 -- The kinds are passed in turn.
-use Rattle.std.proofs.Common.{length, ◌≡◌, ◌≤◌, ◌-◌, ◌+◌}
+use Rattle.std.proofs.Common.{◌≤◌, ◌-◌}
 use Rattle.kinds.proofs.show.Given as goal
 
 abbrev pub invariant-loop-k : goal.invariant-loop-k
