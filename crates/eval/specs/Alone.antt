@@ -2,7 +2,7 @@
 -- the pool, S the table, X the text; v is what is lent. Assumes nothing.
 use Rattle.std.specs.Prelude.{ℕ, ◌+◌, ◌*◌, ◌≤◌, ◌<◌, ◌≡◌, List, [], length, get_or}
 use Rattle.std.proofs.Common.{arith}
-use Rattle.std.specs.Borrow.{Bor}
+use Rattle.std.specs.Borrow.{Bor, MutBor}
 use Rattle.definition.specs.Limits.{max_plan}
 use Rattle.definition.specs.Forms.Selectors.{one}
 use Rattle.definition.specs.Plans.{code_selector}
@@ -47,7 +47,7 @@ module _ {v : List (Bor (List ℕ))} {node pc : ℕ} {s l : List ℕ} (a : AskEn
       pub enter_selector : AskSelector v node (pc + 3) rest
       enter_selector = record { node_in = a.segment.node_in; selects = selects_at a.segment.query }
 
-      pub enter_done : {l₀ : Bor (List ℕ)} {s' : List ℕ} {l' : Bor (List ℕ)} → Steady s l₀ s' l' → DoneSelector v node (pc + 3) rest s l₀.now s' l'.now → Entered v node pc s l₀ s' l'
+      pub enter_done : {l₀ : MutBor (List ℕ)} {s' : List ℕ} {l' : MutBor (List ℕ)} → Steady s l₀ s' l' → DoneSelector v node (pc + 3) rest s l₀.now s' l'.now → Entered v node pc s l₀ s' l'
       unfolding eval_selectors selects_at
       enter_done k d =
           record {

@@ -3,7 +3,7 @@
 use Rattle.std.specs.Prelude.{ℕ, ◌+◌, ◌-◌, ◌≤◌, ◌<◌, ◌≡◌, refl, List, [], Bool as Bits, true, false, ltb, get_or, set}
 use Rattle.std.proofs.Common.{sym, ap, ◌∙◌, subst, arith, ltb-true, ltb-false}
 use Rattle.std.proofs.Math.ListN.{length}
-use Rattle.std.specs.Borrow.{Bor}
+use Rattle.std.specs.Borrow.{Bor, MutBor}
 use Rattle.definition.specs.Limits.{max_plan}
 use Rattle.definition.specs.Values.{Json}
 use Rattle.definition.specs.Forms.{Segments, Selectors}
@@ -167,14 +167,14 @@ module _ {v : List (Bor (List ℕ))} {s l : List ℕ} {i e pc : ℕ} (a : Asked 
     flats_scalars = flats_done (record { low = omega arith; high = c.high q.upto; room = a.room; goes = λ x R C r k. refl })
 
 -- the children that are left
-pub record InDescent (v : List (Bor (List ℕ))) (pc e j₀ : ℕ) (s₀ : List ℕ) (l₀ : Bor (List ℕ)) (s : List ℕ) (l : Bor (List ℕ)) (j : ℕ) : Type 0 where
+pub record InDescent (v : List (Bor (List ℕ))) (pc e j₀ : ℕ) (s₀ : List ℕ) (l₀ : MutBor (List ℕ)) (s : List ℕ) (l : MutBor (List ℕ)) (j : ℕ) : Type 0 where
   pub low : j₀ ≤ j
   pub high : j ≤ e
   pub going : Going (descent v pc j₀ e) (descent v pc j e) s₀ l₀ s l
 
-module _ {v : List (Bor (List ℕ))} {pc e j₀ : ℕ} {s₀ : List ℕ} {l₀ : Bor (List ℕ)} {s : List ℕ} {l : Bor (List ℕ)} {j : ℕ} (t : InDescent v pc e j₀ s₀ l₀ s l j) where
+module _ {v : List (Bor (List ℕ))} {pc e j₀ : ℕ} {s₀ : List ℕ} {l₀ : MutBor (List ℕ)} {s : List ℕ} {l : MutBor (List ℕ)} {j : ℕ} (t : InDescent v pc e j₀ s₀ l₀ s l j) where
   -- one child's descent, and those behind it that need no call
-  pub descent_again : {s₁ s₂ : List ℕ} {l₁ l₂ : Bor (List ℕ)} {r : ℕ} → j < e → Steady s l s₁ l₁ → at_of s₁ ≤ cap_of s + 1 → DoneDescent v j pc s l.now s₁ l₁.now
+  pub descent_again : {s₁ s₂ : List ℕ} {l₁ l₂ : MutBor (List ℕ)} {r : ℕ} → j < e → Steady s l s₁ l₁ → at_of s₁ ≤ cap_of s + 1 → DoneDescent v j pc s l.now s₁ l₁.now
       → Steady s₁ l₁ s₂ l₂ → DoneFlats v (j + 1) e pc s₁ l₁.now s₂ l₂.now r → InDescent v pc e j₀ s₀ l₀ s₂ l₂ r
   descent_again {r = r} h k b d k₂ f =
       let c = f.low in
@@ -190,7 +190,7 @@ module _ {v : List (Bor (List ℕ))} {pc e j₀ : ℕ} {s₀ : List ℕ} {l₀ :
   descent_ended h = going_end t.going (λ x R σ. over_end x.q _ (below x.ss _) (table_of v) (text_of v) j e σ h)
 
 -- the node, and then all below each of its children
-module _ {v : List (Bor (List ℕ))} {node pc first n : ℕ} {s s₁ s₂ : List ℕ} {l₀ l₁ l₂ : Bor (List ℕ)} {j : ℕ} (a : Asked v s l₀.now) (q : AskDescent v node pc) (g : Range (table_of v) node first n) where
+module _ {v : List (Bor (List ℕ))} {node pc first n : ℕ} {s s₁ s₂ : List ℕ} {l₀ l₁ l₂ : MutBor (List ℕ)} {j : ℕ} (a : Asked v s l₀.now) (q : AskDescent v node pc) (g : Range (table_of v) node first n) where
   pub descent_done : (s₃ l₃ : List ℕ) → DoneSelectors v node pc s l₀.now s₁ l₁.now → Steady s l₀ s₁ l₁ → DoneFlats v first (first + n) pc s₁ l₁.now s₂ l₂.now j → Steady s₁ l₁ s₂ l₂
       → Gives (Descends (plan_of v) (pool_of v) pc) (descent v pc j (first + n)) s₂ l₂.now s₃ l₃ → DoneDescent v node pc s l₀.now s₃ l₃
   descent_done s₃ l₃ d k f k₂ h =
@@ -205,7 +205,7 @@ module _ {v : List (Bor (List ℕ))} {node pc first n : ℕ} {s s₁ s₂ : List
 -- ---- the selectors of a segment
 
 -- the selectors that are left of each segment that stands there
-pub record InSelectors (v : List (Bor (List ℕ))) (node pc rest : ℕ) (s₀ : List ℕ) (l₀ : Bor (List ℕ)) (s : List ℕ) (l : Bor (List ℕ)) (m p : ℕ) : Type 0 where
+pub record InSelectors (v : List (Bor (List ℕ))) (node pc rest : ℕ) (s₀ : List ℕ) (l₀ : MutBor (List ℕ)) (s : List ℕ) (l : MutBor (List ℕ)) (m p : ℕ) : Type 0 where
   pub later : pc + 3 ≤ p
   pub left : Parted (plan_of v) (pool_of v) pc → Selectors
   pub k : Parted (plan_of v) (pool_of v) pc → ℕ
@@ -213,7 +213,7 @@ pub record InSelectors (v : List (Bor (List ℕ))) (node pc rest : ℕ) (s₀ : 
   pub going : Going (λ x R. go x.parts.q (node_at (table_of v) (text_of v) R) (eval_selectors x.parts.ss (node_at (table_of v) (text_of v) R) (node_at (table_of v) (text_of v) node)))
       (λ x R. go x.parts.q (node_at (table_of v) (text_of v) R) (eval_selectors (left x) (node_at (table_of v) (text_of v) R) (node_at (table_of v) (text_of v) node))) s₀ l₀ s l
 
-module _ {v : List (Bor (List ℕ))} {node pc : ℕ} {s₀ : List ℕ} (l₀ : Bor (List ℕ)) (a : Asked v s₀ l₀.now) (q : AskSelectors v node pc) where
+module _ {v : List (Bor (List ℕ))} {node pc : ℕ} {s₀ : List ℕ} (l₀ : MutBor (List ℕ)) (a : Asked v s₀ l₀.now) (q : AskSelectors v node pc) where
   -- some segment that stands there
   abbrev asked_parts : Parted (plan_of v) (pool_of v) pc
   asked_parts = parted_at a.given.few_p q.query q.going
@@ -227,7 +227,7 @@ module _ {v : List (Bor (List ℕ))} {node pc : ℕ} {s₀ : List ℕ} (l₀ : B
   pub selectors_start : (m rest : ℕ) → Word 2 (plan_of v) (pc + 1) m → DoneSkip (plan_of v) (pc + 3) m rest → InSelectors v node pc rest s₀ l₀ s₀ l₀ m (pc + 3)
   selectors_start m rest w d = record { later = omega arith; left = λ x. x.parts.ss; k = λ x. x.k; stands = λ x. standing_of x.parts m rest w d; going = going_start _ s₀ l₀ a }
 
-  module _ {rest : ℕ} {s : List ℕ} {l : Bor (List ℕ)} {m p : ℕ} (t : InSelectors v node pc rest s₀ l₀ s l m p) where
+  module _ {rest : ℕ} {s : List ℕ} {l : MutBor (List ℕ)} {m p : ℕ} (t : InSelectors v node pc rest s₀ l₀ s l m p) where
     pub selectors_asked : AskSelector v node p rest
     selectors_asked =
         let x = asked_parts in
@@ -242,7 +242,7 @@ module _ {v : List (Bor (List ℕ))} {node pc : ℕ} {s₀ : List ℕ} (l₀ : B
     selectors_in = standing_in (t.stands asked_parts)
 
     -- one of several is done
-    module _ (h : 1 < m) {s' : List ℕ} {l' : Bor (List ℕ)} (k : Steady s l s' l') (b : at_of s' ≤ cap_of s + 1) (d : DoneSelector v node p rest s l.now s' l'.now) where
+    module _ (h : 1 < m) {s' : List ℕ} {l' : MutBor (List ℕ)} (k : Steady s l s' l') (b : at_of s' ≤ cap_of s + 1) (d : DoneSelector v node p rest s l.now s' l'.now) where
       others : Parted (plan_of v) (pool_of v) pc → Selectors
       others x = (fore (t.stands x) h).others
 

@@ -1,7 +1,7 @@
 -- The nodes of a range whose test is told in cells, some at a time: the invariant of the loop over them, and its turns. v is what is lent. Assumes nothing.
 use Rattle.std.specs.Prelude.{ℕ, ◌+◌, ◌-◌, ◌≤◌, ◌<◌, ◌≡◌, refl, List, Bool as Bits, true, false, ltb, length, get_or, set}
 use Rattle.std.proofs.Common.{sym, ◌∙◌, subst, arith, ltb-true, ltb-false}
-use Rattle.std.specs.Borrow.{Bor}
+use Rattle.std.specs.Borrow.{Bor, MutBor}
 use Rattle.definition.specs.Forms.{Test}
 use Rattle.definition.specs.Tables.{node_at}
 use Rattle.definition.specs.Evaluation.{eval_test}
@@ -24,7 +24,7 @@ use Rattle.eval.specs.Loops.{DoneSaid}
 use Rattle.eval.specs.declared.Said.{Said}
 
 -- node j is the next; the cells from b up to k are known
-pub record InCells (v : List (Bor (List ℕ))) (i e p z rest : ℕ) (s₀ : List ℕ) (l₀ : Bor (List ℕ)) (s : List ℕ) (l : Bor (List ℕ)) (b k j : ℕ) (c : List ℕ) : Type 0 where
+pub record InCells (v : List (Bor (List ℕ))) (i e p z rest : ℕ) (s₀ : List ℕ) (l₀ : MutBor (List ℕ)) (s : List ℕ) (l : MutBor (List ℕ)) (b k j : ℕ) (c : List ℕ) : Type 0 where
   pub low : i ≤ j
   pub from : b ≤ j
   pub high : k ≤ e
@@ -53,7 +53,7 @@ module _ {P L S X : List ℕ} {root node p z c : ℕ} (i : InCell P L S X root n
   goes_here d t k o = d _ (todo_to P L (place_of c) q z _ _ _ _ _ _ _ _ _ b a refl refl (i.again t k o))
 
 -- no cells yet
-pub cells_first : {v : List (Bor (List ℕ))} {j e p z : ℕ} (rest : ℕ) (s : List ℕ) (l : Bor (List ℕ)) {c : List ℕ} → Asked v s l.now → j < e → length c ≡ 256 → InCells v j e p z rest s l s l j j j c
+pub cells_first : {v : List (Bor (List ℕ))} {j e p z : ℕ} (rest : ℕ) (s : List ℕ) (l : MutBor (List ℕ)) {c : List ℕ} → Asked v s l.now → j < e → length c ≡ 256 → InCells v j e p z rest s l s l j j j c
 cells_first {v} {j} {e} {p} {z} rest s l a h w =
     record {
       low = omega arith;
@@ -64,7 +64,7 @@ cells_first {v} {j} {e} {p} {z} rest s l a h w =
       going = going_start (keeping v p z rest j e) s l a;
     }
 
-module _ {v : List (Bor (List ℕ))} {i e p z rest : ℕ} {s₀ : List ℕ} {l₀ : Bor (List ℕ)} {s : List ℕ} {l : Bor (List ℕ)} {b k j : ℕ} {c : List ℕ} (t : InCells v i e p z rest s₀ l₀ s l b k j c) where
+module _ {v : List (Bor (List ℕ))} {i e p z rest : ℕ} {s₀ : List ℕ} {l₀ : MutBor (List ℕ)} {s : List ℕ} {l : MutBor (List ℕ)} {b k j : ℕ} {c : List ℕ} (t : InCells v i e p z rest s₀ l₀ s l b k j c) where
   -- the next cells
   pub cells_next : Asked v s₀ l₀.now → {o : ℕ} → AskRows v o e p z rest → o ≤ i → {r : ℕ} → r ≤ e → AskNext v (root_of s) j r p z
   cells_next a q f n = let g = going_asked t.going a in let m = t.low in record { given = g.given; root_in = g.root_in; range = λ h. omega (arith, q.range (omega arith)); test = q.test }
@@ -123,7 +123,7 @@ module _ {v : List (Bor (List ℕ))} {i e p z rest : ℕ} {s₀ : List ℕ} {l�
           going = t.going;
         }
 
-    pub cells_in : r ≡ true → {s' : List ℕ} {l' : Bor (List ℕ)} → Steady s l s' l' → at_of s' ≤ cap_of s + 1 → DoneSegment v j rest s l.now s' l'.now → InCells v i e p z rest s₀ l₀ s' l' b k (j + 1) c
+    pub cells_in : r ≡ true → {s' : List ℕ} {l' : MutBor (List ℕ)} → Steady s l s' l' → at_of s' ≤ cap_of s + 1 → DoneSegment v j rest s l.now s' l'.now → InCells v i e p z rest s₀ l₀ s' l' b k (j + 1) c
     cells_in n g m o =
         record {
           low = omega (arith, t.low);

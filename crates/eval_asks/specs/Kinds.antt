@@ -3,7 +3,7 @@
 use Rattle.std.specs.Prelude.{ℕ, zero, suc, ◌+◌, ◌-◌, ◌≤◌, ◌<◌, ◌≡◌, refl, List, [], ◌∷◌, Bool as Bits, true, false, eqb, length, get_or, set}
 use Rattle.std.proofs.Common.{sym, ap, ◌∙◌, subst, eqb-true, arith}
 use Rattle.std.proofs.lemmas.Bool.{eqb-false}
-use Rattle.std.specs.Borrow.{Bor}
+use Rattle.std.specs.Borrow.{Bor, MutBor}
 use Rattle.definition.specs.Limits.{max_nodes}
 use Rattle.definition.specs.Forms.{Segments, Test}
 use Rattle.definition.specs.Tables.{node_count, node_at, child_count, low_word}
@@ -180,7 +180,7 @@ module _ {v : List (Bor (List ℕ))} {s l : List ℕ} {node p rest : ℕ} (a : A
 
 -- ---- the children of a range
 
-pub record InEach (v : List (Bor (List ℕ))) (i e rest : ℕ) (s₀ : List ℕ) (l₀ : Bor (List ℕ)) (s : List ℕ) (l : Bor (List ℕ)) (j : ℕ) : Type 0 where
+pub record InEach (v : List (Bor (List ℕ))) (i e rest : ℕ) (s₀ : List ℕ) (l₀ : MutBor (List ℕ)) (s : List ℕ) (l : MutBor (List ℕ)) (j : ℕ) : Type 0 where
   pub low : i ≤ j
   pub going : Going (each v rest i e) (each v rest j e) s₀ l₀ s l
 
@@ -197,8 +197,8 @@ module _ {v : List (Bor (List ℕ))} {i e rest : ℕ} where
   pub numbers_asked : {s l : List ℕ} → Asked v s l → AskEach v i e rest → i < e → AskNumbers (length l) e (at_of s) (cap_of s)
   numbers_asked a q h = record { room = a.room; wide = a.wide; small = a.small; few = omega (arith, q.range h, a.given.tab.size.few) }
 
-  module _ {s₀ : List ℕ} {l₀ : Bor (List ℕ)} {s : List ℕ} {l : Bor (List ℕ)} {j : ℕ} (t : InEach v i e rest s₀ l₀ s l j) where
-    pub each_again : j < e → {s' : List ℕ} {l' : Bor (List ℕ)} → Steady s l s' l' → at_of s' ≤ cap_of s + 1 → DoneSegment v j rest s l.now s' l'.now → InEach v i e rest s₀ l₀ s' l' (j + 1)
+  module _ {s₀ : List ℕ} {l₀ : MutBor (List ℕ)} {s : List ℕ} {l : MutBor (List ℕ)} {j : ℕ} (t : InEach v i e rest s₀ l₀ s l j) where
+    pub each_again : j < e → {s' : List ℕ} {l' : MutBor (List ℕ)} → Steady s l s' l' → at_of s' ≤ cap_of s + 1 → DoneSegment v j rest s l.now s' l'.now → InEach v i e rest s₀ l₀ s' l' (j + 1)
     each_again h k b d =
         record {
           low = omega (arith, t.low);
@@ -217,18 +217,18 @@ module _ {v : List (Bor (List ℕ))} {i e rest : ℕ} where
 
 -- ---- the places of a slice
 
-pub record InPlaces (v : List (Bor (List ℕ))) (rest : ℕ) (w₀ : Walk) (s₀ : List ℕ) (l₀ : Bor (List ℕ)) (s : List ℕ) (l : Bor (List ℕ)) (w : Walk) : Type 0 where
+pub record InPlaces (v : List (Bor (List ℕ))) (rest : ℕ) (w₀ : Walk) (s₀ : List ℕ) (l₀ : MutBor (List ℕ)) (s : List ℕ) (l : MutBor (List ℕ)) (w : Walk) : Type 0 where
   pub inside : Inside (node_count (table_of v)) w
   pub going : Going (placing v rest w₀) (placing v rest w) s₀ l₀ s l
 
-module _ {v : List (Bor (List ℕ))} {rest : ℕ} {w₀ : Walk} {s₀ : List ℕ} {l₀ : Bor (List ℕ)} {s : List ℕ} {l : Bor (List ℕ)} {w : Walk} (t : InPlaces v rest w₀ s₀ l₀ s l w) where
+module _ {v : List (Bor (List ℕ))} {rest : ℕ} {w₀ : Walk} {s₀ : List ℕ} {l₀ : MutBor (List ℕ)} {s : List ℕ} {l : MutBor (List ℕ)} {w : Walk} (t : InPlaces v rest w₀ s₀ l₀ s l w) where
   pub place_in : 0 < w.left → w.at < node_count (table_of v)
   place_in h = inside_at (node_count (table_of v)) w t.inside h
 
   pub place_near : node_count (table_of v) ≤ max_nodes → Inside max_nodes w
   place_near h = inside_more (node_count (table_of v)) max_nodes w h t.inside
 
-  pub places_again : {s' : List ℕ} {l' : Bor (List ℕ)} {w' : Walk} → Steady s l s' l' → at_of s' ≤ cap_of s + 1 → DoneSegment v w.at rest s l.now s' l'.now → Further w w' → InPlaces v rest w₀ s₀ l₀ s' l' w'
+  pub places_again : {s' : List ℕ} {l' : MutBor (List ℕ)} {w' : Walk} → Steady s l s' l' → at_of s' ≤ cap_of s + 1 → DoneSegment v w.at rest s l.now s' l'.now → Further w w' → InPlaces v rest w₀ s₀ l₀ s' l' w'
   places_again {w' = w'} k b d f =
       record {
         inside = f.next.inside (node_count (table_of v)) t.inside;
@@ -255,13 +255,13 @@ module _ {v : List (Bor (List ℕ))} {root j e p z r : ℕ} {call : Bits} (d : D
   passed h = let y = d.low in passed_by h (r - j) j (omega arith) (omega arith)
 
 -- node j is the next for which it holds or that meets a call, or e
-pub record InFilter (v : List (Bor (List ℕ))) (i e p z rest : ℕ) (s₀ : List ℕ) (l₀ : Bor (List ℕ)) (s : List ℕ) (l : Bor (List ℕ)) (j : ℕ) (call : Bits) : Type 0 where
+pub record InFilter (v : List (Bor (List ℕ))) (i e p z rest : ℕ) (s₀ : List ℕ) (l₀ : MutBor (List ℕ)) (s : List ℕ) (l : MutBor (List ℕ)) (j : ℕ) (call : Bits) : Type 0 where
   pub low : i ≤ j
   pub high : j ≤ e
   pub holds : call ≡ false → j < e → (x : Keeps (plan_of v) (pool_of v) p z rest) → eval_test x.t (node_at (table_of v) (text_of v) (root_of s₀)) (node_at (table_of v) (text_of v) j) ≡ true
   pub going : Going (keeping v p z rest i e) (keeping v p z rest j e) s₀ l₀ s l
 
-pub filter_start : {v : List (Bor (List ℕ))} {i e p z j : ℕ} {call : Bits} (rest : ℕ) (s : List ℕ) (l : Bor (List ℕ)) → Asked v s l.now → i ≤ e → DoneNext v (root_of s) i e p z j call → InFilter v i e p z rest s l s l j call
+pub filter_start : {v : List (Bor (List ℕ))} {i e p z j : ℕ} {call : Bits} (rest : ℕ) (s : List ℕ) (l : MutBor (List ℕ)) → Asked v s l.now → i ≤ e → DoneNext v (root_of s) i e p z j call → InFilter v i e p z rest s l s l j call
 filter_start {v} {i} {e} {p} {z} {j} rest s l a h d =
     record {
       low = d.low;
@@ -270,7 +270,7 @@ filter_start {v} {i} {e} {p} {z} {j} rest s l a h d =
       going = record { kept = steady_refl s l; room = a.room; again = λ x R C r c. subst (λ (R : ℕ). keeping v p z rest j e x R (st C l.now (at_of s)) ≡ keeping v p z rest i e x R (st C l.now (at_of s))) r (passed d rest x _ (d.high h)) };
     }
 
-module _ {v : List (Bor (List ℕ))} {i e p z rest : ℕ} {s₀ : List ℕ} {l₀ : Bor (List ℕ)} {s : List ℕ} {l : Bor (List ℕ)} {j : ℕ} {call : Bits} (t : InFilter v i e p z rest s₀ l₀ s l j call) where
+module _ {v : List (Bor (List ℕ))} {i e p z rest : ℕ} {s₀ : List ℕ} {l₀ : MutBor (List ℕ)} {s : List ℕ} {l : MutBor (List ℕ)} {j : ℕ} {call : Bits} (t : InFilter v i e p z rest s₀ l₀ s l j call) where
   pub filter_end_all : e ≤ j → Gives (Keeps (plan_of v) (pool_of v) p z rest) (keeping v p z rest i e) s₀ l₀.now s l.now
   filter_end_all h = going_end t.going (λ x R σ. over_end x.q _ (kept x.t _) (table_of v) (text_of v) j e σ h)
 
@@ -278,7 +278,7 @@ module _ {v : List (Bor (List ℕ))} {i e p z rest : ℕ} {s₀ : List ℕ} {l�
   pub filter_left : {s' l' : List ℕ} → Gives (Keeps (plan_of v) (pool_of v) p z rest) (keeping v p z rest j e) s l.now s' l' → Gives (Keeps (plan_of v) (pool_of v) p z rest) (keeping v p z rest i e) s₀ l₀.now s' l'
   filter_left d = going_last t.going d (λ x. x) (λ x R σ. refl)
 
-  module _ (n : call ≡ false) (h : j < e) {s' : List ℕ} {l' : Bor (List ℕ)} (k : Steady s l s' l') (b : at_of s' ≤ cap_of s + 1) (d : DoneSegment v j rest s l.now s' l'.now) where
+  module _ (n : call ≡ false) (h : j < e) {s' : List ℕ} {l' : MutBor (List ℕ)} (k : Steady s l s' l') (b : at_of s' ≤ cap_of s + 1) (d : DoneSegment v j rest s l.now s' l'.now) where
     kept_one : (x : Keeps (plan_of v) (pool_of v) p z rest) (R : ℕ) → root_of s ≡ R → (σ σ' : State) → σ' ≡ go x.q (node_at (table_of v) (text_of v) R) (node_at (table_of v) (text_of v) j ∷ []) σ → keeping v p z rest (j + 1) e x R σ' ≡ keeping v p z rest j e x R σ
     kept_one x R r σ σ' y =
         over_step x.q _ (kept x.t _) (table_of v) (text_of v) j e σ σ' h
@@ -352,5 +352,5 @@ pub kind_filter : {v : List (Bor (List ℕ))} {s l : List ℕ} {node p rest : �
 kind_filter a q h u w = omega (arith, kind_high q.selects.stands)
 
 -- the node that `$` stands for stays
-pub next_later : {v : List (Bor (List ℕ))} {i e p z : ℕ} {s s' : List ℕ} {l l' : Bor (List ℕ)} → Steady s l s' l' → AskNext v (root_of s) i e p z → AskNext v (root_of s') i e p z
+pub next_later : {v : List (Bor (List ℕ))} {i e p z : ℕ} {s s' : List ℕ} {l l' : MutBor (List ℕ)} → Steady s l s' l' → AskNext v (root_of s) i e p z → AskNext v (root_of s') i e p z
 next_later k a = let r = k.root in record { given = a.given; root_in = omega (arith, a.root_in); range = a.range; test = a.test }

@@ -1,7 +1,7 @@
 -- The nodes of a range of which a filter tells by itself, and those that are left. v is what is lent. Assumes nothing.
 use Rattle.std.specs.Prelude.{ℕ, ◌≤◌, ◌<◌, ◌+◌, ◌≡◌, List}
 use Rattle.std.proofs.Common.{◌∙◌, arith}
-use Rattle.std.specs.Borrow.{Bor}
+use Rattle.std.specs.Borrow.{Bor, MutBor}
 use Rattle.definition.specs.Tables.{node_count}
 use Rattle.eval_laws.specs.States.{st}
 use Rattle.eval_front.specs.Visits.{Query}
@@ -32,7 +32,7 @@ DoneKept v i e p z rest s l s' l' = Gives (Keeps (plan_of v) (pool_of v) p z res
 
 -- ---- those that are left
 
-module _ {v : List (Bor (List ℕ))} {i e p z rest : ℕ} {s s' : List ℕ} {l l' : Bor (List ℕ)} {k : ℕ} (u : Steady s l s' l' × DoneRows v i e p z rest s l.now s' l'.now k) where
+module _ {v : List (Bor (List ℕ))} {i e p z rest : ℕ} {s s' : List ℕ} {l l' : MutBor (List ℕ)} {k : ℕ} (u : Steady s l s' l' × DoneRows v i e p z rest s l.now s' l'.now k) where
   pub rows_given : Asked v s l.now → Asked v s' l'.now
   rows_given a = asked_later u.0 a u.1.room
 

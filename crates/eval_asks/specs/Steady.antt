@@ -1,7 +1,8 @@
 -- What evaluation keeps, and what is left to do in a loop: laws over any family of forms. Assumes nothing.
 use Rattle.std.specs.Prelude.{ℕ, ◌+◌, ◌≤◌, ◌<◌, ◌≡◌, refl, List, length, set}
 use Rattle.std.proofs.Common.{sym, ap, ◌∙◌, subst, arith, length-set, get_or-set_same, get_or-set_other}
-use denote.Ref.{MutBor, at_last}
+use denote.Ref.{at_last}
+use Rattle.std.specs.Borrow.{Bor, MutBor}
 use Rattle.eval_laws.specs.States.{State, st}
 use Rattle.eval_asks.specs.Lent.{root_of, cap_of, at_of}
 use Rattle.eval_asks.specs.Asks.{Asked, Steady, Gives}
@@ -32,11 +33,11 @@ steady_wrote s n l l' e t =
       same = t;
     }
 
-pub wrote_at : {v : List (MutBor (List ℕ))} {s l : List ℕ} (a : Asked v s l) (n : ℕ) → at_of (set s 2 n) ≡ n
+pub wrote_at : {v : List (Bor (List ℕ))} {s l : List ℕ} (a : Asked v s l) (n : ℕ) → at_of (set s 2 n) ≡ n
 wrote_at {s = s} a n = get_or-set_same s 2 n 0 (omega (arith, a.three))
 
 -- what is asked at entry is asked later
-pub asked_later : {v : List (MutBor (List ℕ))} {s s' : List ℕ} {l l' : MutBor (List ℕ)} → Steady s l s' l' → Asked v s l.now → at_of s' ≤ cap_of s + 1 → Asked v s' l'.now
+pub asked_later : {v : List (Bor (List ℕ))} {s s' : List ℕ} {l l' : MutBor (List ℕ)} → Steady s l s' l' → Asked v s l.now → at_of s' ≤ cap_of s + 1 → Asked v s' l'.now
 asked_later k a r =
     let e0 = k.root in
     let e1 = k.cap in
@@ -53,7 +54,7 @@ module _ {I : Type 0} where
       record { emits = λ x R C e c. subst (λ (R : ℕ). st C l' (at_of s') ≡ F x R (st C l (at_of s))) e (subst (λ (C : ℕ). st C l' (at_of s') ≡ F x (root_of s) (st C l (at_of s))) c (d x)) }
 
   -- the same with the next place that was written
-  pub gives_wrote : {v : List (MutBor (List ℕ))} (F : I → ℕ → State → State) (s l l' : List ℕ) (n : ℕ) → Asked v s l → ((x : I) → st (cap_of s) l' n ≡ F x (root_of s) (st (cap_of s) l (at_of s))) → Gives I F s l (set s 2 n) l'
+  pub gives_wrote : {v : List (Bor (List ℕ))} (F : I → ℕ → State → State) (s l l' : List ℕ) (n : ℕ) → Asked v s l → ((x : I) → st (cap_of s) l' n ≡ F x (root_of s) (st (cap_of s) l (at_of s))) → Gives I F s l (set s 2 n) l'
   gives_wrote F s l l' n a d = gives_of F s l (set s 2 n) l' (λ x. ap (λ (k : ℕ). st (cap_of s) l' k) (wrote_at a n) ∙ d x)
 
   -- nothing is emitted, and nothing changes
@@ -71,11 +72,11 @@ module _ {I : Type 0} where
     pub room : at_of s ≤ cap_of s₀ + 1
     pub again : (x : I) (R C : ℕ) → root_of s₀ ≡ R → cap_of s₀ ≡ C → left x R (st C l.now (at_of s)) ≡ whole x R (st C l₀.now (at_of s₀))
 
-  pub going_start : {v : List (MutBor (List ℕ))} (F : I → ℕ → State → State) (s : List ℕ) (l : MutBor (List ℕ)) → Asked v s l.now → Going F F s l s l
+  pub going_start : {v : List (Bor (List ℕ))} (F : I → ℕ → State → State) (s : List ℕ) (l : MutBor (List ℕ)) → Asked v s l.now → Going F F s l s l
   going_start F s l a = record { kept = steady_refl s l; room = a.room; again = λ x R C e c. refl }
 
   module _ {whole left : I → ℕ → State → State} {s₀ : List ℕ} {l₀ : MutBor (List ℕ)} {s : List ℕ} {l : MutBor (List ℕ)} (g : Going whole left s₀ l₀ s l) where
-    pub going_asked : {v : List (MutBor (List ℕ))} → Asked v s₀ l₀.now → Asked v s l.now
+    pub going_asked : {v : List (Bor (List ℕ))} → Asked v s₀ l₀.now → Asked v s l.now
     going_asked a = asked_later g.kept a g.room
 
     -- a part is emitted, and what is left behind it is what was left
@@ -98,7 +99,7 @@ module _ {I : Type 0} where
     going_end h = record { emits = λ x R C a c. sym (h x R (st C l.now (at_of s))) ∙ g.again x R C a c }
 
     -- once the cap is passed nothing changes
-    pub going_full : {v : List (MutBor (List ℕ))} → Asked v s₀ l₀.now → cap_of s < at_of s
+    pub going_full : {v : List (Bor (List ℕ))} → Asked v s₀ l₀.now → cap_of s < at_of s
         → ((x : I) (R m : ℕ) (k : List ℕ) (a : ℕ) → m < a → a ≤ m + 1 → length k ≤ m + 1 → left x R (st m k a) ≡ st m k a) → Gives I whole s₀ l₀.now s l.now
     going_full a f h =
         let e1 = g.kept.cap in

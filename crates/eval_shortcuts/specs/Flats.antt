@@ -14,7 +14,7 @@ use Rattle.eval_laws.specs.States.{st}
 use Rattle.eval_laws.specs.Emits.{go}
 use Rattle.eval_laws.specs.Steps.{below}
 use Rattle.eval_laws.specs.Items.{SegmentsAt, SelectorAt}
-use Rattle.eval_front.specs.Visits.{over}
+use Rattle.eval_front.specs.Visits.{Given, over}
 use Rattle.eval_filters.specs.Atoms.{AtomAt}
 use Rattle.eval_filters.specs.declared.atoms.Atom.{Atom}
 use Rattle.eval_shortcuts.specs.declared.flats.Flat.{Flat}
@@ -45,6 +45,7 @@ pub record Plain (P L : List ℕ) (p : ℕ) : Type 0 where
   pub whole : get_or P p 0 ≡ 7 → ⊥
 
 pub record AskSelected (P L S X : List ℕ) (node p len at cap : ℕ) : Type 0 where
+  pub given : Given P L S X
   pub node_in : node < node_count S
   pub plain : Plain P L p
   pub list : Room len at cap
@@ -63,6 +64,7 @@ pub record Passes (i e cap : ℕ) (l l' : List ℕ) (r : Flat) : Type 0 where
   pub still : r.i ≤ i → l' ≡ l
 
 pub record AskFlats (P L S X : List ℕ) (i e p len at cap : ℕ) : Type 0 where
+  pub given : Given P L S X
   pub range : i < e → e ≤ node_count S
   pub plain : Plain P L p
   pub list : Room len at cap
@@ -137,6 +139,7 @@ pub record DoneSkipped (S : List ℕ) (i e r : ℕ) : Type 0 where
 -- ---- a descendant segment on the nodes of a range
 
 pub record AskStart (P L S X : List ℕ) (i e pc len at cap : ℕ) : Type 0 where
+  pub given : Given P L S X
   pub range : i < e → e ≤ node_count S
   pub ss : Selectors
   pub q : Segments

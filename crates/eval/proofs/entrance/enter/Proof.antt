@@ -32,7 +32,8 @@ use denote.Laws.{Is, shows}
 use denote.Array.{Array}
 use denote.Plain.{uint_Makes, uint_vals, uint_Tells}
 use denote.Builtin.{u8, u32, unit, usize, ArrayOf, RefOf, SliceRefOf}
-use denote.Ref.{Bor, MutBor, MutRef, ShrRef, shr_vals, mut_Tells, shr_Tells}
+use denote.Ref.{MutRef, ShrRef, shr_vals, mut_Tells, shr_Tells}
+use Rattle.std.specs.Borrow.{Bor, MutBor}
 use denote.Slice.{slice_val, slice_ty, MutSlice, ShrSlice, Room, shr_slice_vals, mut_slice_vals, mut_slice_Tells}
 use denote.Lend.{lends_ref, ref_back}
 use denote.Steps.{only, owned, heard, nothing}
@@ -80,7 +81,7 @@ module _ {M : Type 1} {𝓤 : Ura M} (𝓛 : Logic 𝓤) (R : RattleType) (h : R
   unfolding part_of
   lies_out = qed 𝓛 (‵ ((mem R).own_at h b o) ∷ []) ∵ fpick ! (λ vs. fsplit ! $ show ! (λ (us : List Val). sep 𝓤 (sem 𝓛 (cell_at full_share R.mir us b o)) (sem 𝓛 (R.own h us))) vs $ frame ! $ done !)
 
-module _ {M : Type 1} {𝓤 : Ura M} (𝓛 : Logic 𝓤) (at_mem : Memory → SProp 𝓤) (run : Routine → Fun 𝓤) (κs : Lfts 4) (bounds : AllOutlive 4 (enter.signature).outlives κs) (qs : Shares 4) (lent : MutBor (List (MutBor (List ℕ)))) (state : MutBor (List ℕ)) (b o : ℕ) (γ : GName) (ys : List ℕ) (n p : ℕ) (n-fits : n < 2 ^ 64) (p-fits : p < 2 ^ 64) (ask : AskEnter lent.now n p state.now ys) where
+module _ {M : Type 1} {𝓤 : Ura M} (𝓛 : Logic 𝓤) (at_mem : Memory → SProp 𝓤) (run : Routine → Fun 𝓤) (κs : Lfts 4) (bounds : AllOutlive 4 (enter.signature).outlives κs) (qs : Shares 4) (lent : MutBor (List (Bor (List ℕ)))) (state : MutBor (List ℕ)) (b o : ℕ) (γ : GName) (ys : List ℕ) (n p : ℕ) (n-fits : n < 2 ^ 64) (p-fits : p < 2 ^ 64) (ask : AskEnter lent.now n p state.now ys) where
   open 𝓛 use {H, A}
 
   abbrev κ : Lft
@@ -89,7 +90,7 @@ module _ {M : Type 1} {𝓤 : Ura M} (𝓛 : Logic 𝓤) (at_mem : Memory → SP
   abbrev q : Share
   q = qs.1.1.1.0
 
-  abbrev x : List ℕ → Bor (List ℕ)
+  abbrev x : List ℕ → MutBor (List ℕ)
   x l = record { ref_ptr = (b, o); ghost_name = γ; now = l }
 
   abbrev s : ℕ → Val
@@ -106,7 +107,7 @@ module _ {M : Type 1} {𝓤 : Ura M} (𝓛 : Logic 𝓤) (at_mem : Memory → SP
   R = MutSlice (named 4) κ u32
 
   abbrev Arg : Type 0
-  Arg = Bor (List (Bor (List ℕ))) × (Bor (List ℕ) × (Bor (List ℕ) × (ℕ × (ℕ × Unit {0}))))
+  Arg = Bor (List (Bor (List ℕ))) × (MutBor (List ℕ) × (MutBor (List ℕ) × (ℕ × (ℕ × Unit {0}))))
 
   abbrev a : Arg
   a = (lent, (state, (x ys, (n, (p, tt)))))
@@ -138,7 +139,7 @@ module _ {M : Type 1} {𝓤 : Ura M} (𝓛 : Logic 𝓤) (at_mem : Memory → SP
   κs' ν = (κs.0, (κs.1.0, (κs.1.1.0, (ν ∷ κ, (κ, tt)))))
 
   abbrev Arg' : Type 0
-  Arg' = Bor (List (Bor (List ℕ))) × (Bor (List ℕ) × (Bor (Bor (List ℕ)) × (ℕ × (ℕ × Unit {0}))))
+  Arg' = Bor (List (Bor (List ℕ))) × (MutBor (List ℕ) × (Bor (MutBor (List ℕ)) × (ℕ × (ℕ × Unit {0}))))
 
   abbrev a' : ℕ → GName → Arg'
   a' l δ = (lent, (state, (r l δ, (n, (p, tt)))))
@@ -157,7 +158,7 @@ module _ {M : Type 1} {𝓤 : Ura M} (𝓛 : Logic 𝓤) (at_mem : Memory → SP
       qed 𝓛 ((‵ (flft κs.0 qs.0) ⊛ ‵ (flft κs.1.0 qs.1.0) ⊛ ‵ (flft κs.1.1.0 qs.1.1.0) ⊛ ‵ (flft (ν ∷ κ) ql) ⊛ ‵ (flft κ qr) ⊛ ‵ ftrue) ∷ ‵ (own' ν l δ) ∷ []) ∵ says ! ask $ frame ! $ done !
 
   -- what the contract says at exit, at the last numbers and the last list
-  abbrev Gives : List ℕ → Bor (List ℕ) → Type 0
+  abbrev Gives : List ℕ → MutBor (List ℕ) → Type 0
   Gives t l = Entered lent.now n p state.now (x ys) t l
 
   exits : (t zs : List ℕ) → Gives t (x zs) → length zs ≡ length ys → ent 𝓤 (⋆ 𝓛 (‵ ((MutSlice (named 3) κ u32).own_val (x zs) (s (length ys) ∷ [])) ∷ ‵ (flft κ q) ∷ ‵ (flft κs.1.1.0 qs.1.1.0) ∷ ‵ (flft κs.1.0 qs.1.0) ∷ ‵ (flft κs.0 qs.0) ∷ ‵ (fres state.name ((Array usize 3).coded.code t)) ∷ [])) (Post vunit)
@@ -169,7 +170,7 @@ module _ {M : Type 1} {𝓤 : Ura M} (𝓛 : Logic 𝓤) (at_mem : Memory → SP
       move ! (1 ∷ 0 ∷ []) $ fjoin ! $ move ! (1 ∷ 0 ∷ []) $ fjoin ! $ nothing ! $ fjoin ! $ feq_i ! (List Val) (vunit ∷ []) (vunit ∷ []) refl $ move ! (1 ∷ 0 ∷ []) $ done !
 
   abbrev Last : Type 0
-  Last = Unit {0} × (List ℕ × (Bor (List ℕ) × (Unit {0} × (Unit {0} × Unit {0}))))
+  Last = Unit {0} × (List ℕ × (MutBor (List ℕ) × (Unit {0} × (Unit {0} × Unit {0}))))
 
   module _ (C : Calls 𝓤 H) (Λ : Loops 𝓤 H) (fm : FmC 𝓤 H 𝓛.laws C) (known : Triple 𝓤 (C #eval·first) (First 𝓛 at_mem run)) where
     walk : Room u32 (length ys) → ent 𝓤 (on_entry 𝓛 enter.signature κs qs a vals) (WpFn 𝓤 H C Λ code.function (vl ∷ vs ∷ s (length ys) ∷ vint w64 n ∷ vint w64 p ∷ []) Post)
