@@ -43,7 +43,7 @@ use Rattle.plan_laws.specs.One.{checks_one, runs_one}
 use Rattle.tally_laws.specs.Items.{kinds_of}
 use Rattle.tally_laws.specs.Forms.{items_of}
 use Rattle.tally_laws.specs.Tallies.{TallyOutcome, Tallies, tally_by, with_plan, all_kinds}
-use Rattle.tally_laws.specs.Meets.{plan_items}
+use Rattle.tally_laws.proofs.Meets.{plan_items}
 use Rattle.tally_laws.specs.Taken.{occurring, example, example_counts}
 use Rattle.promises_stated.specs.Promises.{Settled, ReadsOnly, CompilesOnly, SelectsOnly, RunsOnly, ChecksPlanOnly, TalliesOnly, ChecksRecordsOnly, ChecksTextsOnly, ChecksTableOnly, TextOnly, TextBegins, KeyOnly, KeyBegins, PathOnly, CompileCase, Listed, RunCase, PathCase, alone, plan_in, pool_in, PlanWritten, Stored, AllServed, AllAnswer, Unchanged, Taken, Counted, plan_bytes}
 use Rattle.promises_stated.specs.Refusals.{First, WrongSize, LeastWrong, NoText, NoKey, compile_rules, select_rules, run_rules, plan_rules, record_rules, text_rules, table_rules, part_rules, path_rules, tally_rules}

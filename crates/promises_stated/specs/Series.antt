@@ -9,7 +9,8 @@ use Rattle.tally_laws.specs.Items.{occurrences}
 use Rattle.tally_laws.specs.Forms.{items_of_all}
 use Rattle.tally_laws.specs.Tallies.{TallyOutcome, Tallies, tally_by, fits, with_plan, all_kinds}
 use Rattle.tally_laws.specs.Series.{kinds_of_all, taken_all, sum_of, Bytes, each_count, all_counts}
-use Rattle.tally_laws.specs.Taken.{forms_items, forms_bytes}
+use Rattle.tally_laws.specs.Taken.{forms_bytes}
+use Rattle.tally_laws.proofs.Taken.{forms_items}
 use Rattle.promises_stated.specs.Promises.{Unchanged, Taken, Counted}
 use Rattle.promises_stated.specs.Promises.Taken.{start, taken, passed}
 

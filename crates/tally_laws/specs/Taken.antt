@@ -1,6 +1,6 @@
--- Plans that query forms translate to: their kinds are the forms' items, and these are bytes. Document 02's example. Assumes nothing.
-use Rattle.std.specs.Prelude.{ℕ, suc, ◌<◌, ◌≡◌, refl, cond, List, [], ◌∷◌, ◌++◌, map, eqb, pos, replicate}
-use Rattle.std.proofs.Common.{arith, ap₂}
+-- The items of query forms are bytes, and document 02's example. That the plans of forms have these items is in proofs/Meets and proofs/Taken. Assumes nothing.
+use Rattle.std.specs.Prelude.{ℕ, suc, ◌<◌, ◌≡◌, refl, cond, List, [], ◌∷◌, ◌++◌, eqb, pos, replicate}
+use Rattle.std.proofs.Common.{arith}
 use Rattle.regex_definition.specs.Scope.{Scope, whole, part}
 use Rattle.definition.specs.Forms.{Literal, Start, Query, Segments, Selectors, Selector, Test, Argument, Function, many_selectors}
 use Rattle.definition.specs.Forms.Literal.{null, boolean, integer, float, text}
@@ -17,14 +17,7 @@ use Rattle.definition.specs.Plans.{pooled, start_kind, plan_of, pool_selectors, 
 use Rattle.tally_laws.specs.Items.{body_length, kinds_within, kinds_of, occurrences}
 use Rattle.tally_laws.specs.Forms.{start_item, literal_item, scope_item, items_of, segments_items, selectors_items, selector_items, test_items, argument_items, function_items, items_of_all}
 use Rattle.tally_laws.specs.Tallies.{tabulate_from, with_plan, all_kinds}
-use Rattle.tally_laws.specs.Meets.{plan_items}
-use Rattle.tally_laws.specs.Series.{Bytes, bytes_append, kinds_of_all}
-
--- the kinds of the plans of several forms are the forms' items
-pub forms_items : (qs : List Query) → kinds_of_all (map plan_of qs) ≡ items_of_all qs
-unfolding kinds_of_all items_of_all
-forms_items [] = refl
-forms_items (q ∷ qs) = ap₂ (λ (a b : List ℕ). a ++ b) (plan_items q) (forms_items qs)
+use Rattle.tally_laws.specs.Series.{Bytes, bytes_append}
 
 -- ---- the items are bytes
 
