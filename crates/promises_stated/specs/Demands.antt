@@ -32,7 +32,8 @@ use Rattle.definition.specs.Evaluation.{selected, eval_test, eval_argument}
 use Rattle.definition.specs.Outcomes.{Reading, Reads, Spells, CompileOutcome, Compiles, RunOutcome, Runs, Selects, ChecksPlan, run_by}
 use Rattle.definition.specs.Outcomes.Reading.{form}
 use Rattle.definition_examples.specs.Rows.{starred_rows}
-use Rattle.definition_standards.specs.Slices.{Standard, slices_standard, no_start_standard}
+use Rattle.definition_standards.specs.Slices.{Standard, slices_standard}
+use Rattle.definition_standards.proofs.Slices.{no_start_standard}
 use Rattle.table_laws.specs.Joined.{node_right}
 use Rattle.table_laws.specs.Pair.{both_accept, accept_both}
 use Rattle.table_laws.specs.Places.{begins_one}
