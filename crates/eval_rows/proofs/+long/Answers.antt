@@ -1,0 +1,10 @@
+-- The answers of the cycle of calls {long}.
+use Prim.Native.Nat.{ℕ, ◌<◌}
+use mathlib.Core.Path.{refl}
+use borrow.Author.Rules.{rules}
+use Rattle.regex_rooms.proofs.Laws.{rooms}
+use Rattle.eval_rows.proofs.+long.Goals as goal
+
+-- long
+pub read_in-requires : goal.read_in-requires
+read_in-requires t c = record { ask_pass = c.requires.ask_pass; call_at = c.requires.call_at; size_in_bounds = rooms 1024 refl refl c.requires.size_bound }

@@ -1,0 +1,6 @@
+-- The measures and invariants of the cycle of calls {short}.
+use Prim.Native.Nat.{ℕ, ◌<◌}
+use Rattle.eval_rows.proofs.+short.Given as goal
+
+abbrev pub decreases-short : goal.decreases-short
+decreases-short l = l.again

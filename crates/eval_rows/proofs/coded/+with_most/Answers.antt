@@ -1,0 +1,10 @@
+-- The answers of the cycle of calls {with_most}.
+use Prim.Native.Nat.{ℕ, ◌<◌}
+use native.Mathlib.Omega.{arith}
+use borrow.Author.Rules.{rules}
+use Rattle.eval_rows.specs.Known.{held_none, knows}
+use Rattle.eval_rows.proofs.coded.+with_most.Goals as goal
+
+-- with_most
+pub keep-requires : goal.keep-requires
+keep-requires t c = record { ask_pass = c.requires.ask_pass; knows = (knows 2 (omega arith) c.requires.call_at.0 c.requires.ready, held_none 2 (omega arith)) }

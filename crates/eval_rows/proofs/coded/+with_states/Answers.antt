@@ -1,0 +1,15 @@
+-- The answers of the cycle of calls {with_states}.
+use Prim.Native.Nat.{ℕ, ◌<◌}
+use mathlib.Core.Path.{refl}
+use native.Mathlib.Omega.{arith}
+use borrow.Author.Rules.{rules}
+use Rattle.eval_rows.specs.Known.{rooms_enough, knows}
+use Rattle.eval_rows.proofs.coded.+with_states.Goals as goal
+
+-- with_states
+pub prepare-requires : goal.prepare-requires
+prepare-requires t c = rooms_enough refl refl
+
+-- with_states
+pub keep-requires : goal.keep-requires
+keep-requires t c = record { ask_pass = c.requires.ask_pass; knows = (knows 3 (omega arith) c.requires.call_at.0 c.requires.ready, λ e. c.prepare.ensures) }

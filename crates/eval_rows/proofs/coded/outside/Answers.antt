@@ -1,0 +1,9 @@
+-- `coded::outside` meets its contract.
+use native.Mathlib.Omega.{arith}
+use Rattle.eval_rows.specs.Known.{knows_outside, held_none}
+use borrow.Author.Rules.{rules}
+use Rattle.eval_rows.proofs.coded.outside.Lts as lts
+use Rattle.eval_rows.proofs.coded.outside.Goals as goal
+
+pub keep-requires : goal.keep-requires
+keep-requires c = record { ask_pass = c.requires.ask_pass; knows = (knows_outside c.requires.call_at.0 c.requires.outside, held_none 1 (omega arith)) }

@@ -1,0 +1,23 @@
+-- `turns::text_of` meets its contract: nothing is found, a node that has no text, or its text.
+use native.Mathlib.Omega.{arith}
+use borrow.Author.Tests.{not-true, not-false}
+use Rattle.eval_rows.specs.Calls.{text_near}
+use Rattle.eval_rows.specs.Turns.{text_lost, text_other, text_found}
+use borrow.Author.Rules.{rules}
+use Rattle.eval_rows.proofs.turns.text_of.Lts as lts
+use Rattle.eval_rows.proofs.turns.text_of.Goals as goal
+
+pub overflow_add-g : goal.overflow_add-g
+overflow_add-g c = omega (arith, text_near c.requires)
+
+pub follow-r-requires : goal.follow-r-requires
+follow-r-requires c = record { ask_reach = c.requires.reach; leads = c.requires.path }
+
+pub returns-then-not-r : goal.returns-then-not-r
+returns-then-not-r c = text_lost c.requires c.follow-r.ensures (not-true _ c.if-not-r.true)
+
+pub returns-then-kind-ne-KIND_TEXT : goal.returns-then-kind-ne-KIND_TEXT
+returns-then-kind-ne-KIND_TEXT c = text_other c.requires c.follow-r.ensures (not-false _ c.if-not-r.false) (λ e. c.if-kind-ne-KIND_TEXT.true (omega arith))
+
+pub returns : goal.returns
+returns c = text_found c.requires c.follow-r.ensures (not-false _ c.if-not-r.false) (omega arith) _ _ c.text_start-start.ensures c.text_length-size.ensures
