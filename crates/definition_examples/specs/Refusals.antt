@@ -1,4 +1,4 @@
--- Refusals 1 to 3, which look at the bytes of a query alone, in their order, and the bracket count's rule for quoted text.
+-- Refusals 1 to 3, which look at the bytes of a query alone, in their order, and the bracket count's rule for quoted text. The theorem is in proofs/Refusals.
 -- For 4 to 8 see NoTree, Points and Numbers.
 use Rattle.std.specs.Prelude.{ℕ, suc, ◌≡◌, refl, List, [], ◌∷◌, ◌++◌, Bool, true, ◌&&◌, eqb, replicate}
 use Rattle.std.proofs.Common.{subst, ◌∙◌, arith, eqb-true}
@@ -64,7 +64,7 @@ rows =
     meets (bytes "\\''" ++ opened 33) 3 ∷
     []
 
-rows_meet : all_meet rows ≡ true
+pub rows_meet : all_meet rows ≡ true
 unfolding computes
 rows_meet = refl
 
@@ -80,11 +80,8 @@ AllMean (x ∷ xs) = Means x × AllMean xs
 means : (x : Early) → early x.query ≡ x.number → Means x
 means x e = (e, λ n h. subst (λ (m : ℕ). Reads x.query (refused m)) (e ∙ h) (too_early (λ z. omega (arith, e ∙ h, z))))
 
-all_mean : (xs : List Early) → all_meet xs ≡ true → AllMean xs
+pub all_mean : (xs : List Early) → all_meet xs ≡ true → AllMean xs
 all_mean [] e = tt
 all_mean (x ∷ xs) e =
     let b = eqb (early x.query) x.number in
     (means x (eqb-true (early x.query) x.number (left b (all_meet xs) e)), all_mean xs (right b (all_meet xs) e))
-
-pub early_refusals : AllMean rows
-early_refusals = all_mean rows rows_meet

@@ -1,4 +1,4 @@
--- Document 01's starred sample rows, from the query's bytes and the table's records to the node numbers, as one table under one theorem.
+-- Document 01's starred sample rows, from the query's bytes and the table's records to the node numbers, as one table under one theorem (proofs/Rows).
 -- "The sample row `$[?!count(@.*)]` becomes a plan row" (document 02, W12): its query is refused, and its plan selects what it selected.
 use Rattle.std.specs.Prelude.{ℕ, ◌≡◌, refl, List, [], ◌∷◌, Bool, true, ◌&&◌}
 use Prim.Native.String.{String}
@@ -73,20 +73,14 @@ row_gives : (r : Row) → row_selects r ≡ true → RowGives r
 row_gives (row q ns) e = gives q sample_table sample_text ns e
 row_gives (plan_row plan pool q ns) e = plan_gives plan pool q sample_table sample_text ns e
 
-all_give : (rs : List Row) → all_select rs ≡ true → AllGive rs
+pub all_give : (rs : List Row) → all_select rs ≡ true → AllGive rs
 all_give [] e = tt
 all_give (r ∷ rs) e = (row_gives r (left (row_selects r) (all_select rs) e), all_give rs (right (row_selects r) (all_select rs) e))
 
-starred_hold : all_select starred_rows ≡ true
+pub starred_hold : all_select starred_rows ≡ true
 unfolding computes
 starred_hold = refl
 
-pub starred : AllGive starred_rows
-starred = all_give starred_rows starred_hold
-
-others_hold : all_select other_rows ≡ true
+pub others_hold : all_select other_rows ≡ true
 unfolding computes
 others_hold = refl
-
-pub others : AllGive other_rows
-others = all_give other_rows others_hold

@@ -5,7 +5,8 @@ use Rattle.std.proofs.Common.{sym, subst}
 use Rattle.definition.specs.Outcomes.{CompileOutcome, RunOutcome, Runs, run_by}
 use Rattle.definition.specs.Outcomes.Reading.{form}
 use Rattle.definition_examples.specs.Gives.{Gives, PlanGives}
-use Rattle.definition_examples.specs.Rows.{Row, row, plan_row, RowGives, AllGive, starred_rows, starred}
+use Rattle.definition_examples.specs.Rows.{Row, row, plan_row, RowGives, AllGive, starred_rows}
+use Rattle.definition_examples.proofs.Rows.{starred}
 use Rattle.promises_stated.specs.Promises.{CompilesOnly, SelectsOnly, Listed, plan_in, pool_in, Answers, PlanAnswers, RowAnswers, AllAnswer}
 use Rattle.promises_stated.specs.Cases.{accepted_lists}
 use Rattle.promises_stated.specs.Written.{only_holds}
