@@ -89,15 +89,18 @@ def below(modules):
 
 
 def keep(where, modules):
-    """Has these modules of the examples in the copy, and no others."""
-    lines = read(os.path.join(ROOT, EXAMPLES, "Lib.antt")).splitlines()
-    for module in (line[len("pub mod "):] for line in lines):
-        file = os.path.join(EXAMPLES, module + ".antt")
-        if module in modules:
-            shutil.copy(os.path.join(ROOT, file), os.path.join(where, file))
-        elif os.path.exists(os.path.join(where, file)):
-            os.remove(os.path.join(where, file))
-    write(os.path.join(where, EXAMPLES, "Lib.antt"), "".join(f"{line}\n" for line in lines if line[len("pub mod "):] in modules))
+    """Has these modules of the examples in the copy, and no others: their files of specs/, and of proofs/ where they have some there."""
+    for part in (EXAMPLES, EXAMPLES.replace("specs", "proofs")):
+        if not os.path.exists(os.path.join(ROOT, part, "Lib.antt")):
+            continue
+        lines = read(os.path.join(ROOT, part, "Lib.antt")).splitlines()
+        for module in (line[len("pub mod "):] for line in lines):
+            file = os.path.join(part, module + ".antt")
+            if module in modules:
+                shutil.copy(os.path.join(ROOT, file), os.path.join(where, file))
+            elif os.path.exists(os.path.join(where, file)):
+                os.remove(os.path.join(where, file))
+        write(os.path.join(where, part, "Lib.antt"), "".join(f"{line}\n" for line in lines if line[len("pub mod "):] in modules))
 
 
 def check(where, crate):

@@ -23,16 +23,16 @@ number_of e = ap (λ (o : PartOutcome). o.number) e
 
 module _ (t s : List ℕ) (k : ℕ) where
   -- with 0 there is such a text, and it is the part
-  found_part : (c : Checked) (b : Bool) → answered s k ≡ part_by_lem c b t → k ≡ 0 → (b ≡ true) × (answered t 0 ≡ part_by_lem c b t)
+  found_part_lem : (c : Checked) (b : Bool) → answered s k ≡ part_by_lem c b t → k ≡ 0 → (b ≡ true) × (answered t 0 ≡ part_by_lem c b t)
   unfolding part_by_lem found_part refused_part
-  found_part accepted true e h = (refl, refl)
-  found_part accepted false e h = let m = number_of e in absurd (omega (arith, m, h))
-  found_part sized b e h = let m = number_of e in absurd (omega (arith, m, h))
-  found_part (wrong_at i) b e h = let m = number_of e in absurd (omega (arith, m, h))
-  found_part (text_at i) b e h = let m = number_of e in absurd (omega (arith, m, h))
+  found_part_lem accepted true e h = (refl, refl)
+  found_part_lem accepted false e h = let m = number_of e in absurd (omega (arith, m, h))
+  found_part_lem sized b e h = let m = number_of e in absurd (omega (arith, m, h))
+  found_part_lem (wrong_at i) b e h = let m = number_of e in absurd (omega (arith, m, h))
+  found_part_lem (text_at i) b e h = let m = number_of e in absurd (omega (arith, m, h))
 
   pub has_part : (c : Checked) (b : Bool) → answered s k ≡ part_by_lem c b t → k ≡ 0 → b ≡ true
-  has_part c b e h = (found_part c b e h).0
+  has_part c b e h = (found_part_lem c b e h).0
 
   -- with any other number the part is empty
   refused_part_lem : (c : Checked) (b : Bool) → answered s k ≡ part_by_lem c b t → (k ≡ 0 → ⊥) → answered [] k ≡ part_by_lem c b t
@@ -46,7 +46,7 @@ module _ (t s : List ℕ) (k : ℕ) where
 module _ (c : Checked) (b : Bool) (X s : List ℕ) (at n k : ℕ) (e : answered s k ≡ part_by_lem c b (part X at n)) where
   -- the start and the length that the record names are handed out
   pub hands_part : {x y : ℕ} → k ≡ 0 → x ≡ at → y ≡ n → (answered (part X x y) 0 ≡ part_by_lem c b (part X at n)) × Placed 0 at n x y
-  hands_part h f g = (ap₂ (λ (i j : ℕ). answered (part X i j) 0) f g ∙ (found_part (part X at n) s k c b e h).1, record { starts = f; long = g })
+  hands_part h f g = (ap₂ (λ (i j : ℕ). answered (part X i j) 0) f g ∙ (found_part_lem (part X at n) s k c b e h).1, record { starts = f; long = g })
 
   -- a refusal hands out 0 and 0
   pub hands_none : (k ≡ 0 → ⊥) → (answered [] k ≡ part_by_lem c b (part X at n)) × Placed k at n 0 0
