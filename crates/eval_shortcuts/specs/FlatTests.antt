@@ -22,7 +22,7 @@ use Rattle.table_laws.specs.Nodes.{count_scalar}
 use Rattle.eval_laws.specs.Steps.{below, kept, kept_out, span_kept}
 use Rattle.eval_laws.specs.Ranges.{Range, range_in, select_filter}
 use Rattle.eval_laws.specs.Items.{SegmentsAt, Parts, last, is_filter}
-use Rattle.eval_front.specs.Visits.{over, DoneContainer}
+use Rattle.eval_front.specs.Visits.{Given, over, DoneContainer}
 use Rattle.eval_front.specs.Overs.{over_step, over_end}
 use Rattle.eval_front.specs.Fronts.{never}
 use Rattle.eval_filters.specs.Kept.{Tested}
@@ -134,15 +134,15 @@ as_sole : (S X : List ℕ) (R : Json) (ss : Selectors) (q : Segments) (x : Test)
     → over q R (below ss R) S X i e s ≡ over q R (below ss R) S X j e s
 as_sole S X R ss q x m i j e s h = rw m h
 
-pub start_skipped : {P L S X : List ℕ} {i e pc cap : ℕ} {l : List ℕ} {at r : ℕ} → at ≤ cap + 1 → i < e → e ≤ node_count S → MemberAt P pc → DoneSkipped S i e r → DoneStart P L S X i e pc cap l at l (record { i = r; at = at })
-start_skipped {P} {L} {S} {X} {i} {e} {pc} {cap} {l} {at} {r} room h into w d =
+pub start_skipped : {P L S X : List ℕ} {i e pc cap : ℕ} {l : List ℕ} {at r : ℕ} → Given P L S X → at ≤ cap + 1 → i < e → e ≤ node_count S → MemberAt P pc → DoneSkipped S i e r → DoneStart P L S X i e pc cap l at l (record { i = r; at = at })
+start_skipped {P} {L} {S} {X} {i} {e} {pc} {cap} {l} {at} {r} g room h into w d =
     let v = d.low in
     let z : r ≤ e = d.high (omega arith) in
     record {
       passes = record { low = v; high = λ u. z; room = room; still = λ u. refl };
       again = λ ss q k a R.
-          let y = sole 𝓛.few_p 𝓛.few_l pc ss q k a w.alone w.filter_is in
+          let y = sole g.few_p g.few_l pc ss q k a w.alone w.filter_is in
           let t : Tested P L (pc + 3 + 3) w.z y.x k = subst (λ (x : ℕ). Tested P L (pc + 3 + 3) x y.x k) (sym w.size) y.tested in
           as_sole S X R ss q y.x y.made r i e (st cap l at)
-          (bare_by S X 𝓛.tab q R y.x (λ m b c. scalar_false b (λ u. absurd (omega arith)) w.test w.more w.whole R y.x k t) (r - i) i r e (st cap l at) (omega arith) z (λ u. into) d.bare);
+          (bare_by S X g.tab q R y.x (λ m b c. scalar_false g b (λ u. absurd (omega arith)) w.test w.more w.whole R y.x k t) (r - i) i r e (st cap l at) (omega arith) z (λ u. into) d.bare);
     }

@@ -97,7 +97,7 @@ module _ (P : List ℕ) where
   pub ones_upto : (p n z : ℕ) → Ones P p n z → p ≤ z
   unfolding Ones
   ones_upto p zero z o = omega (arith, o)
-  ones_upto p (suc n) z o = omega (arith, ones_upto _ n z o.1)
+  ones_upto p (suc n) z o = omega (arith, ones_upto (p + (4 * get_or P p 0 - 15)) n z o.1)
 
 -- the loop over them: what is left gives the whole
 pub record InEnds (P : List ℕ) (p n q m : ℕ) : Type 0 where

@@ -1,0 +1,29 @@
+-- `keep_rows` meets its contract: nothing is done, or the nodes of which the filter tells by itself are.
+use mathlib.Core.Path.{refl}
+use native.Mathlib.Omega.{arith}
+use Rattle.eval_asks.specs.Steady.{steady_refl, steady_wrote}
+use Rattle.eval_shortcuts.specs.Rows.{rows_none, rows_tail, rows_asked, rows_left, rows_all}
+use borrow.Author.Rules.{rules}
+use Rattle.eval_shortcuts.proofs.keep_rows.Lts as lts
+use Rattle.eval_shortcuts.proofs.keep_rows.Goals as goal
+
+pub overflow_add-i : goal.overflow_add-i
+overflow_add-i c = omega (arith, c.requires.ask_rows.near)
+
+pub returns-then-e-i : goal.returns-then-e-i
+returns-then-e-i c = record { steady = steady_refl _ _; done_rows = rows_none c.requires.asked }
+
+pub tail_of-tail-requires : goal.tail_of-tail-requires
+tail_of-tail-requires c = rows_tail c.requires.asked c.requires.ask_rows
+
+pub returns-then-tail-gt1 : goal.returns-then-tail-gt1
+returns-then-tail-gt1 c = record { steady = steady_refl _ _; done_rows = rows_none c.requires.asked }
+
+pub keep_rows-v-requires : goal.keep_rows-v-requires
+keep_rows-v-requires c = (rows_asked c.requires.asked c.requires.ask_rows c.tail_of-tail.ensures c.if-tail-gt1.false, refl)
+
+pub returns-then-v : goal.returns-then-v
+returns-then-v c = record { steady = steady_wrote _ _ _ _ c.keep_rows-v.auto.list refl; done_rows = rows_left c.requires.asked c.requires.ask_rows (c.keep_rows-v.ensures.rows refl) c.if-v.true }
+
+pub returns : goal.returns
+returns c = record { steady = steady_wrote _ _ _ _ c.keep_rows-v.auto.list refl; done_rows = rows_all c.requires.asked c.requires.ask_rows (c.keep_rows-v.ensures.rows refl) (omega (arith, c.if-e-i.false)) c.if-v.false }
