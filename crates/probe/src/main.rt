@@ -36,6 +36,8 @@ mod plan_calls;
 mod table_calls;
 mod tally_calls;
 
+ghost use Rattle.std.specs.Prelude.{◌≡◌, length};
+
 use calls::Call;
 use program_console::{input, rooms};
 use program_lines::words;
@@ -133,8 +135,15 @@ fn run(
     Ok(())
 }
 
+// Room for a line. The contract gives only the length, which lending it as a slice needs.
+fn line_room() -> [u8; LINE_ROOM]
+    ensures { 524800 ≡ length result }
+{
+    [0; LINE_ROOM]
+}
+
 fn main(rt: HostRuntime) -> io::Result<()> {
     let mut buffer = rooms::large_buffer();
-    let mut line = [0u8; LINE_ROOM];
+    let mut line = line_room();
     run(&rt, &mut rt.reader(), &mut buffer, &mut line)
 }
