@@ -1,21 +1,16 @@
 -- The answers of compile, and of run and select, case by case: each refusal on its condition, and what every lent byte and place holds afterwards.
--- Assumes nothing.
+-- What it rests on; proofs/Cases has the answers. Assumes nothing.
 use Rattle.std.specs.Prelude.{ℕ, ◌+◌, ◌≤◌, ◌≡◌, refl, Bool, true, false, ◌&&◌, List, ◌++◌, leb, length, drop}
-use Rattle.std.proofs.Common.{arith, ap, sym, ◌∙◌, subst, leb-true, leb-false, le-leb}
+use Rattle.std.proofs.Common.{arith, ap, sym, ◌∙◌, leb-true, leb-false, le-leb}
 use Rattle.std.proofs.lemmas.Bool.{lt-leb}
 use Rattle.std.proofs.lemmas.List.Edits.{sets, sets-eq}
 use Rattle.definition.specs.Forms.{Query}
 use Rattle.definition.specs.Plans.{plan_of, pool_of}
-use Rattle.definition.specs.Tables.{Checked, check_table, tree}
-use Rattle.definition.specs.Tables.Checked.{accepted, sized, wrong_at, text_at}
-use Rattle.definition.specs.Evaluation.{selected}
-use Rattle.definition.specs.Outcomes.{Reading, Reads, Spells, CompileOutcome, Compiles, RunOutcome, Runs, Selects, write, compile_by, refuse_run, run_table, run_by}
-use Rattle.definition.specs.Outcomes.Reading.{refused, form}
+use Rattle.definition.specs.Outcomes.{Reading, CompileOutcome, write, compile_by}
+use Rattle.definition.specs.Outcomes.Reading.{form}
 use Rattle.basics.specs.Bools.{and_false}
-use Rattle.promises_stated.specs.Promises.{CompileCase, Listed, RunCase}
+use Rattle.promises_stated.specs.Promises.{CompileCase}
 use Rattle.promises_stated.specs.Promises.CompileCase.{refuses as refusesQuery, small_plan, small_pool, writes}
-use Rattle.promises_stated.specs.Promises.RunCase.{refuses as refusesRun, wrong_size_lem, wrong_node, wrong_text, lists}
-use Rattle.promises_stated.specs.Lists.{placed_listed, listed_one}
 
 -- ---- the answers of compile, case by case
 
@@ -26,7 +21,7 @@ stored P v h =
     ap (λ (n : ℕ). v ++ drop n P) e ∙ sym (sets-eq v P 0 (omega arith))
 
 -- both rooms are large enough, or one of them is too small
-write_case : (q : Query) (P R : List ℕ) (a b : Bool) → leb (length (plan_of q)) (length P) ≡ a → leb (length (pool_of q)) (length R) ≡ b
+pub write_case : (q : Query) (P R : List ℕ) (a b : Bool) → leb (length (plan_of q)) (length P) ≡ a → leb (length (pool_of q)) (length R) ≡ b
     → CompileCase P R (form q) (write (a && b) (plan_of q) (pool_of q) P R)
 unfolding write
 write_case q P R true true e f =
@@ -36,11 +31,6 @@ write_case q P R true true e f =
 write_case q P R true false e f = small_pool q (leb-false (length (pool_of q)) (length R) f)
 write_case q P R false b e f = small_plan q (leb-false (length (plan_of q)) (length P) e)
 
-pub compile_case : (x : Reading) (P R : List ℕ) → CompileCase P R x (compile_by x P R)
-unfolding compile_by
-compile_case (refused n) P R = refusesQuery n
-compile_case (form q) P R = write_case q P R (leb (length (plan_of q)) (length P)) (leb (length (pool_of q)) (length R)) refl refl
-
 -- the cases leave one outcome: the definition's
 pub compile_case_is : {P R : List ℕ} {x : Reading} {c : CompileOutcome} → CompileCase P R x c → c ≡ compile_by x P R
 unfolding compile_by write
@@ -48,43 +38,3 @@ compile_case_is (refusesQuery n) = refl
 compile_case_is {P} {R} (small_plan q h) = rw (lt-leb (length (plan_of q)) (length P) h)
 compile_case_is {P} {R} (small_pool q h) = rw (lt-leb (length (pool_of q)) (length R) h, and_false (leb (length (plan_of q)) (length P)))
 compile_case_is {P} {R} (writes q m n) = rw (le-leb (length (plan_of q)) (length P) m, le-leb (length (pool_of q)) (length R) n, stored P (plan_of q) m, stored R (pool_of q) n)
-
--- what compile answers, case by case
-pub compile_cases : {s P R : List ℕ} {c : CompileOutcome} → Compiles s P R c → (x : Reading) × Reads s x × CompileCase P R x c
-compile_cases {P = P} {R = R} k = (k.reading, k.reads, subst (CompileCase P R k.reading) (sym k.is) (compile_case k.reading P R))
-
--- ---- the answers of run and of select, case by case
-
--- what the check of the table comes to
-table_case : (q : Query) (T X L : List ℕ) (at : ℕ) (c : Checked) → check_table T X ≡ c → RunCase T X L at (form q) (run_table c q T X L at)
-unfolding run_table refuse_run
-table_case q T X L at accepted e = lists q e (placed_listed (selected q (tree T X)) L at)
-table_case q T X L at sized e = wrong_size_lem q e
-table_case q T X L at (wrong_at i) e = wrong_node q i e
-table_case q T X L at (text_at i) e = wrong_text q i e
-
-pub run_case : (x : Reading) (T X L : List ℕ) (at : ℕ) → RunCase T X L at x (run_by x T X L at)
-unfolding run_by refuse_run
-run_case (refused n) T X L at = refusesRun n
-run_case (form q) T X L at = table_case q T X L at (check_table T X) refl
-
--- the outcome for a form on an accepted table
-pub accepted_lists : (q : Query) (T X L : List ℕ) (at : ℕ) → check_table T X ≡ accepted → Listed (selected q (tree T X)) L at (run_by (form q) T X L at)
-unfolding run_by run_table
-accepted_lists q T X L at h = rw h (placed_listed (selected q (tree T X)) L at)
-
--- the cases leave one outcome: the definition's
-pub case_is : {T X L : List ℕ} {at : ℕ} {x : Reading} {o : RunOutcome} → RunCase T X L at x o → o ≡ run_by x T X L at
-unfolding run_by run_table refuse_run
-case_is (refusesRun n) = refl
-case_is (wrong_size_lem q e) = rw e
-case_is (wrong_node q i e) = rw e
-case_is (wrong_text q i e) = rw e
-case_is {T} {X} {L} {at} (lists q e l) = listed_one l (accepted_lists q T X L at e)
-
--- what select and run answer, case by case
-pub select_cases : {s T X L : List ℕ} {at : ℕ} {o : RunOutcome} → Selects s T X L at o → (x : Reading) × Reads s x × RunCase T X L at x o
-select_cases {T = T} {X = X} {L = L} {at = at} k = (k.reading, k.reads, subst (RunCase T X L at k.reading) (sym k.is) (run_case k.reading T X L at))
-
-pub run_cases : {plan pool T X L : List ℕ} {at : ℕ} {o : RunOutcome} → Runs plan pool T X L at o → (x : Reading) × Spells plan pool x × RunCase T X L at x o
-run_cases {T = T} {X = X} {L = L} {at = at} k = (k.reading, k.reads, subst (RunCase T X L at k.reading) (sym k.is) (run_case k.reading T X L at))

@@ -1,4 +1,4 @@
--- When a table is refused by 9, by 10 and by 17, and with which node; and what an accepted table is. Assumes nothing.
+-- When a table is refused by 9, by 10 and by 17, and with which node; and what an accepted table is. The first of these in an order is in proofs/Checks. Assumes nothing.
 use Rattle.std.specs.Prelude.{ℕ, ◌%◌, ◌<◌, ◌↔◌, List, ◌++◌, Bool, not, ◌||◌, eqb, ltb, length}
 use Rattle.std.proofs.Common.{arith, ◌∙◌, subst, true≢false, ltb-true, eqb-true}
 use Rattle.std.proofs.Math.Path.{◌≡◌, refl, sym}
@@ -153,12 +153,6 @@ module _ (T X : List ℕ) where
 
   pub accepted_first : (rs : List Rule) (k : ℕ) → check_table T X ≡ accepted → First rs k → First (table_rules T X ++ rs) k
   accepted_first rs k h f = let w = accepted_why h in inr (w.0, inr (w.1, inr (w.2, f)))
-
-  pub table_first : (rs : List Rule) (k : ℕ) (c : Checked) → check_table T X ≡ c → (c ≡ accepted → First rs k) → First (table_rules T X ++ rs) (checked_or k c)
-  table_first rs k accepted h f = accepted_first rs k h (f refl)
-  table_first rs k sized h f = inl (refl, sized_why h)
-  table_first rs k (wrong_at i) h f = wrong_first rs i h
-  table_first rs k (text_at i) h f = text_first rs i h
 
   -- ---- what an accepted table was before the check became two: a right size, and the joined rule at each node
 

@@ -1,4 +1,5 @@
 -- The theorems: what is proved of the product as a whole, for a reader who is no prover. Every statement below is proved.
+-- Those that rest on other theorems of this crate stand in proofs/Demands.antt, under the same numbers: 3, 4 and 5 whole, and parts of 1, 2 and 8.
 -- `A → B → C` says that C holds wherever A and B do, `A × B` that both hold, `A ⊎ B` that one of them does, `(x : A) × B` that some x is such that B, `A ↔ B` that each follows from the other.
 -- What the letters and the types are stands in Promises.antt, and when each operation refuses in Refusals.antt. The contracts of the crate `promises`, on which the linked
 -- library stands, say of each operation's answer:
@@ -17,21 +18,19 @@ use Rattle.std.proofs.Common.{sym, ap, ◌∙◌}
 use Rattle.std.proofs.Math.Option.{Option, none}
 use Rattle.regex_definition.specs.Regexp.{Regexp, Describes}
 use Rattle.regex_definition.specs.Scope.{Scope, part, widen, Part}
-use Rattle.definition.specs.Limits.{max_query, max_plan}
 use Rattle.definition.specs.Values.{Json}
 use Rattle.definition.specs.Forms.{Query, Argument}
 use Rattle.definition.specs.Forms.Test.{regex}
 use Rattle.definition.specs.Plans.{plan_of, pool_of}
 use Rattle.definition.specs.Slices.{slice_places}
 use Rattle.definition.specs.StandardSlices.{rfc_places}
-use Rattle.definition.specs.Tables.{node_count, record_right, text_right, check_records, check_texts, and_then, check_table, tree}
+use Rattle.definition.specs.Tables.{node_count, record_right, text_right, check_records, check_texts, and_then, check_table}
 use Rattle.definition.specs.Tables.Checked.{accepted, wrong_at, text_at}
 use Rattle.definition.specs.TableOutcomes.{TableOutcome, PartOutcome}
 use Rattle.definition.specs.Paths.{PathOutcome, path_of}
 use Rattle.definition.specs.Evaluation.{selected, eval_test, eval_argument}
-use Rattle.definition.specs.Outcomes.{Reading, Reads, Spells, CompileOutcome, Compiles, RunOutcome, Runs, Selects, ChecksPlan, run_by}
+use Rattle.definition.specs.Outcomes.{Reads, CompileOutcome, RunOutcome, Runs, ChecksPlan, run_by}
 use Rattle.definition.specs.Outcomes.Reading.{form}
-use Rattle.definition_examples.specs.Rows.{starred_rows}
 use Rattle.definition_standards.specs.Slices.{Standard, slices_standard}
 use Rattle.definition_standards.proofs.Slices.{no_start_standard}
 use Rattle.table_laws.specs.Joined.{node_right}
@@ -46,21 +45,16 @@ use Rattle.tally_laws.specs.Forms.{items_of}
 use Rattle.tally_laws.specs.Tallies.{TallyOutcome, Tallies, tally_by, with_plan, all_kinds}
 use Rattle.tally_laws.proofs.Meets.{plan_items}
 use Rattle.tally_laws.specs.Taken.{occurring, example, example_counts}
-use Rattle.promises_stated.specs.Promises.{Settled, ReadsOnly, CompilesOnly, SelectsOnly, RunsOnly, ChecksPlanOnly, TalliesOnly, ChecksRecordsOnly, ChecksTextsOnly, ChecksTableOnly, TextOnly, TextBegins, KeyOnly, KeyBegins, PathOnly, CompileCase, Listed, RunCase, PathCase, alone, plan_in, pool_in, PlanWritten, Stored, AllServed, AllAnswer, Unchanged, Taken, Counted, plan_bytes}
-use Rattle.promises_stated.specs.Refusals.{First, WrongSize, LeastWrong, NoText, NoKey, compile_rules, select_rules, run_rules, plan_rules, record_rules, text_rules, table_rules, part_rules, path_rules, tally_rules}
+use Rattle.promises_stated.specs.Promises.{Settled, SelectsOnly, ChecksPlanOnly, TalliesOnly, ChecksRecordsOnly, ChecksTextsOnly, ChecksTableOnly, TextOnly, TextBegins, KeyOnly, KeyBegins, PathOnly, PathCase, plan_in, pool_in, PlanWritten, Unchanged, Taken, Counted, plan_bytes}
+use Rattle.promises_stated.specs.Refusals.{First, WrongSize, LeastWrong, plan_rules, record_rules, text_rules, tally_rules}
 use Rattle.promises_stated.specs.Firsts.{exactly}
 use Rattle.promises_stated.specs.Checks.{wrong_why, text_why, records_least, texts_least, accepted_joined, texts_joined}
-use Rattle.promises_stated.specs.Exactly.{compile_first, select_first, run_first, plan_check_first, records_check_first, texts_check_first, table_check_first, text_of_first, key_of_first, tally_first}
-use Rattle.promises_stated.specs.Cases.{compile_cases, select_cases, run_cases}
-use Rattle.promises_stated.specs.Written.{written, written_only, enough}
-use Rattle.promises_stated.specs.Rooms.{plan_within, pool_within, no_twelve, never_twelve, ten_slices, ten_slices_form, ten_slices_lem}
-use Rattle.promises_stated.specs.Running.{runs_iff, written_passes, written_lists, written_selects}
-use Rattle.promises_stated.specs.Stored.{stored}
-use Rattle.promises_stated.specs.Served.{serving_plan, serving_pool, versions, served}
-use Rattle.promises_stated.specs.Selected.{starred_answers}
+use Rattle.promises_stated.specs.Exactly.{plan_check_first, records_check_first, texts_check_first, tally_first}
+use Rattle.promises_stated.specs.Rooms.{plan_within, pool_within, ten_slices, ten_slices_form, ten_slices_lem}
+use Rattle.promises_stated.specs.Running.{runs_iff, written_passes, written_selects}
 use Rattle.promises_stated.specs.Series.{leaves, series}
-use Rattle.promises_stated.specs.Matching.{Matches, In, asking, Asked, test_matches, asking_selects, any_part, never_first}
-use Rattle.promises_stated.specs.Paths.{path_case, path_first, case_written, path_compiles, path_runs, path_selected}
+use Rattle.promises_stated.specs.Matching.{Matches, In, asking, Asked, test_matches, asking_selects, any_part}
+use Rattle.promises_stated.specs.Paths.{path_case, case_written}
 
 -- ---- 1. Each operation has one outcome for each input. Its contract says so: two outcomes that are allowed beside the one answered coincide.
 
@@ -102,30 +96,12 @@ one_text_place T i n = begins_one
 pub one_key_place : (T : List ℕ) (i n : ℕ) {t p p' : ℕ × ℕ} → KeyBegins T i n t p → KeyBegins T i n t p' → p ≡ p'
 one_key_place T i n = begins_one
 
--- CompileCase, RunCase and PathCase list the answers, each with its condition and with what every lent byte and place holds
-pub compile_answers : {s P R : List ℕ} {c : CompileOutcome} → Compiles s P R c → (x : Reading) × Reads s x × CompileCase P R x c
-compile_answers = compile_cases
-
-pub select_answers : {s T X L : List ℕ} {at : ℕ} {o : RunOutcome} → Selects s T X L at o → (x : Reading) × Reads s x × RunCase T X L at x o
-select_answers = select_cases
-
-pub run_answers : {plan pool T X L : List ℕ} {at : ℕ} {o : RunOutcome} → Runs plan pool T X L at o → (x : Reading) × Spells plan pool x × RunCase T X L at x o
-run_answers = run_cases
-
+-- PathCase lists the answers of path of a node, each with its condition and with what every lent byte holds; those of compile, select and run: proofs/Demands.antt
 pub path_answers : (T X : List ℕ) (i : ℕ) (B : List ℕ) {o : PathOutcome} → PathOnly T X i B o → PathCase T X i B o
 path_answers T X i B k = path_case T X i B k
 
 -- Exactly when: each operation answers n if and only if n is the first number of its order whose condition holds, or n is 0 and no condition holds.
--- Refusals.antt has a condition for each row of document 01's table, and the orders.
-pub compile_exactly : {s P R : List ℕ} {c : CompileOutcome} → CompilesOnly s P R c → (n : ℕ) → (c.refusal ≡ n) ↔ First (compile_rules s P R) n
-compile_exactly {s} {P} {R} k = exactly (compile_rules s P R) (compile_first k)
-
-pub select_exactly : {s T X L : List ℕ} {at : ℕ} {o : RunOutcome} → SelectsOnly s T X L at o → (n : ℕ) → (o.refusal ≡ n) ↔ First (select_rules s T X L at) n
-select_exactly {s} {T} {X} {L} {at} k = exactly (select_rules s T X L at) (select_first k)
-
-pub run_exactly : {plan pool T X L : List ℕ} {at : ℕ} {o : RunOutcome} → RunsOnly plan pool T X L at o → (n : ℕ) → (o.refusal ≡ n) ↔ First (run_rules plan pool T X L at) n
-run_exactly {plan} {pool} {T} {X} {L} {at} k = exactly (run_rules plan pool T X L at) (run_first k.is)
-
+-- Refusals.antt has a condition for each row of document 01's table, and the orders. The other operations: proofs/Demands.antt.
 pub plan_check_exactly : {plan pool : List ℕ} {m : ℕ} → ChecksPlanOnly plan pool m → (n : ℕ) → (m ≡ n) ↔ First (plan_rules plan pool) n
 plan_check_exactly {plan} {pool} k = exactly (plan_rules plan pool) (plan_check_first k.is)
 
@@ -135,18 +111,6 @@ records_check_exactly T X k = exactly (record_rules T X) (records_check_first T 
 pub texts_check_exactly : (T X : List ℕ) {o : TableOutcome} → ChecksTextsOnly T X o → (n : ℕ) → (o.refusal ≡ n) ↔ First (text_rules T X) n
 texts_check_exactly T X k = exactly (text_rules T X) (texts_check_first T X k)
 
-pub table_check_exactly : (T X : List ℕ) {o : TableOutcome} → ChecksTableOnly T X o → (n : ℕ) → (o.refusal ≡ n) ↔ First (table_rules T X) n
-table_check_exactly T X k = exactly (table_rules T X) (table_check_first T X k)
-
-pub text_exactly : (T X : List ℕ) (i : ℕ) {o : PartOutcome} → TextOnly T X i o → (n : ℕ) → (o.number ≡ n) ↔ First (part_rules (NoText T i) T X) n
-text_exactly T X i k = exactly (part_rules (NoText T i) T X) (text_of_first T X i k)
-
-pub key_exactly : (T X : List ℕ) (i : ℕ) {o : PartOutcome} → KeyOnly T X i o → (n : ℕ) → (o.number ≡ n) ↔ First (part_rules (NoKey T i) T X) n
-key_exactly T X i k = exactly (part_rules (NoKey T i) T X) (key_of_first T X i k)
-
-pub path_exactly : (T X : List ℕ) (i : ℕ) (B : List ℕ) {o : PathOutcome} → PathOnly T X i B o → (n : ℕ) → (o.refusal ≡ n) ↔ First (path_rules T X i B) n
-path_exactly T X i B k = exactly (path_rules T X i B) (path_first T X i B k)
-
 pub tally_exactly : {plan pool C : List ℕ} {m : ℕ} {o : TallyOutcome} → TalliesOnly plan pool C m o → (n : ℕ) → (o.refusal ≡ n) ↔ First (tally_rules plan pool C m) n
 tally_exactly {plan} {pool} {C} {m} k = exactly (tally_rules plan pool C m) (tally_first k.is)
 
@@ -154,47 +118,17 @@ tally_exactly {plan} {pool} {C} {m} k = exactly (tally_rules plan pool C m) (tal
 pub ten_names_least : (T X : List ℕ) (i : ℕ) → check_table T X ≡ wrong_at i → LeastWrong (record_right T) (node_count T) i
 ten_names_least T X i h = (wrong_why T X i h).1
 
--- 7 is given by no operation (document 02, W4): "7 is no longer met by any input". The two that gave it:
-pub compile_never_seven : {s P R : List ℕ} {c : CompileOutcome} → CompilesOnly s P R c → c.refusal ≡ 7 → ⊥
-compile_never_seven {s} {P} {R} k e = never_first (compile_rules s P R) 7 refl ((compile_exactly k 7).0 e)
-
-pub select_never_seven : {s T X L : List ℕ} {at : ℕ} {o : RunOutcome} → SelectsOnly s T X L at o → o.refusal ≡ 7 → ⊥
-select_never_seven {s} {T} {X} {L} {at} k e = never_first (select_rules s T X L at) 7 refl ((select_exactly k 7).0 e)
-
--- and a run
-pub run_never_seven : {plan pool T X L : List ℕ} {at : ℕ} {o : RunOutcome} → RunsOnly plan pool T X L at o → o.refusal ≡ 7 → ⊥
-run_never_seven {plan} {pool} {T} {X} {L} {at} k e = never_first (run_rules plan pool T X L at) 7 refl ((run_exactly k 7).0 e)
-
 pub seventeen_names_least : (T X : List ℕ) (i : ℕ) → check_table T X ≡ text_at i → LeastWrong (text_right T X) (node_count T) i
 seventeen_names_least T X i h = (text_why T X i h).2
 
 -- ---- 2. What compile writes runs as the definition says, on every accepted table, from every position of every list; and select answers the same.
 
--- compile that succeeds wrote the plan and the pool of the query's form into the first bytes of its rooms, and nothing behind them
-pub compile_writes : {s P R : List ℕ} {c : CompileOutcome} → Compiles s P R c → c.refusal ≡ 0 → PlanWritten s P R c
-compile_writes = written
-
--- and the query has no other reading
-pub compile_settles : {s P R : List ℕ} {c : CompileOutcome} → CompilesOnly s P R c → c.refusal ≡ 0 → (w : PlanWritten s P R c) → ReadsOnly s (form w.query)
-compile_settles = written_only
-
--- rooms of 65,535 bytes are enough for every query that has a form
-pub rooms_enough : {s P R : List ℕ} {c : CompileOutcome} (q : Query) → Reads s (form q) → CompilesOnly s P R c → max_plan ≤ length P → max_plan ≤ length R → c.refusal ≡ 0
-rooms_enough = enough
-
--- a plan has at most 13 bytes for each byte of its query, and a pool one: so rooms of that size are enough too
+-- a plan has at most 13 bytes for each byte of its query, and a pool one: so rooms of that size are enough too (`rooms_by_length` in proofs/Demands.antt)
 pub plan_room_lem : {s : List ℕ} (q : Query) → Reads s (form q) → length (plan_of q) ≤ plan_bytes * length s
 plan_room_lem = plan_within
 
 pub pool_room_lem : {s : List ℕ} (q : Query) → Reads s (form q) → length (pool_of q) ≤ length s
 pool_room_lem = pool_within
-
-pub rooms_by_length : {s P R : List ℕ} {c : CompileOutcome} → CompilesOnly s P R c → plan_bytes * length s ≤ length P → length s ≤ length R → c.refusal ≡ 12 → ⊥
-rooms_by_length = no_twelve
-
--- and rooms of 53,248 and 4,096 bytes are never too small, whatever the query
-pub rooms_for_all : {s P R : List ℕ} {c : CompileOutcome} → CompilesOnly s P R c → plan_bytes * max_query ≤ length P → max_query ≤ length R → c.refusal ≡ 12 → ⊥
-rooms_for_all = never_twelve
 
 -- 12 for each byte would not do: the query `$[:,:,:,:,:,:,:,:,:,:]`, of 22 bytes, has a plan of 265
 pub twelve_too_few : Reads ten_slices (form ten_slices_form) × (12 * length ten_slices < length (plan_of ten_slices_form))
@@ -204,12 +138,7 @@ twelve_too_few = ten_slices_lem
 pub written_checks : {s P R : List ℕ} {c : CompileOutcome} {n : ℕ} → PlanWritten s P R c → ChecksPlan (plan_in c) (pool_in c) n → n ≡ 0
 written_checks w k = written_passes w k
 
--- a run of it lists the nodes that the query selects from the table's tree; Listed says where, and what 13 and 14 leave
-pub written_runs : {s P R : List ℕ} {c : CompileOutcome} (w : PlanWritten s P R c) (T X L : List ℕ) (at : ℕ) {o : RunOutcome}
-    → check_table T X ≡ accepted → Runs (plan_in c) (pool_in c) T X L at o → Listed (selected w.query (tree T X)) L at o
-written_runs w T X L at = written_lists w T X L at
-
--- select of the query answers what that run answers, on every table, the refused ones too
+-- select of the query answers what a run of it answers, on every table, the refused ones too
 pub select_as_run : {s P R T X L : List ℕ} {at : ℕ} {c : CompileOutcome} {o o' : RunOutcome} → PlanWritten s P R c → SelectsOnly s T X L at o → Runs (plan_in c) (pool_in c) T X L at o' → o ≡ o'
 select_as_run w k r = written_selects w k r
 
@@ -217,27 +146,12 @@ select_as_run w k r = written_selects w k r
 pub plan_runs : {s : List ℕ} (q : Query) → Reads s (form q) → (T X L : List ℕ) (at : ℕ) (o : RunOutcome) → Runs (plan_of q) (pool_of q) T X L at o ↔ (o ≡ run_by (form q) T X L at)
 plan_runs = runs_iff
 
--- ---- 3. One plan serves before and after any value changes kind: for any two accepted tables, the runs of one plan give each table's list.
+-- ---- 3. One plan serves before and after any value changes kind: for any two accepted tables, the runs of one plan give each table's list: proofs/Demands.antt.
 
-pub one_plan_serves : {s P R : List ℕ} {c : CompileOutcome} (w : PlanWritten s P R c) (T X T' X' L L' : List ℕ) (at at' : ℕ) {o o' : RunOutcome}
-    → check_table T X ≡ accepted → check_table T' X' ≡ accepted → Runs (plan_in c) (pool_in c) T X L at o → Runs (plan_in c) (pool_in c) T' X' L' at' o'
-    → Listed (selected w.query (tree T X)) L at o × Listed (selected w.query (tree T' X')) L' at' o'
-one_plan_serves w T X T' X' L L' at at' h h' r r' = (written_runs w T X L at h r, written_runs w T' X' L' at' h' r')
-
--- for one, the plan of `$.a[?@ >= 20]` on five tables whose values differ in kind
-pub one_plan_served : AllServed serving_plan serving_pool versions
-one_plan_served = served
-
--- ---- 4. Plan bytes from elsewhere are refused by 11, with the list as it was, or they spell exactly one query form and run as that form. Stored says which, by what plan check answers.
-
-pub stored_plans : {plan pool : List ℕ} {n : ℕ} → ChecksPlan plan pool n → Stored plan pool n
-stored_plans = stored
+-- ---- 4. Plan bytes from elsewhere are refused by 11, with the list as it was, or they spell exactly one query form and run as that form. Stored says which, by what plan check answers: proofs/Demands.antt.
 
 -- ---- 5. Document 01's starred sample rows: what select answers for each, and what running its compiled plan answers.
--- One of them is a plan (W12), which plan check accepts and run answers; its query is refused by 5 (`retired` in Refused.antt).
-
-pub starred_rows_lem : AllAnswer starred_rows
-starred_rows_lem = starred_answers
+-- One of them is a plan (W12), which plan check accepts and run answers; its query is refused by 5 (`retired` in Refused.antt). The theorem: proofs/Demands.antt.
 
 -- ---- 6. What plans consist of (W14).
 
@@ -272,17 +186,6 @@ startless_standard = no_start_standard
 -- what the operation writes with refusal 0 is the path of a node of an accepted table
 pub path_written : (T X : List ℕ) (i : ℕ) (B : List ℕ) {o : PathOutcome} → PathOnly T X i B o → o.refusal ≡ 0 → (check_table T X ≡ accepted) × (i < node_count T) × (take o.size o.room ≡ path_of T X i)
 path_written T X i B k z = case_written (path_case T X i B k) z
-
--- a path of at most 4,096 bytes, compiled into rooms of 65,535 bytes and run, selects that node alone, in every list with a place from the start position on
-pub path_selects : (T X : List ℕ) → check_table T X ≡ accepted → (i : ℕ) → i < node_count T → length (path_of T X i) ≤ max_query
-    → {P R : List ℕ} {c : CompileOutcome} → CompilesOnly (path_of T X i) P R c → max_plan ≤ length P → max_plan ≤ length R
-    → (c.refusal ≡ 0) × ((L : List ℕ) (at : ℕ) (o : RunOutcome) → at < length L → Runs (plan_in c) (pool_in c) T X L at o → o ≡ alone i L at)
-path_selects T X h i l m k a b = let z = path_compiles T X h i l m k a b in (z, λ L at o p r. path_runs T X h i l m k z p r)
-
--- and so does select of it
-pub path_select : (T X : List ℕ) → check_table T X ≡ accepted → (i : ℕ) → i < node_count T → length (path_of T X i) ≤ max_query
-    → {L : List ℕ} {at : ℕ} {o : RunOutcome} → at < length L → SelectsOnly (path_of T X i) T X L at o → o ≡ alone i L at
-path_select T X h i l m p k = path_selected T X h i l m p k
 
 -- two nodes of a table never share a path, whatever its length
 pub paths_differ : (T X : List ℕ) → check_table T X ≡ accepted → (i j : ℕ) → i < node_count T → j < node_count T → path_of T X i ≡ path_of T X j → i ≡ j

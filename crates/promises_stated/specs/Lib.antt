@@ -10,7 +10,6 @@ pub mod Exactly
 pub mod Rooms
 pub mod Stored
 pub mod Served
-pub mod Selected
 pub mod Series
 pub mod Paths
 pub mod Matching

@@ -1,5 +1,5 @@
 -- What a run or a selection over an accepted table leaves in the lent list: the nodes from the start position on, or refusal 13 or 14.
--- Assumes nothing.
+-- proofs/Lists concludes that the definition's outcome is so. Assumes nothing.
 use Rattle.std.specs.Prelude.{ℕ, ◌+◌, ◌-◌, ◌≤◌, ◌<◌, ◌≡◌, Bool, leb, drop}
 use Rattle.std.proofs.Common.{arith, ap, sym, ◌∙◌, drop_of_length-le}
 use Rattle.std.proofs.Math.Path.{refl, subst}
@@ -9,7 +9,7 @@ use borrow.Author.Tests.{leb-true, leb-false}
 use Rattle.std.proofs.Math.ListN.{length, take}
 use Rattle.std.proofs.Math.Seq.{sets, length-take-le}
 use Rattle.std.proofs.lemmas.List.Edits.{sets-eq}
-use Rattle.definition.specs.Outcomes.{RunOutcome, refuse_run, place, place_from}
+use Rattle.definition.specs.Outcomes.{RunOutcome, refuse_run, place}
 use Rattle.promises_stated.specs.Promises.{Listed, listed, filled, beyond}
 
 -- ---- the definition's outcome is of this kind
@@ -21,7 +21,7 @@ sets_to_end v l i e =
     sets-eq v l i (omega arith) ∙ ap (λ (x : List ℕ). take i l ++ v ++ x) d ∙ append-nil (take i l ++ v)
 
 module _ (ns L : List ℕ) (at : ℕ) where
-  placed : (b : Bool) → at ≤ length L → leb (length ns) (length L - at) ≡ b → Listed ns L at (place b ns L at)
+  pub placed : (b : Bool) → at ≤ length L → leb (length ns) (length L - at) ≡ b → Listed ns L at (place b ns L at)
   unfolding place refuse_run
   placed true h e =
       let f : at + length ns ≤ length L = omega (arith, leb-true (length ns) (length L - at) e) in
@@ -31,14 +31,6 @@ module _ (ns L : List ℕ) (at : ℕ) where
       let n : length (take (length L - at) ns) ≡ length L - at = length-take-le (length L - at) ns (omega arith) in
       let s : sets L at (take (length L - at) ns) ≡ take at L ++ take (length L - at) ns = sets_to_end (take (length L - at) ns) L at (omega arith) in
       subst (λ (x : List ℕ). Listed ns L at (record { refusal = 13; count = 0; node = 0; places = x })) (sym s) (filled h (omega arith))
-
-  from : (b : Bool) → leb at (length L) ≡ b → Listed ns L at (place_from b ns L at)
-  unfolding place_from refuse_run
-  from true e = placed (leb (length ns) (length L - at)) (leb-true at (length L) e) refl
-  from false e = beyond (leb-false at (length L) e)
-
-  pub placed_listed : Listed ns L at (place_from (leb at (length L)) ns L at)
-  placed_listed = from (leb at (length L)) refl
 
 -- ---- and there is no other of this kind
 

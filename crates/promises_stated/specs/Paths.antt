@@ -1,27 +1,25 @@
--- Path of a node: its answers and when each is given; and what compile, run and select do with a path of at most 4,096 bytes. Assumes nothing.
+-- Path of a node: its answers. When each is given, and what compile, run and select do with a path of at most 4,096 bytes, is in proofs/Paths. Assumes nothing.
 use Rattle.std.specs.Prelude.{ℕ, ◌+◌, ◌≤◌, ◌<◌, ◌≡◌, List, [], ◌∷◌, Bool, cond, length, take, drop}
-use Rattle.std.proofs.Common.{arith, sym, ap, ◌∙◌, inl, inr, ltb-true, ltb-false}
+use Rattle.std.proofs.Common.{arith, sym, inl, inr, ltb-true, ltb-false}
 use Rattle.std.proofs.Math.Path.{refl, subst}
 use Rattle.std.proofs.Math.Bool.{true, false}
 use Rattle.std.proofs.Math.Dec.{ltb}
 use Rattle.std.proofs.Math.Seq.{take-append_seam}
-use Rattle.definition.specs.Limits.{max_query, max_plan}
+use Rattle.definition.specs.Limits.{max_query}
 use Rattle.definition.specs.Tables.{Checked, node_count, check_table}
 use Rattle.definition.specs.Tables.Checked.{accepted, sized, wrong_at, text_at}
-use Rattle.definition.specs.Outcomes.{CompileOutcome, RunOutcome, Runs}
+use Rattle.definition.specs.Outcomes.{RunOutcome}
 use Rattle.definition.specs.Paths.{form_of, path_of, PathOutcome, put_path, path_by, path_outcome}
 use Rattle.definition_examples.specs.Gives.{Gives}
 use Rattle.table_laws.specs.Accepted.{accepted_gives}
 use Rattle.table_path_laws.specs.Finds.{steps_find}
 use Rattle.table_path_laws.specs.Addresses.{path_reads}
-use Rattle.promises_stated.specs.Promises.{CompilesOnly, SelectsOnly, PathOnly, PathCase, Listed, Answers, alone, plan_in, pool_in}
+use Rattle.promises_stated.specs.Promises.{PathOnly, PathCase, Listed, alone}
 use Rattle.promises_stated.specs.Promises.PathCase.{wrong_size_lem, wrong_node, wrong_text, no_node, small_room, writes}
 use Rattle.promises_stated.specs.Promises.Listed.{listed}
-use Rattle.promises_stated.specs.Refusals.{Rule, rule, First, NoNode, PathTooLong, path_rules}
-use Rattle.promises_stated.specs.Checks.{checked_or, table_first}
+use Rattle.promises_stated.specs.Refusals.{Rule, rule, First, NoNode, PathTooLong}
+use Rattle.promises_stated.specs.Checks.{checked_or}
 use Rattle.promises_stated.specs.Lists.{listed_one}
-use Rattle.promises_stated.specs.Written.{enough}
-use Rattle.promises_stated.specs.Selected.{row_answers}
 
 -- ---- the answers
 
@@ -41,15 +39,15 @@ module _ (T X : List ℕ) (i : ℕ) (B : List ℕ) where
   path_case e = subst (PathCase T X i B) (sym e) (case_by (check_table T X) refl (ltb i (node_count T)) (ltb (length B) (length (path_of T X i))) refl refl)
 
   -- the numbers behind the table's
-  abbrev rest : List Rule
+  abbrev pub rest : List Rule
   rest = rule 15 (NoNode T i) ∷ rule 16 (PathTooLong T X i B) ∷ []
 
-  path_rest : (x y : Bool) → ltb i (node_count T) ≡ x → ltb (length B) (length (path_of T X i)) ≡ y → First rest (cond x (cond y 16 0) 15)
+  pub path_rest : (x y : Bool) → ltb i (node_count T) ≡ x → ltb (length B) (length (path_of T X i)) ≡ y → First rest (cond x (cond y 16 0) 15)
   path_rest false y e f = inl (refl, ltb-false i (node_count T) e)
   path_rest true true e f = inr (λ h. omega (arith, ltb-true i (node_count T) e), inl (refl, ltb-true (length B) (length (path_of T X i)) f))
   path_rest true false e f = inr (λ h. omega (arith, ltb-true i (node_count T) e), inr (λ h. omega (arith, ltb-false (length B) (length (path_of T X i)) f), refl))
 
-  number_by : (c : Checked) (x y : Bool) → ltb (length B) (length (path_of T X i)) ≡ y → (path_by c x (path_of T X i) B).refusal ≡ checked_or (cond x (cond y 16 0) 15) c
+  pub number_by : (c : Checked) (x y : Bool) → ltb (length B) (length (path_of T X i)) ≡ y → (path_by c x (path_of T X i) B).refusal ≡ checked_or (cond x (cond y 16 0) 15) c
   unfolding path_by put_path
   number_by accepted true true f = rw f
   number_by accepted true false f = rw f
@@ -57,15 +55,6 @@ module _ (T X : List ℕ) (i : ℕ) (B : List ℕ) where
   number_by sized x y f = refl
   number_by (wrong_at j) x y f = refl
   number_by (text_at j) x y f = refl
-
-  -- exactly when each number is answered
-  pub path_first : {o : PathOutcome} → PathOnly T X i B o → First (path_rules T X i B) o.refusal
-  unfolding path_outcome
-  path_first e =
-      let x = ltb i (node_count T) in
-      let y = ltb (length B) (length (path_of T X i)) in
-      subst (First (path_rules T X i B)) (sym (ap (λ (o : PathOutcome). o.refusal) e ∙ number_by (check_table T X) x y refl))
-      (table_first T X rest (cond x (cond y 16 0) 15) (check_table T X) refl (λ a. path_rest x y refl refl))
 
 -- what is written is the path of a node of an accepted table
 pub case_written : {T X B : List ℕ} {i : ℕ} {o : PathOutcome} → PathCase T X i B o → o.refusal ≡ 0 → (check_table T X ≡ accepted) × (i < node_count T) × (take o.size o.room ≡ path_of T X i)
@@ -80,25 +69,8 @@ case_written {T} {X} {B} {i} (writes h l m) z = (h, l, take-append_seam (path_of
 
 module _ (T X : List ℕ) (h : check_table T X ≡ accepted) (i : ℕ) (l : i < node_count T) (m : length (path_of T X i) ≤ max_query) where
   -- the path as a row of a table of rows: on its table it gives that node alone
-  path_gives : Gives (path_of T X i) T X (i ∷ [])
+  pub path_gives : Gives (path_of T X i) T X (i ∷ [])
   path_gives = record { query = form_of T X i; reads = path_reads T X h i l m; table = h; selects = steps_find T X (accepted_gives T X h) i l }
 
-  -- select and run answer by the list of the one node, on every list from every position
-  path_answers : Answers (path_of T X i) T X (i ∷ [])
-  path_answers = row_answers path_gives
-
-  -- compile takes the path where its rooms have 65,535 bytes each
-  pub path_compiles : {P R : List ℕ} {c : CompileOutcome} → CompilesOnly (path_of T X i) P R c → max_plan ≤ length P → max_plan ≤ length R → c.refusal ≡ 0
-  path_compiles k a b = enough (form_of T X i) (path_reads T X h i l m) k a b
-
-  only : {L : List ℕ} {at : ℕ} {o : RunOutcome} → at < length L → Listed (i ∷ []) L at o → o ≡ alone i L at
+  pub only : {L : List ℕ} {at : ℕ} {o : RunOutcome} → at < length L → Listed (i ∷ []) L at o → o ≡ alone i L at
   only {L} {at} k w = let f : at + length (i ∷ []) ≤ length L = omega arith in listed_one w (listed f)
-
-  -- what compile wrote, run in a list with a place from the start position on, writes that node there and nothing else
-  pub path_runs : {P R L : List ℕ} {at : ℕ} {c : CompileOutcome} {o : RunOutcome} → CompilesOnly (path_of T X i) P R c → c.refusal ≡ 0
-      → at < length L → Runs (plan_in c) (pool_in c) T X L at o → o ≡ alone i L at
-  path_runs {P} {R} {L} {at} {c} {o} k z b r = only b (path_answers.run P R c k z L at o r)
-
-  -- and so does select
-  pub path_selected : {L : List ℕ} {at : ℕ} {o : RunOutcome} → at < length L → SelectsOnly (path_of T X i) T X L at o → o ≡ alone i L at
-  path_selected {L} {at} {o} b k = only b (path_answers.select L at o k)

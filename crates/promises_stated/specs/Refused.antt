@@ -1,7 +1,6 @@
--- A small input for each refusal number, and the answer that the promises leave for it. Assumes nothing.
+-- A small input for each refusal number, and the answer that the promises leave for it; 1, 9 and a run's 11 are in proofs/Refused. Assumes nothing.
 use Rattle.std.specs.Prelude.{ℕ, ◌≡◌, refl, List, [], ◌∷◌, replicate}
 use Rattle.std.proofs.Common.{arith, sym, ap, inl, inr}
-use Rattle.std.proofs.lemmas.List.{length-replicate}
 use Rattle.regex_definition.specs.Scope.{whole}
 use Rattle.definition.specs.Limits.{max_int}
 use Rattle.definition.specs.Lexical.Int.{zero_int, plain_int}
@@ -58,7 +57,7 @@ use Rattle.promises_stated.specs.Promises.{CompilesOnly, RunsOnly, ChecksPlanOnl
 use Rattle.promises_stated.specs.Refusals.{NotTranslated}
 use Rattle.promises_stated.specs.Rooms.{no_blank as o}
 use Rattle.promises_stated.specs.Running.{runs_as}
-use Rattle.promises_stated.specs.Demands.{compile_exactly, run_exactly, plan_check_exactly, table_check_exactly, tally_exactly}
+use Rattle.promises_stated.specs.Demands.{plan_check_exactly, tally_exactly}
 
 -- ---- queries
 
@@ -69,10 +68,6 @@ Refuses s n = (P R : List ℕ) (c : CompileOutcome) → CompilesOnly s P R c →
 by_reading : {s : List ℕ} {n : ℕ} → Reads s (refused n) → Refuses s n
 unfolding compile_by
 by_reading {n = n} r P R c k = sym (ap (λ (o : CompileOutcome). o.refusal) (k.only (compile_by (refused n) P R) (record { reading = refused n; reads = r; is = refl })))
-
--- 4,097 bytes
-pub long : Refuses (replicate 4097 0x24) 1
-long P R c k = (compile_exactly k 1).1 (inl (refl, omega (arith, length-replicate {A = ℕ} 4097 0x24)))
 
 -- the byte FF
 pub wrong : Refuses (0xFF ∷ []) 2
@@ -170,7 +165,7 @@ dollar_reads : Reads (spell dollar) (form root_form)
 unfolding computes
 dollar_reads = has_tree refl dollar refl
 
-root_translates : Translates root_form root_plan []
+pub root_translates : Translates root_form root_plan []
 unfolding computes
 root_translates = record { is_query = refl; is_plan = refl; is_pool = refl; plan_fits = omega arith; pool_fits = omega arith }
 
@@ -187,17 +182,9 @@ abbrev pub long_text : List ℕ
 long_text = node 5 0 0 0 0 1
 
 -- no plan is empty
-no_plan : NotTranslated [] []
+pub no_plan : NotTranslated [] []
 unfolding plan_of code_query
 no_plan (query s q) t = let e = t.is_plan in let z : ◌≡◌ {A = ℕ} 0 1 = cc in omega (arith, z)
-
--- 9: no table at all
-pub sized : (X : List ℕ) (o : TableOutcome) → ChecksTableOnly [] X o → o.refusal ≡ 9
-sized X o k = (table_check_exactly [] X k 9).1 (inl (refl, inl refl))
-
-module _ {L : List ℕ} {at : ℕ} (o : RunOutcome) where
-  pub sized_run : RunsOnly root_plan [] [] [] L at o → o.refusal ≡ 9
-  sized_run k = (run_exactly k 9).1 (inr (λ n. n root_form root_translates, inl (refl, inl refl)))
 
 -- 10: a kind that there is not, which the check of the texts does not look at
 pub kindless : (o : TableOutcome) → ChecksTableOnly eighth_kind [] o → o.refusal ≡ 10
@@ -220,9 +207,6 @@ outside_records o k = ap (λ (o : TableOutcome). o.refusal) k
 -- 11: no plan at all
 pub unplanned : (n : ℕ) → ChecksPlanOnly [] [] n → n ≡ 11
 unplanned n k = (plan_check_exactly k 11).1 (inl (refl, no_plan))
-
-pub unplanned_run : (T X L : List ℕ) (at : ℕ) (o : RunOutcome) → RunsOnly [] [] T X L at o → o.refusal ≡ 11
-unplanned_run T X L at o k = (run_exactly k 11).1 (inl (refl, no_plan))
 
 -- 12: `$` needs two bytes of plan
 pub roomless : (c : CompileOutcome) → CompilesOnly (spell dollar) (0 ∷ []) [] c → c.refusal ≡ 12

@@ -1,8 +1,7 @@
--- How long a plan and a pool get: by the length of the query. Assumes nothing.
-use Rattle.std.specs.Prelude.{ℕ, zero, suc, ◌*◌, ◌≤◌, ◌<◌, ◌≡◌, refl, List, [], ltb, length}
-use Rattle.std.proofs.Common.{arith, ap, inl, ltb-true, ltb-false}
+-- How long a plan and a pool get: by the length of the query. That rooms by it are never too small is in proofs/Rooms. Assumes nothing.
+use Rattle.std.specs.Prelude.{ℕ, zero, suc, ◌*◌, ◌≤◌, ◌<◌, ◌≡◌, refl, List, [], length}
+use Rattle.std.proofs.Common.{arith, ap}
 use Rattle.std.proofs.Math.Option.{none}
-use Rattle.definition.specs.Limits.{max_query}
 use Rattle.definition.specs.Lexical.{Blanks, Slice}
 use Rattle.definition.specs.Lexical.Bound.{no_bound}
 use Rattle.definition.specs.Lexical.Step.{no_step}
@@ -24,15 +23,11 @@ use Rattle.definition.specs.Outcomes.{Reading, Reads, CompileOutcome}
 use Rattle.definition.specs.Outcomes.Reading.{form}
 use Rattle.definition.specs.Outcomes.Reads.{has_tree}
 use Rattle.definition_examples.specs.Computes.{computes}
-use Rattle.utf8_laws.specs.Bytes.{by_test}
 use Rattle.compile_writes.specs.Sizes.{query_plan_fits, query_pool_fits}
 use Rattle.compile_forms.specs.Fits.{compiled, compiled_written}
-use Rattle.promises_stated.specs.Promises.{CompilesOnly, CompileCase, plan_bytes}
+use Rattle.promises_stated.specs.Promises.{CompileCase, plan_bytes}
 use Rattle.promises_stated.specs.Promises.CompileCase.{refuses as refusesQuery, small_plan, small_pool, writes}
-use Rattle.promises_stated.specs.Firsts.{exactly, refusal_range}
-use Rattle.promises_stated.specs.Refusals.{compile_rules}
-use Rattle.promises_stated.specs.Cases.{compile_cases}
-use Rattle.promises_stated.specs.Exactly.{compile_first}
+use Rattle.promises_stated.specs.Firsts.{refusal_range}
 
 pub plan_within : {s : List ℕ} (q : Query) → Reads s (form q) → length (plan_of q) ≤ plan_bytes * length s
 plan_within {s} q r =
@@ -45,21 +40,11 @@ pool_within {s} q r =
     omega (arith, ap length (compiled_written c).pool, query_pool_fits c.tree 0, ap length c.spelled)
 
 -- rooms of that size are never too small
-case_twelve : {s P R : List ℕ} {x : Reading} {c : CompileOutcome} → Reads s x → CompileCase P R x c → plan_bytes * length s ≤ length P → length s ≤ length R → c.refusal ≡ 12 → ⊥
+pub case_twelve : {s P R : List ℕ} {x : Reading} {c : CompileOutcome} → Reads s x → CompileCase P R x c → plan_bytes * length s ≤ length P → length s ≤ length R → c.refusal ≡ 12 → ⊥
 case_twelve r (refusesQuery n) a b e = omega (arith, (refusal_range r).1)
 case_twelve r (small_plan q h) a b e = omega (arith, plan_within q r)
 case_twelve r (small_pool q h) a b e = omega (arith, pool_within q r)
 case_twelve r (writes q m n) a b e = omega arith
-
-pub no_twelve : {s P R : List ℕ} {c : CompileOutcome} → CompilesOnly s P R c → plan_bytes * length s ≤ length P → length s ≤ length R → c.refusal ≡ 12 → ⊥
-no_twelve k a b e = let w = compile_cases k.is in case_twelve w.1 w.2 a b e
-
--- a longer query than may be is refused by 1, so two sizes are enough for all
-pub never_twelve : {s P R : List ℕ} {c : CompileOutcome} → CompilesOnly s P R c → plan_bytes * max_query ≤ length P → max_query ≤ length R → c.refusal ≡ 12 → ⊥
-never_twelve {s} {P} {R} k a b e =
-    by_test (ltb max_query (length s))
-    (λ t. omega (arith, (exactly (compile_rules s P R) (compile_first k) 1).1 (inl (refl, ltb-true max_query (length s) t))))
-    (λ f. let h = ltb-false max_query (length s) f in no_twelve k (omega arith) (omega arith) e)
 
 -- ---- a query that needs more than 12
 

@@ -1,18 +1,14 @@
 -- A plan and a pool that translate a query form run as that form; and select of a query gives what running its plan gives.
--- Assumes nothing.
+-- What they list on an accepted table is in proofs/Running. Assumes nothing.
 use Rattle.std.specs.Prelude.{ℕ, ◌↔◌, ◌≡◌, refl, List}
 use Rattle.std.proofs.Common.{ap, sym, ◌∙◌, subst}
 use Rattle.definition.specs.Forms.{Query}
 use Rattle.definition.specs.Plans.{plan_of, pool_of}
-use Rattle.definition.specs.Tables.{check_table, tree}
-use Rattle.definition.specs.Tables.Checked.{accepted}
-use Rattle.definition.specs.Evaluation.{selected}
 use Rattle.definition.specs.Outcomes.{Reading, Reads, Translates, spelled, CompileOutcome, RunOutcome, Runs, Selects, ChecksPlan, refusal_of, run_by}
 use Rattle.definition.specs.Outcomes.Reading.{form}
 use Rattle.compile_forms.specs.Keeps.{compiled_keeps}
 use Rattle.plan_laws.specs.One.{checks_one, runs_one}
-use Rattle.promises_stated.specs.Promises.{ReadsOnly, SelectsOnly, RunsOnly, ChecksPlanOnly, Listed, plan_in, pool_in, Holds, PlanWritten}
-use Rattle.promises_stated.specs.Cases.{accepted_lists}
+use Rattle.promises_stated.specs.Promises.{ReadsOnly, SelectsOnly, RunsOnly, ChecksPlanOnly, plan_in, pool_in, Holds, PlanWritten}
 
 -- ---- plans that translate a form
 
@@ -24,10 +20,6 @@ module _ (q : Query) (T X L : List ℕ) (at : ℕ) where
   -- and every outcome is what the definition gives for the form
   pub runs_as : {plan pool : List ℕ} {o : RunOutcome} → Translates q plan pool → Runs plan pool T X L at o → o ≡ run_by (form q) T X L at
   runs_as t r = runs_one r (runs_form t)
-
-  -- on an accepted table that is the list of the nodes selected from its tree
-  pub runs_list : {plan pool : List ℕ} {o : RunOutcome} → Translates q plan pool → check_table T X ≡ accepted → Runs plan pool T X L at o → Listed (selected q (tree T X)) L at o
-  runs_list t h r = subst (Listed (selected q (tree T X)) L at) (sym (runs_as t r)) (accepted_lists q T X L at h)
 
   -- select of a query that has this form and no other reading
   pub selects_as : {s : List ℕ} {o : RunOutcome} → ReadsOnly s (form q) → Selects s T X L at o → o ≡ run_by (form q) T X L at
@@ -72,17 +64,13 @@ pub held_runs : {s P R : List ℕ} {c : CompileOutcome} (q : Query) (T X L : Lis
 held_runs q T X L at r h u = runs_as q T X L at (held_translates q r h) u
 
 module _ {s P R : List ℕ} {c : CompileOutcome} (w : PlanWritten s P R c) where
-  abbrev translates : Translates w.query (plan_in c) (pool_in c)
+  abbrev pub translates : Translates w.query (plan_in c) (pool_in c)
   translates = held_translates w.query w.reads w.holds
 
   -- plan check accepts them
   pub written_passes : {n : ℕ} → ChecksPlan (plan_in c) (pool_in c) n → n ≡ 0
   written_passes k = translated_passes w.query translates k
 
-  -- a run of them lists the query's nodes
-  pub written_lists : (T X L : List ℕ) (at : ℕ) {o : RunOutcome} → check_table T X ≡ accepted → Runs (plan_in c) (pool_in c) T X L at o → Listed (selected w.query (tree T X)) L at o
-  written_lists T X L at h r = runs_list w.query T X L at translates h r
-
-  -- and select of the query answers the same as the run
+  -- select of the query answers the same as the run
   pub written_selects : {T X L : List ℕ} {at : ℕ} {o o' : RunOutcome} → SelectsOnly s T X L at o → Runs (plan_in c) (pool_in c) T X L at o' → o ≡ o'
   written_selects {T} {X} {L} {at} k r = select_gives w.query w.reads k ∙ sym (runs_as w.query T X L at translates r)

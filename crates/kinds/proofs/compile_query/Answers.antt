@@ -1,5 +1,5 @@
 -- The rooms are as large as every query may need: so demands says.
-use Rattle.promises_stated.specs.Demands.{rooms_for_all}
+use Rattle.promises_stated.proofs.Demands.{rooms_for_all}
 use Rattle.kinds.proofs.compile_query.Goals as goal
 
 pub returns : goal.returns

@@ -8,9 +8,10 @@ use Rattle.definition_examples.specs.Gives.{Gives, PlanGives}
 use Rattle.definition_examples.specs.Rows.{Row, row, plan_row, RowGives, AllGive, starred_rows}
 use Rattle.definition_examples.proofs.Rows.{starred}
 use Rattle.promises_stated.specs.Promises.{CompilesOnly, SelectsOnly, Listed, plan_in, pool_in, Answers, PlanAnswers, RowAnswers, AllAnswer}
-use Rattle.promises_stated.specs.Cases.{accepted_lists}
-use Rattle.promises_stated.specs.Written.{only_holds}
-use Rattle.promises_stated.specs.Running.{runs_form, runs_list, translated_passes, select_gives, held_runs}
+use Rattle.promises_stated.proofs.Cases.{accepted_lists}
+use Rattle.promises_stated.proofs.Written.{only_holds}
+use Rattle.promises_stated.specs.Running.{runs_form, translated_passes, select_gives, held_runs}
+use Rattle.promises_stated.proofs.Running.{runs_list}
 
 module _ {s T X ns : List ℕ} (g : Gives s T X ns) where
   -- the definition's outcome for the row's form

@@ -1,0 +1,13 @@
+pub mod Lists
+pub mod Cases
+pub mod Checks
+pub mod Written
+pub mod Running
+pub mod Exactly
+pub mod Rooms
+pub mod Stored
+pub mod Served
+pub mod Selected
+pub mod Paths
+pub mod Demands
+pub mod Refused
