@@ -99,14 +99,18 @@ def turn(folder, crate, names_all):
                 continue
             base_own.append((comments, "\n".join(decl), n))
     for member in members:
-        key = [k for k in params_of if norm(k.split("::")[-1]) == norm(member)]
-        path = [k for k in key if norm("::".join([crate] + rel.split(".")[:-1] + [member])) == norm(k)] or key
-        rhs = measures.get(member) or measures.get(member.replace("_", "-"))
+        # A member of a module: its older file has `-` where its path has `::`.
+        flat = lambda k: norm(k.replace("::", "-"))
+        label = next((k for k in measures if flat(k) == norm(member)), member)
+        key = [k for k in params_of if norm(k.split("::")[-1]) == norm(label.split("::")[-1])]
+        path = [k for k in key if flat("::".join([crate] + rel.split(".")[:-1] + [label])) == flat(k)] or key
+        rhs = measures.get(label) or measures.get(member.replace("_", "-"))
+        label = "::".join(norm(x) for x in label.split("::")) if "::" in label else member
         if rhs and path:
             rhs = measure(member, rhs, params_of[path[0]])
         elif rhs and re.search(r"(?<![\w.])a\.", rhs):
             rhs = rhs + "  -- by hand: which parameters"
-        name = f"decreases-{member}"
+        name = f"decreases-{label}"
         inv.append(([], f"abbrev pub {name} : goal.{name}\n{name} l = {rhs or '?'}"))
     for member, (f, t) in members.items():
         d = names_all.get(f"Rattle-{crate}-proofs.{rel}.Lts-{member}")
@@ -244,6 +248,9 @@ def unique(uses):
 def main(argv):
     crate, file, only = argv[0], argv[1], [x.lstrip("+") for x in argv[2:]]
     names_all = json.load(open(file, encoding="utf-8"))
+    for folder, dirs, files in os.walk(os.path.join("crates", crate, "src")):
+        for f in files:
+            answers.SOURCE += open(os.path.join(folder, f), encoding="utf-8").read()
     n = 0
     for folder, dirs, files in sorted(os.walk(os.path.join("crates", crate, "proofs"))):
         last = os.path.basename(folder)
