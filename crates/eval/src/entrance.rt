@@ -42,13 +42,20 @@ pub fn evaluate<'a>(
     state[AT]
 }
 
+// The list, which is lent as one word.
+#[derive(Drop)]
+struct Places<'a> {
+    list: &'a mut [u32],
+}
+
 // The entrance: the list becomes one word.
 fn enter(lent: &[&[u8]; 4], state: &mut [usize; 3], list: &mut [u32], node: usize, pc: usize)
     requires { AskEnter lent.now node pc state.old list.old }
     ensures { Entered lent.now node pc state.old list.entry state.new list.exit }
 {
-    let mut places = list;
-    first(lent, state, &mut places, node, pc);
+    let mut places = Places { list };
+    let held = &mut places;
+    first(lent, state, &mut held.list, node, pc);
 }
 
 // The same with the list as one word. A child segment of one filter, slice or wildcard is applied at once.

@@ -41,34 +41,34 @@ word16-requires c = omega (arith, filter_fits c.requires (λ k. (c.type_inv.plan
 
 pub overflow_add-rest-then-head-eq-FILTER_HEAD : goal.overflow_add-rest-then-head-eq-FILTER_HEAD
 overflow_add-rest-then-head-eq-FILTER_HEAD c =
-    let b : (k : ℕ) → get_or (plan_of c.args.lent.now) k 0 < 256 = λ k. (c.type_inv.plan k).fits in
+    let b : (k : ℕ) → get_or (plan_of c.args.lent.now) k 0 < 256 = λ k. (c.shared_slice_known-1.given k).fits in
     let h = enter_head c.requires 9 b c.word32-head.ensures c.if-head-eq-FILTER_HEAD.true in
     let q = enter_selector c.requires h (filter_ends c.requires b c.word32-head.ensures c.if-head-eq-FILTER_HEAD.true c.word16.ensures) in
     omega (arith, (rest_in c.requires.asked q).1, c.requires.asked.given.few_p)
 
 pub keep_children-requires : goal.keep_children-requires
 keep_children-requires c =
-    let b : (k : ℕ) → get_or (plan_of c.args.lent.now) k 0 < 256 = λ k. (c.type_inv.plan k).fits in
+    let b : (k : ℕ) → get_or (plan_of c.args.lent.now) k 0 < 256 = λ k. (c.shared_slice_known-1.given k).fits in
     let h = enter_head c.requires 9 b c.word32-head.ensures c.if-head-eq-FILTER_HEAD.true in
     let q = enter_selector c.requires h (filter_ends c.requires b c.word32-head.ensures c.if-head-eq-FILTER_HEAD.true c.word16.ensures) in
     record { asked = c.requires.asked; ask_selector = q; ask_kind = h.kind_is }
 
 pub eval_filter-requires : goal.eval_filter-requires
 eval_filter-requires c =
-    let b : ((c.keep_children.ensures.steady, c.keep_children.ensures.done_keep) : ℕ) → get_or (plan_of c.args.lent.now) (c.keep_children.ensures.steady, c.keep_children.ensures.done_keep) 0 < 256 = λ k. (c.type_inv.plan (c.keep_children.ensures.steady, c.keep_children.ensures.done_keep)).fits in
+    let b : (k : ℕ) → get_or (plan_of c.args.lent.now) k 0 < 256 = λ k. (c.shared_slice_known-1.given k).fits in
     let h = enter_head c.requires 9 b c.word32-head.ensures c.if-head-eq-FILTER_HEAD.true in
     let q = enter_selector c.requires h (filter_ends c.requires b c.word32-head.ensures c.if-head-eq-FILTER_HEAD.true c.word16.ensures) in
     record { asked = asked_later c.keep_children.ensures.steady c.requires.asked (kept_room c.requires.asked c.keep_children.ensures.done_keep (not-true _ (ap not c.if-not-keep_children.true))); ask_selector = q; ask_kind = h.kind_is }
 
 pub returns-then-not-keep_children : goal.returns-then-not-keep_children
 returns-then-not-keep_children c =
-    let b : ((c.keep_children.ensures.steady, c.keep_children.ensures.done_keep) : ℕ) → get_or (plan_of c.args.lent.now) (c.keep_children.ensures.steady, c.keep_children.ensures.done_keep) 0 < 256 = λ k. (c.type_inv.plan (c.keep_children.ensures.steady, c.keep_children.ensures.done_keep)).fits in
+    let b : (k : ℕ) → get_or (plan_of c.args.lent.now) k 0 < 256 = λ k. (c.shared_slice_known-1.given k).fits in
     let h = enter_head c.requires 9 b c.word32-head.ensures c.if-head-eq-FILTER_HEAD.true in
     enter_done c.requires h (filter_ends c.requires b c.word32-head.ensures c.if-head-eq-FILTER_HEAD.true c.word16.ensures) (steady_then c.keep_children.ensures.steady c.eval_filter.ensures.steady) (kept_after c.keep_children.ensures.done_keep (not-true _ (ap not c.if-not-keep_children.true)) c.eval_filter.ensures.done_selector)
 
 pub returns-else-not-keep_children : goal.returns-else-not-keep_children
 returns-else-not-keep_children c =
-    let b : ((c.keep_children.ensures.steady, c.keep_children.ensures.done_keep) : ℕ) → get_or (plan_of c.args.lent.now) (c.keep_children.ensures.steady, c.keep_children.ensures.done_keep) 0 < 256 = λ k. (c.type_inv.plan (c.keep_children.ensures.steady, c.keep_children.ensures.done_keep)).fits in
+    let b : (k : ℕ) → get_or (plan_of c.args.lent.now) k 0 < 256 = λ k. (c.shared_slice_known-1.given k).fits in
     let h = enter_head c.requires 9 b c.word32-head.ensures c.if-head-eq-FILTER_HEAD.true in
     enter_done c.requires h (filter_ends c.requires b c.word32-head.ensures c.if-head-eq-FILTER_HEAD.true c.word16.ensures) c.keep_children.ensures.steady (c.keep_children.ensures.done_keep.done (not-false _ (ap not c.if-not-keep_children.false)))
 
@@ -77,13 +77,13 @@ overflow_add-pc c = omega (arith, enter_bound c.requires, c.requires.asked.given
 
 pub each_place-requires : goal.each_place-requires
 each_place-requires c =
-    let b : (k : ℕ) → get_or (plan_of c.args.lent.now) k 0 < 256 = λ k. (c.type_inv.plan k).fits in
+    let b : (k : ℕ) → get_or (plan_of c.args.lent.now) k 0 < 256 = λ k. (c.shared_slice_known-1.given k).fits in
     let h = enter_head c.requires 7 b c.word32-head.ensures c.if-head-eq-SLICE_HEAD.true in
     record { asked = c.requires.asked; ask_selector = enter_selector c.requires h (slice_ends c.requires b c.word32-head.ensures c.if-head-eq-SLICE_HEAD.true); ask_kind = h.kind_is }
 
 pub returns-then-head-eq-SLICE_HEAD : goal.returns-then-head-eq-SLICE_HEAD
 returns-then-head-eq-SLICE_HEAD c =
-    let b : (k : ℕ) → get_or (plan_of c.args.lent.now) k 0 < 256 = λ k. (c.type_inv.plan k).fits in
+    let b : (k : ℕ) → get_or (plan_of c.args.lent.now) k 0 < 256 = λ k. (c.shared_slice_known-1.given k).fits in
     let h = enter_head c.requires 7 b c.word32-head.ensures c.if-head-eq-SLICE_HEAD.true in
     enter_done c.requires h (slice_ends c.requires b c.word32-head.ensures c.if-head-eq-SLICE_HEAD.true) c.each_place.ensures.steady c.each_place.ensures.done_selector
 
@@ -101,7 +101,7 @@ overflow_add-pc-then-head-eq-WILDCARD_HEAD c = omega (arith, enter_bound c.requi
 
 pub ahead-j-requires : goal.ahead-j-requires
 ahead-j-requires c =
-    let b : (k : ℕ) → get_or (plan_of c.args.lent.now) k 0 < 256 = λ k. (c.type_inv.plan k).fits in
+    let b : (k : ℕ) → get_or (plan_of c.args.lent.now) k 0 < 256 = λ k. (c.shared_slice_known-1.given k).fits in
     let h = enter_head c.requires 8 b c.word32-head.ensures c.if-head-eq-WILDCARD_HEAD.true in
     let q = enter_selector c.requires h (wildcard_ends c.requires b c.word32-head.ensures c.if-head-eq-WILDCARD_HEAD.true) in
     let g = range_of_lem _ _ c.requires.asked.given.tab _ c.requires.segment.node_in _ _ c.first_child-i.ensures c.child_count-n.ensures in
@@ -115,7 +115,7 @@ overflow_add-pc-then-head-eq-WILDCARD_HEAD-2 c = omega (arith, enter_bound c.req
 
 pub each_child-requires : goal.each_child-requires
 each_child-requires c =
-    let b : (k : ℕ) → get_or (plan_of c.args.lent.now) k 0 < 256 = λ k. (c.type_inv.plan k).fits in
+    let b : (k : ℕ) → get_or (plan_of c.args.lent.now) k 0 < 256 = λ k. (c.shared_slice_known-1.given k).fits in
     let h = enter_head c.requires 8 b c.word32-head.ensures c.if-head-eq-WILDCARD_HEAD.true in
     let q = enter_selector c.requires h (wildcard_ends c.requires b c.word32-head.ensures c.if-head-eq-WILDCARD_HEAD.true) in
     let g = range_of_lem _ _ c.requires.asked.given.tab _ c.requires.segment.node_in _ _ c.first_child-i.ensures c.child_count-n.ensures in
@@ -123,7 +123,7 @@ each_child-requires c =
 
 pub returns-then-head-eq-WILDCARD_HEAD : goal.returns-then-head-eq-WILDCARD_HEAD
 returns-then-head-eq-WILDCARD_HEAD c =
-    let b : (k : ℕ) → get_or (plan_of c.args.lent.now) k 0 < 256 = λ k. (c.type_inv.plan k).fits in
+    let b : (k : ℕ) → get_or (plan_of c.args.lent.now) k 0 < 256 = λ k. (c.shared_slice_known-1.given k).fits in
     let h = enter_head c.requires 8 b c.word32-head.ensures c.if-head-eq-WILDCARD_HEAD.true in
     let q = enter_selector c.requires h (wildcard_ends c.requires b c.word32-head.ensures c.if-head-eq-WILDCARD_HEAD.true) in
     let g = range_of_lem _ _ c.requires.asked.given.tab _ c.requires.segment.node_in _ _ c.first_child-i.ensures c.child_count-n.ensures in
