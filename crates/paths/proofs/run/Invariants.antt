@@ -1,5 +1,5 @@
 -- The buffer and the line keep their lengths, and one line less is left after each.
-use Rattle.std.proofs.Common.{length, ◌≡◌, ◌≤◌, ◌-◌, ◌+◌}
+use Rattle.std.proofs.Common.{length, ◌≡◌}
 use Rattle.paths.proofs.run.Given as goal
 
 abbrev pub invariant-loop-left : goal.invariant-loop-left
