@@ -11,6 +11,10 @@ import json
 import os
 import re
 import sys
+import tempfile
+
+# Where the older files go.
+OLD_PROOFS = os.path.join(tempfile.gettempdir(), "old-proofs")
 
 W = r"[^\s(){}.;,@\"«»\[\]\\]+"
 CHAIN = re.compile(r"(?<![\w.'-])([A-Za-z_][\w'′₀-₉-]*)((?:\." + W + r")+)")
@@ -619,8 +623,8 @@ def turn(path, crate, names_all, measured=False):
             out += ["-- LOST: the older form had, for which no goal was found:"] + ["-- " + l for l in d] + [""]
         with open(os.path.join(folder, "Answers.antt"), "w", encoding="utf-8") as f:
             f.write("\n".join(out).rstrip("\n") + "\n")
-    os.makedirs("/tmp/old-proofs", exist_ok=True)
-    os.rename(path, os.path.join("/tmp/old-proofs", crate + "." + rel + ".antt"))
+    os.makedirs(OLD_PROOFS, exist_ok=True)
+    os.rename(path, os.path.join(OLD_PROOFS, crate + "." + rel + ".antt"))
     return True
 
 

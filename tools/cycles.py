@@ -3,8 +3,7 @@
 
 usage, at the top of the repository:  python3 tools/cycles.py CRATE NAMES.json [CYCLE..]
 
-NAMES.json is what `rt check --generated DIR --old-names` writes in the crate's folder (`bash /tmp/conv.sh CRATE` leaves it in
-/tmp/gen-CRATE/names.json). The older files go to /tmp/old-proofs/CRATE.+NAME/. It goes by text: rt check decides.
+NAMES.json is what `rt check --generated DIR --old-names` writes in the crate's folder. The older files go to CRATE.+NAME/ of the folder that answers.py names. It goes by text: rt check decides.
 """
 
 import json
@@ -180,8 +179,8 @@ def turn(folder, crate, names_all):
         out += c + [public(b), ""]
     for c, b in inv:
         out += c + [b, ""]
-    os.makedirs("/tmp/old-proofs", exist_ok=True)
-    to = f"/tmp/old-proofs/{crate}.{rel}"
+    os.makedirs(answers.OLD_PROOFS, exist_ok=True)
+    to = f"{answers.OLD_PROOFS}/{crate}.{rel}"
     shutil.rmtree(to, ignore_errors=True)
     os.makedirs(to)
     shutil.move(os.path.join(folder, "Proof.antt"), to)
