@@ -8,6 +8,7 @@ ghost use Rattle.number_rounding.specs.Decided.{Best};
 ghost use Rattle.number_leading.specs.Leads.{above, below, Between};
 
 use number_fives::LEAST;
+use std::cmp::Ordering;
 
 // Half a unit of the smallest float is 2 ^ -1075.
 const HALF_UNITS: usize = 1075;
@@ -31,10 +32,9 @@ pub fn decide(n: u64, i: usize, c: u64, k: usize) -> u64
     let mut b = [0u64; LIMBS];
     number_limbs::scale(&mut a, n, minus(i, LEAST), HALF_UNITS);
     number_limbs::scale(&mut b, c * 2 + 1, minus(LEAST, i), k);
-    let o = number_limbs::order(&a, &b);
-    match o {
-        number_limbs::Answer::Less => c,
-        number_limbs::Answer::Equal => c + c % 2,
-        number_limbs::Answer::Greater => c + 1,
+    match number_limbs::order(&a, &b) {
+        Ordering::Less => c,
+        Ordering::Equal => c + c % 2,
+        Ordering::Greater => c + 1,
     }
 }

@@ -1,5 +1,5 @@
 -- Repeated products, and the order of two numbers by their highest limb that differs. Assumes nothing.
-use mathlib.Core.Path.{◌≡◌, sym, ap, ◌∙◌}
+use mathlib.Core.Path.{◌≡◌, refl, sym, ap, ◌∙◌}
 use mathlib.Core.List.{List, [], ◌∷◌, ◌++◌}
 use Prim.Native.Nat.{ℕ, zero, suc, ◌+◌, ◌-◌, ◌*◌, ◌^◌, ◌≤◌, ◌<◌}
 use native.Mathlib.Nat.{le_trans, le_of_eq, lt_of_le_of_lt, lt_of_lt_of_le, mul-add, mul_assoc, mul_left_comm, mul-le-mul_left, pow-succ', pow-le-pow_right, one-mul}
@@ -7,7 +7,12 @@ use native.Mathlib.Numerals.{add-one}
 use native.Mathlib.Omega.{arith}
 use lib.ListN.{length, take, drop, get_or, take-append-drop}
 use lib.Seq.{drop-cons, length-take-le}
+use Rattle.std.specs.declared.cmp.Ordering.{Ordering}
+use Rattle.std.specs.declared.cmp.Ordering.TheVariants.{Less, Equal, Greater}
+use Rattle.std.specs.Ordering.{nat_cmp}
+use Rattle.std.specs.Cmp.{ranked}
 use Rattle.number_limbs.specs.Limbs.{value, Limbs}
+use Rattle.number_limbs.specs.Order.{Ordered}
 use Rattle.number_limbs.proofs.Steps.{K}
 
 -- ---- nothing runs over the end while the result still fits
@@ -74,3 +79,9 @@ decides_down xs ys zero lx ly p hx hy e g = absurd (omega arith)
 decides_down xs ys (suc i) lx ly p hx hy e g =
     let q : suc i - 1 ≡ i = omega arith in
     decides xs ys i lx ly hx hy e (rw q at g)
+
+-- the order of the highest limbs that are not the same
+pub limb_decides : (xs ys : List ℕ) (i : ℕ) (r : Ordering) → Limbs xs → Limbs ys → 0 < i → i ≤ length xs → i ≤ length ys → drop i xs ≡ drop i ys → r ≡ nat_cmp (get_or xs (i - 1) 0) (get_or ys (i - 1) 0) → (r ≡ Equal → ⊥) → Ordered r (value xs) (value ys)
+limb_decides xs ys i Less lx ly p hx hy e q n = decides_down xs ys i lx ly p hx hy e (ranked _ _ Less q)
+limb_decides xs ys i Equal lx ly p hx hy e q n = absurd (n refl)
+limb_decides xs ys i Greater lx ly p hx hy e q n = decides_down ys xs i ly lx p hy hx (sym e) (ranked _ _ Greater q)

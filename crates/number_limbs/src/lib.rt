@@ -6,6 +6,8 @@ ghost use Rattle.std.specs.Prelude.{◌≡◌, ◌+◌, ◌*◌, ◌^◌, ◌<�
 ghost use Rattle.number_limbs.specs.Limbs.{value, Limbs};
 ghost use Rattle.number_limbs.specs.Order.{Ordered};
 
+use std::cmp::Ordering;
+
 // 2 ^ 32, the base of the limbs.
 const BASE: u64 = 4294967296;
 
@@ -15,12 +17,10 @@ pub fn mul_add(x: &mut [u64], m: u64, c: u64) -> u64
     ensures { (value x.new + (2 ^ 32) ^ length x.old * result ≡ m * value x.old + c) × Limbs x.new × (result < 2 ^ 32) }
 {
     let mut carry = c;
-    let mut i = 0;
-    while i < x.len() {
-        let t = x[i] * m + carry;
-        x[i] = t % BASE;
+    for limb in x.iter_mut() {
+        let t = *limb * m + carry;
+        *limb = t % BASE;
         carry = t / BASE;
-        i += 1;
     }
     carry
 }
@@ -30,10 +30,8 @@ pub fn mul_times(x: &mut [u64], m: u64, e: usize)
     requires { Limbs x.old × (m < 2 ^ 32) × (0 < m) × (value x.old * m ^ e < (2 ^ 32) ^ length x.old) }
     ensures { (value x.new ≡ value x.old * m ^ e) × Limbs x.new }
 {
-    let mut j = 0;
-    while j < e {
+    for _j in 0..e {
         mul_add(x, m, 0);
-        j += 1;
     }
 }
 
@@ -65,30 +63,16 @@ pub fn scale(x: &mut [u64], m: u64, p: usize, e: usize)
     raise(x, 2, 2147483648, 31, e);
 }
 
-// How the first of two numbers stands to the second.
-#[derive(Clone, Copy)]
-pub enum Answer {
-    Less,
-    Equal,
-    Greater,
-}
-
 // The order of two numbers of as many limbs, by the highest limb that differs.
-pub fn order(x: &[u64], y: &[u64]) -> Answer
+pub fn order(x: &[u64], y: &[u64]) -> Ordering
     requires { Limbs x.now × Limbs y.now × (length x.now ≡ length y.now) }
     ensures { Ordered result (value x.now) (value y.now) }
 {
-    let mut i = x.len();
-    while 0 < i {
-        let a = x[i - 1];
-        let b = y[i - 1];
-        if a < b {
-            return Answer::Less;
+    for i in (0..x.len()).rev() {
+        match x[i].cmp(&y[i]) {
+            Ordering::Equal => {}
+            unequal => return unequal,
         }
-        if b < a {
-            return Answer::Greater;
-        }
-        i -= 1;
     }
-    Answer::Equal
+    Ordering::Equal
 }

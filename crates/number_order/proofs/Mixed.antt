@@ -13,8 +13,9 @@ use mir.Syntax.{w64}
 use mir.Val.{SFits, of_z, to_z}
 use mir.ValLaws.{to_z-of_z}
 use Rattle.number_integers.specs.Signed.{signed}
-use Rattle.number_order.specs.Exact.{order_z, answer, reverse, of_integer, of_float, order_of, significand, shift}
-use Rattle.number_order.specs.declared.Order.TheVariants.{Less, Greater}
+use Rattle.number_order.specs.Exact.{order_z, answer, of_integer, of_float, order_of, significand, shift}
+use Rattle.std.specs.declared.cmp.Ordering.TheVariants.{Less, Greater}
+use Rattle.std.specs.Ordering.{ordering_reverse}
 use Rattle.number_order.proofs.Orders.{both_minus, above_minus, below_plus, zero_minus, reverse_compare}
 use Rattle.number_order.proofs.Signs.{minus, plus}
 use Rattle.number_order.proofs.Patterns.{Pattern, mixed_order}
@@ -51,7 +52,7 @@ module _ (i : ℤ) (f : SFits w64 i) where
     plus_plus t p = sym (ap answer (by_signs false false n b v (is_plus t) p))
 
     -- Where both have one, the magnitudes decide the other way round.
-    pub minus_minus : lt_z held (pos 0) ≡ true → Pattern v true b → reverse (answer (compare (n * 2 ^ 1074) (units b))) ≡ answer (order_of (of_integer i) (of_float v))
+    pub minus_minus : lt_z held (pos 0) ≡ true → Pattern v true b → ordering_reverse (answer (compare (n * 2 ^ 1074) (units b))) ≡ answer (order_of (of_integer i) (of_float v))
     minus_minus t p = reverse_compare (n * 2 ^ 1074) (units b) ∙ sym (ap answer (by_signs true true n b v (is_minus_lem t) p ∙ both_minus (n * 2 ^ 1074) (units b)))
 
     -- An integer above 0 is greater than a float with a sign.
@@ -59,7 +60,7 @@ module _ (i : ℤ) (f : SFits w64 i) where
     above_float t l p = sym (ap answer (by_signs false true n b v (is_plus t) p ∙ above_minus (n * 2 ^ 1074) (units b) (mul-pos l (pow_pos 1074))))
 
     -- 0 and a float with a sign: the magnitudes decide, since the float may be -0.0.
-    pub zero_float : lt_z held (pos 0) ≡ false → n ≤ 0 → Pattern v true b → reverse (answer (compare (n * 2 ^ 1074) (units b))) ≡ answer (order_of (of_integer i) (of_float v))
+    pub zero_float : lt_z held (pos 0) ≡ false → n ≤ 0 → Pattern v true b → ordering_reverse (answer (compare (n * 2 ^ 1074) (units b))) ≡ answer (order_of (of_integer i) (of_float v))
     zero_float t l p =
         let e : n ≡ 0 = omega arith in
         let z : n * 2 ^ 1074 ≡ 0 = ap (λ (x : ℕ). x * 2 ^ 1074) e in

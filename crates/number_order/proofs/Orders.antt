@@ -1,6 +1,6 @@
 -- Laws of the order of natural and of whole numbers: what `compare` and `order_z` say, and that a factor above 0 changes no order. Assumes nothing.
 use mathlib.Core.Path.{◌≡◌, refl, sym, ap, ◌∙◌}
-use mathlib.Core.Bool.{Bool, true, false}
+use mathlib.Core.Bool.{Bool, true, false, cond}
 use Prim.Native.Nat.compare
 use Prim.Native.Nat.{ℕ, zero, suc, ◌*◌, ◌<◌, compare, Ordering}
 use native.Mathlib.Nat.{mul-lt-mul_of_pos_right, mul-pos, zero-mul}
@@ -8,9 +8,12 @@ use native.Mathlib.Omega.{arith}
 use lib.IntN.{ℤ, pos, negsuc, neg_ℤ, ◌*ℤ◌}
 use lib.Signed.{lt_z}
 use borrow.Author.Tests.{ltb-true, ltb-false}
+use Rattle.std.specs.declared.cmp.Ordering.TheVariants.{Less, Equal, Greater}
+use Rattle.std.specs.Ordering.{ordering_reverse, nat_cmp, int_cmp}
+use Rattle.std.specs.Cmp.{nat_cmp_is}
 use Rattle.number_integers.specs.Signed.{signed}
 use Rattle.number_integers.specs.Compare.{Says, said, compared}
-use Rattle.number_order.specs.Exact.{order_z, answer, reverse, Fraction, order_of}
+use Rattle.number_order.specs.Exact.{order_z, answer, Fraction, order_of}
 
 -- ---- natural numbers
 
@@ -23,6 +26,15 @@ eq_compare a b h = compared Ordering.eq a b h
 pub gt_compare : (a b : ℕ) → b < a → compare a b ≡ Ordering.gt
 gt_compare a b h = compared Ordering.gt a b h
 
+-- What `cmp` answers of two natural numbers is their order.
+pub cmp_compare : (a b : ℕ) → nat_cmp a b ≡ answer (compare a b)
+cmp_compare a b = go (compare a b) (said a b)
+  where
+    go : (o : Ordering) → Says o a b → nat_cmp a b ≡ answer o
+    go Ordering.lt c = sym (nat_cmp_is a b Less c)
+    go Ordering.eq c = sym (nat_cmp_is a b Equal c)
+    go Ordering.gt c = sym (nat_cmp_is a b Greater c)
+
 -- A factor above 0 changes no order.
 pub scale_compare : (a b u : ℕ) → 0 < u → compare (a * u) (b * u) ≡ compare a b
 scale_compare a b u U = go (compare a b) (said a b)
@@ -33,10 +45,10 @@ scale_compare a b u U = go (compare a b) (said a b)
     go Ordering.gt c = gt_compare (a * u) (b * u) (mul-lt-mul_of_pos_right c U)
 
 -- The order the other way round.
-pub reverse_compare : (a b : ℕ) → reverse (answer (compare a b)) ≡ answer (compare b a)
+pub reverse_compare : (a b : ℕ) → ordering_reverse (answer (compare a b)) ≡ answer (compare b a)
 reverse_compare a b = go (compare a b) (said a b)
   where
-    go : (o : Ordering) → Says o a b → reverse (answer o) ≡ answer (compare b a)
+    go : (o : Ordering) → Says o a b → ordering_reverse (answer o) ≡ answer (compare b a)
     go Ordering.lt c = sym (ap answer (gt_compare b a c))
     go Ordering.eq c = sym (ap answer (eq_compare b a (sym c)))
     go Ordering.gt c = sym (ap answer (lt_compare b a c))
@@ -44,13 +56,13 @@ reverse_compare a b = go (compare a b) (said a b)
 -- ---- whole numbers
 
 -- The order of whole numbers the other way round, and of fractions.
-reverse_order : (x y : ℤ) → reverse (answer (order_z x y)) ≡ answer (order_z y x)
+reverse_order : (x y : ℤ) → ordering_reverse (answer (order_z x y)) ≡ answer (order_z y x)
 reverse_order (pos a) (pos b) = reverse_compare a b
 reverse_order (pos a) (negsuc b) = refl
 reverse_order (negsuc a) (pos b) = refl
 reverse_order (negsuc a) (negsuc b) = reverse_compare b a
 
-pub reversed_order : (x y : Fraction) → reverse (answer (order_of x y)) ≡ answer (order_of y x)
+pub reversed_order : (x y : Fraction) → ordering_reverse (answer (order_of x y)) ≡ answer (order_of y x)
 reversed_order x y = reverse_order (x.num *ℤ pos y.den) (y.num *ℤ pos x.den)
 
 -- The test `<` on whole numbers decides the order.
@@ -77,6 +89,15 @@ equal_order (negsuc a) (negsuc b) t u =
     let h = ltb-false b a t in
     let k = ltb-false a b u in
     eq_compare b a (omega arith)
+
+-- What `cmp` answers of two whole numbers is their order.
+pub cmp_order : (x y : ℤ) → int_cmp x y ≡ answer (order_z x y)
+cmp_order x y = go (lt_z x y) (lt_z y x) refl refl
+  where
+    go : (t u : Bool) → lt_z x y ≡ t → lt_z y x ≡ u → cond t Less (cond u Greater Equal) ≡ answer (order_z x y)
+    go true u e f = sym (ap answer (less_order x y e))
+    go false true e f = sym (ap answer (greater_order x y f))
+    go false false e f = sym (ap answer (equal_order x y e f))
 
 -- ---- whole numbers by their sign and magnitude
 

@@ -1,13 +1,15 @@
 -- A number and a significand that is shifted: the bounds that decide their order without the product. Assumes nothing.
 use mathlib.Core.Path.{◌≡◌, sym, ap, ◌∙◌}
-use Prim.Native.Nat.{ℕ, ◌+◌, ◌-◌, ◌*◌, ◌/◌, ◌%◌, ◌^◌, ◌≤◌, ◌<◌, compare}
+use Prim.Native.Nat.{ℕ, ◌+◌, ◌-◌, ◌*◌, ◌/◌, ◌%◌, ◌^◌, ◌≤◌, ◌<◌, compare, Ordering}
 use native.Mathlib.Nat.{le_trans, le_of_eq, le_of_lt, lt_of_lt_of_le, lt_of_le_of_lt, mul_assoc, mul-le-mul_left, mul-le-mul_right, mul-lt-mul_of_pos_right, one-mul, div-mul-le_self, div-lt_iff_lt-mul, mod-eq_of_lt}
 use native.Mathlib.Omega.{arith}
 use lib.Dec.{lit≤}
 use lib.Pow.{pow-add, pow_pos, pow_mono, shl_exact}
 use borrow.Author.Tests.{lt-ltb}
-use Rattle.number_order.specs.Exact.{significand, shift}
-use Rattle.number_order.proofs.Orders.{scale_compare}
+use Rattle.std.specs.Ordering.{ordering_then, nat_cmp}
+use Rattle.number_integers.specs.Compare.{Says, said}
+use Rattle.number_order.specs.Exact.{answer, significand, shift}
+use Rattle.number_order.proofs.Orders.{scale_compare, cmp_compare, lt_compare, gt_compare}
 
 -- A significand of 53 digits, shifted by more than 11, is past every u64.
 pub past_all : (n m k : ℕ) → n < 2 ^ 64 → 2 ^ 52 ≤ m → 11 < k → n < m * 2 ^ k
@@ -56,3 +58,12 @@ no_fraction n m x l =
     mul_assoc m (2 ^ (x - 1075)) (2 ^ 1074) ∙ ap (λ (z : ℕ). m * z) (sym (pow-add 2 (x - 1075) 1074) ∙ ap (λ (z : ℕ). 2 ^ z) s)
     in
     sym (scale_compare n (m * 2 ^ (x - 1075)) (2 ^ 1074) (pow_pos 1074)) ∙ ap (λ (z : ℕ). compare (n * 2 ^ 1074) z) e
+
+-- The quotient decides, and where it is n the digits shifted out do.
+pub by_quotient : (n m k : ℕ) → ordering_then (nat_cmp n (m / 2 ^ k)) (nat_cmp (m / 2 ^ k * 2 ^ k) m) ≡ answer (compare (n * 2 ^ k) m)
+by_quotient n m k = rw (cmp_compare n (m / 2 ^ k)) (go (compare n (m / 2 ^ k)) (said n (m / 2 ^ k)))
+  where
+    go : (o : Ordering) → Says o n (m / 2 ^ k) → ordering_then (answer o) (nat_cmp (m / 2 ^ k * 2 ^ k) m) ≡ answer (compare (n * 2 ^ k) m)
+    go Ordering.lt c = sym (ap answer (lt_compare (n * 2 ^ k) m (under_quotient n m k c)))
+    go Ordering.eq c = cmp_compare (m / 2 ^ k * 2 ^ k) m ∙ ap (λ (q : ℕ). answer (compare (q * 2 ^ k) m)) (sym c)
+    go Ordering.gt c = sym (ap answer (gt_compare (n * 2 ^ k) m (over_quotient n m k c)))

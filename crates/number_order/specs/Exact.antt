@@ -2,11 +2,11 @@
 -- and "Statements over floats and fractions multiply out to whole numbers."
 -- So a number is a fraction of whole numbers, and two numbers compare as their cross products.
 use Rattle.std.specs.Prelude.{cond, ltb, ℤ, Float}
-use Prim.Native.Nat.{ℕ, ◌+◌, ◌-◌, ◌/◌, ◌%◌, ◌^◌, Ordering}
+use Rattle.std.specs.declared.cmp.Ordering.{Ordering}
+use Rattle.std.specs.declared.cmp.Ordering.TheVariants.{Less, Equal, Greater}
+use Prim.Native.Nat.{ℕ, ◌+◌, ◌-◌, ◌/◌, ◌%◌, ◌^◌, Ordering as Compared}
 pub use Rattle.definition.specs.Compare.{Fraction, order_z}
 use Rattle.definition.specs.Compare.{whole_fraction, float_fraction, order_fractions}
-use Rattle.number_order.specs.declared.Order.{Order}
-use Rattle.number_order.specs.declared.Order.TheVariants.{Less, Equal, Greater}
 
 -- ---- the order of numbers
 
@@ -17,21 +17,16 @@ of_integer z = whole_fraction z
 abbrev pub of_float : Float → Fraction
 of_float x = float_fraction x
 
-abbrev pub order_of : Fraction → Fraction → Ordering
+abbrev pub order_of : Fraction → Fraction → Compared
 order_of x y = order_fractions x y
 
 -- ---- the answer
 
--- the case of the enum that says an order
-abbrev pub answer : Ordering → Order
-answer Ordering.lt = Less
-answer Ordering.eq = Equal
-answer Ordering.gt = Greater
-
-abbrev pub reverse : Order → Order
-reverse Less = Greater
-reverse Equal = Equal
-reverse Greater = Less
+-- the case of std's enum that says an order
+abbrev pub answer : Compared → Ordering
+answer Compared.lt = Less
+answer Compared.eq = Equal
+answer Compared.gt = Greater
 
 -- ---- the bit pattern of a float
 

@@ -8,14 +8,9 @@ ghost use Prim.Native.Nat.{◌*◌, ◌%◌, ◌^◌, ◌<◌, ◌≤◌, compar
 ghost use Rattle.std.specs.Float.{binary64};
 ghost use Rattle.std.specs.Float.Ieee.{of_bits};
 ghost use Rattle.std.specs.Float.Ieee.Scale.{finite};
-ghost use Rattle.number_order.specs.Exact.{answer, reverse, of_integer, of_float, order_of, significand, shift};
+ghost use Rattle.number_order.specs.Exact.{answer, of_integer, of_float, order_of, significand, shift};
 
-#[derive(Clone, Copy)]
-pub enum Order {
-    Less,
-    Equal,
-    Greater,
-}
+use std::cmp::Ordering;
 
 // 2^52, the weight of the exponent's field in a float's bit pattern, and of the leading digit.
 const LEADING: u64 = 4503599627370496;
@@ -28,52 +23,34 @@ const DIGITS: u64 = 53;
 // A significand has at least 53 digits where it is shifted, and shifted by more than 11 it is past every u64.
 const ROOM: u64 = 11;
 
-fn order_u64(a: u64, b: u64) -> Order
-    ensures { result ≡ answer (compare a b) }
-{
-    if a < b {
-        return Order::Less;
-    }
-    if b < a {
-        return Order::Greater;
-    }
-    Order::Equal
-}
-
 // n with m * 2^k.
-fn order_with_shifted(n: u64, m: u64, k: u64) -> Order
+fn order_with_shifted(n: u64, m: u64, k: u64) -> Ordering
     requires { (2 ^ 52 ≤ m) × (m < 2 ^ 53) }
     ensures { result ≡ answer (compare n (m * 2 ^ k)) }
 {
     if k > ROOM {
-        return Order::Less;
+        return Ordering::Less;
     }
-    order_u64(n, m << k)
+    n.cmp(&(m << k))
 }
 
 // n * 2^k with m.
-fn order_shifted_with(n: u64, m: u64, k: u64) -> Order
+fn order_shifted_with(n: u64, m: u64, k: u64) -> Ordering
     requires { m < 2 ^ 53 }
     ensures { result ≡ answer (compare (n * 2 ^ k) m) }
 {
     if k > DIGITS {
         if n > 0 {
-            return Order::Greater;
+            return Ordering::Greater;
         }
-        return order_u64(0, m);
+        return 0.cmp(&m);
     }
     let q = m >> k;
-    if n < q {
-        return Order::Less;
-    }
-    if q < n {
-        return Order::Greater;
-    }
-    order_u64(q << k, m)
+    n.cmp(&q).then((q << k).cmp(&m))
 }
 
 // n with the float whose bit pattern is b, which has no sign and is finite: both in units of 2^-1074.
-fn order_with_bits(n: u64, b: u64) -> Order
+fn order_with_bits(n: u64, b: u64) -> Ordering
     requires { b < 2047 * 2 ^ 52 }
     ensures { result ≡ answer (compare (n * 2 ^ 1074) (significand b * 2 ^ shift b)) }
 {
@@ -98,16 +75,6 @@ pub fn magnitude(i: i64) -> u64
     i as u64
 }
 
-fn reversed(o: Order) -> Order
-    ensures { result ≡ reverse o }
-{
-    match o {
-        Order::Less => Order::Greater,
-        Order::Equal => Order::Equal,
-        Order::Greater => Order::Less,
-    }
-}
-
 // The float of a bit pattern that is finite: its exponent's field is not all ones.
 pub fn float_of(b: u64) -> f64
     requires { b % 2 ^ 63 < 2047 * 2 ^ 52 }
@@ -117,34 +84,29 @@ pub fn float_of(b: u64) -> f64
 }
 
 // Two integers.
-pub fn compare_i64(a: i64, b: i64) -> Order
+pub fn compare_i64(a: i64, b: i64) -> Ordering
     ensures { result ≡ answer (order_of (of_integer a) (of_integer b)) }
 {
-    if a < b {
-        return Order::Less;
-    }
-    if b < a {
-        return Order::Greater;
-    }
-    Order::Equal
+    a.cmp(&b)
 }
 
 // Two floats.
-pub fn compare_nums(a: f64, b: f64) -> Order
+pub fn compare_nums(a: f64, b: f64) -> Ordering
     requires { T (finite a) × T (finite b) }
     ensures { result ≡ answer (order_of (of_float a) (of_float b)) }
 {
+    // `partial_cmp` would answer an Option here, which has to be taken apart again.
     if a < b {
-        return Order::Less;
+        return Ordering::Less;
     }
     if b < a {
-        return Order::Greater;
+        return Ordering::Greater;
     }
-    Order::Equal
+    Ordering::Equal
 }
 
 // An integer with a float.
-pub fn compare_i64_num(a: i64, b: f64) -> Order
+pub fn compare_i64_num(a: i64, b: f64) -> Ordering
     requires { T (finite b) }
     ensures { result ≡ answer (order_of (of_integer a) (of_float b)) }
 {
@@ -152,24 +114,24 @@ pub fn compare_i64_num(a: i64, b: f64) -> Order
     let n = magnitude(a);
     if p < SIGN {
         if a < 0 {
-            return Order::Less;
+            return Ordering::Less;
         }
         return order_with_bits(n, p);
     }
     let q = p - SIGN;
     if a < 0 {
-        return reversed(order_with_bits(n, q));
+        return order_with_bits(n, q).reverse();
     }
     if n > 0 {
-        return Order::Greater;
+        return Ordering::Greater;
     }
-    reversed(order_with_bits(n, q))
+    order_with_bits(n, q).reverse()
 }
 
 // A float with an integer.
-pub fn compare_num_i64(a: f64, b: i64) -> Order
+pub fn compare_num_i64(a: f64, b: i64) -> Ordering
     requires { T (finite a) }
     ensures { result ≡ answer (order_of (of_float a) (of_integer b)) }
 {
-    reversed(compare_i64_num(b, a))
+    compare_i64_num(b, a).reverse()
 }

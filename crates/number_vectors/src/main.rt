@@ -12,9 +12,9 @@
 ghost use Rattle.std.specs.Prelude.{◌≤◌, length};
 
 use number_literals::Literal;
-use number_order::Order;
 use number_parse::{IntRead, NumberRead};
 use program_console::{input, output, rooms};
+use std::cmp::Ordering;
 use std::io;
 
 // The sign's weight, and the bits of an infinity.
@@ -138,11 +138,11 @@ fn read_operand(s: &[u8]) -> Operand {
     }
 }
 
-fn show_order(rt: &impl Print, o: Order) -> io::Result<()> {
+fn show_order(rt: &impl Print, o: Ordering) -> io::Result<()> {
     match o {
-        Order::Less => print(rt, b"<"),
-        Order::Equal => print(rt, b"="),
-        Order::Greater => print(rt, b">"),
+        Ordering::Less => print(rt, b"<"),
+        Ordering::Equal => print(rt, b"="),
+        Ordering::Greater => print(rt, b">"),
     }
 }
 

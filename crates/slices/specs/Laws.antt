@@ -6,8 +6,7 @@ use Rattle.definition.specs.Bytes.{every}
 use Rattle.definition.specs.Slices.{index_places}
 use Rattle.slices.specs.Walks.{place_list, moved, places_from, walked, Within, Inside}
 use Rattle.slices.specs.Meaning.{index_below}
-use Rattle.slices.specs.declared.Place.{Place}
-use Rattle.slices.specs.declared.Place.TheVariants.{At, Nothing}
+use Rattle.std.specs.Prelude.{Option, Some, None}
 use Rattle.slices.specs.declared.Walk.{Walk}
 
 -- the first of some places is in the list
@@ -64,25 +63,25 @@ inside_every n w h = within_every n w.down w.step w.at w.left h.within
 
 -- ---- the place of an index
 
--- A Place is At k exactly where it stands for k alone, and Nothing exactly where it stands for none.
-pub at_means : (p : Place) (k : ℕ) → p ≡ At k → place_list p ≡ k ∷ []
+-- The place of an index is Some k exactly where it stands for k alone, and None exactly where it stands for none.
+pub at_means : (p : Option ℕ) (k : ℕ) → p ≡ Some k → place_list p ≡ k ∷ []
 unfolding place_list
 at_means p k e = rw e
 
-pub means_at : (p : Place) (k : ℕ) → place_list p ≡ k ∷ [] → p ≡ At k
+pub means_at : (p : Option ℕ) (k : ℕ) → place_list p ≡ k ∷ [] → p ≡ Some k
 unfolding place_list
-means_at (At j) k e = cc
-means_at Nothing k e = cc
+means_at (Some j) k e = cc
+means_at None k e = cc
 
-pub nothing_means : (p : Place) → p ≡ Nothing → place_list p ≡ []
+pub nothing_means : (p : Option ℕ) → p ≡ None → place_list p ≡ []
 unfolding place_list
 nothing_means p e = rw e
 
-pub means_nothing : (p : Place) → place_list p ≡ [] → p ≡ Nothing
+pub means_nothing : (p : Option ℕ) → place_list p ≡ [] → p ≡ None
 unfolding place_list
-means_nothing (At j) e = cc
-means_nothing Nothing e = refl
+means_nothing (Some j) e = cc
+means_nothing None e = refl
 
 -- what an index selects is in the list
-pub index_at : (n : ℕ) (i : ℤ) (p : Place) (k : ℕ) → place_list p ≡ index_places n i → p ≡ At k → k < n
+pub index_at : (n : ℕ) (i : ℤ) (p : Option ℕ) (k : ℕ) → place_list p ≡ index_places n i → p ≡ Some k → k < n
 index_at n i p k e h = index_below n i k (sym e ∙ at_means p k h)

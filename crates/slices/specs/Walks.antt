@@ -1,15 +1,14 @@
--- The words of this crate's contracts: what a Place and a Walk stand for, and which walks keep to a list of n elements.
+-- The words of this crate's contracts: what the place of an index and a Walk stand for, and which walks keep to a list of n elements.
 use Rattle.std.specs.Prelude.{ℕ, zero, suc, ◌+◌, ◌-◌, ◌*◌, ◌≤◌, ◌<◌, ◌≡◌, List, [], ◌∷◌, Bool, true, false, ℤ, ◌≤ℤ◌}
+use Rattle.std.specs.Prelude.{Option as Place, Some, None}
 use Rattle.std.proofs.Math.Option.{Option, none, some}
 use Rattle.definition.specs.Slices.{walk_places, slice_places}
-use Rattle.slices.specs.declared.Place.{Place}
-use Rattle.slices.specs.declared.Place.TheVariants.{At, Nothing}
 use Rattle.slices.specs.declared.Walk.{Walk}
 
--- the elements that a Place stands for: one, or none
-unfoldable pub place_list : Place → List ℕ
-place_list (At k) = k ∷ []
-place_list Nothing = []
+-- the elements that the place of an index stands for: one, or none
+unfoldable pub place_list : Place ℕ → List ℕ
+place_list (Some k) = k ∷ []
+place_list None = []
 
 -- a bound or step as a plan holds it: a flag that says whether it is given, and its value
 unfoldable pub given : Bool → ℤ → Option ℤ

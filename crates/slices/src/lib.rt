@@ -9,13 +9,6 @@ ghost use Rattle.definition.specs.Literals.{in_range};
 ghost use Rattle.definition.specs.Slices.{add_once, element_at, index_places, clamp, slice_step, given_start, given_stop, slice_start, slice_stop};
 ghost use Rattle.slices.specs.Walks.{place_list, given, Inside, Between, Turns, Walks, Selects, Next};
 
-// What an index selects.
-#[derive(Clone, Copy)]
-pub enum Place {
-    At(usize),
-    Nothing,
-}
-
 // What a slice selects: `left` places, the first of them `at`, each of the others a `step` further up or down the list.
 #[derive(Clone, Copy)]
 pub struct Walk {
@@ -39,18 +32,18 @@ fn add_once(n: usize, i: i64) -> i64
 }
 
 // The element of a list of n at a place that may be negative or beyond the end.
-fn element_at(n: usize, i: i64) -> Place
+fn element_at(n: usize, i: i64) -> Option<usize>
     ensures { place_list result ≡ element_at n i }
 {
     if i < 0 {
-        return Place::Nothing;
+        return None;
     }
     let k = i as usize;
-    if k < n { Place::At(k) } else { Place::Nothing }
+    if k < n { Some(k) } else { None }
 }
 
 // The element of a list of n that an index selects.
-pub fn index_place(n: usize, i: i64) -> Place
+pub fn index_place(n: usize, i: i64) -> Option<usize>
     requires { (n ≤ max_nodes) × (in_range i ≡ true) }
     ensures { place_list result ≡ index_places n i }
 {

@@ -10,7 +10,7 @@ ghost use Rattle.definition.specs.Limits.{max_nodes};
 ghost use Rattle.definition.specs.Literals.{in_range};
 ghost use Rattle.slices.specs.Walks.{Inside};
 
-use slices::{Place, Walk};
+use slices::Walk;
 use std::io;
 
 const MAX_INT: i64 = 9007199254740991;
@@ -113,27 +113,23 @@ fn print_index(rt: &impl Print, n: usize, code: usize) -> io::Result<()>
     print!(rt; "{n} ")?;
     print_code(rt, code)?;
     print!(rt; " ->")?;
-    match slices::index_place(n, value(code)) {
-        Place::At(k) => print_place(rt, k)?,
-        Place::Nothing => {}
+    if let Some(k) = slices::index_place(n, value(code)) {
+        print_place(rt, k)?;
     }
     println!(rt; "")
 }
 
 // Every index on every list: no index is absent.
 fn indices(rt: &impl Print) -> io::Result<()> {
-    let mut t = 0;
-    while t < INDICES {
+    for t in 0..INDICES {
         print_index(rt, t / GIVEN, t % GIVEN + 1)?;
-        t += 1;
     }
     Ok(())
 }
 
 // Every slice on every list.
 fn all_slices(rt: &impl Print) -> io::Result<()> {
-    let mut t = 0;
-    while t < SLICES {
+    for t in 0..SLICES {
         print_slice(
             rt,
             t / TRIPLES,
@@ -141,7 +137,6 @@ fn all_slices(rt: &impl Print) -> io::Result<()> {
             t / CODES % CODES,
             t % CODES,
         )?;
-        t += 1;
     }
     Ok(())
 }

@@ -6,7 +6,4 @@ use Rattle.number_limbs.specs.Limbs.{value, Limbs}
 use Rattle.number_limbs.proofs.mul_times.Given as goal
 
 abbrev pub invariant-loop-j : goal.invariant-loop-j
-invariant-loop-j l = (length l.x ≡ length l.initial.x) × Limbs l.x × (value l.x ≡ value l.initial.x * l.m ^ l.j) × (l.j ≤ l.e)
-
-abbrev pub decreases-loop-j : goal.decreases-loop-j
-decreases-loop-j l = l.e - l.j
+invariant-loop-j l = (length l.x ≡ length l.initial.x) × Limbs l.x × (value l.x ≡ value l.initial.x * l.m ^ l._j)

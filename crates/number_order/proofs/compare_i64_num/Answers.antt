@@ -1,7 +1,7 @@
 -- `number_order::compare_i64_num` meets its contract: the two signs say which law of proofs/Mixed.antt decides.
 use mathlib.Core.Path.{ap, ◌∙◌, sym, subst}
 use lib.Dec.{T}
-use Rattle.number_order.specs.Exact.{reverse}
+use Rattle.std.specs.Ordering.{ordering_reverse}
 use Rattle.number_order.proofs.Patterns.{plus_pattern, minus_pattern, no_nan}
 use Rattle.number_order.proofs.Mixed.{minus_plus, plus_plus, minus_minus, above_float, zero_float}
 use Rattle.number_order.proofs.compare_i64_num.Goals as goal
@@ -26,8 +26,8 @@ order_with_bits-requires-then-a-lt0-2 c = (minus_pattern _ (subst T (sym c.well_
 
 pub returns-then-a-lt0-2 : goal.returns-then-a-lt0-2
 returns-then-a-lt0-2 c =
-    c.reversed.ensures
-    ∙ ap reverse c.order_with_bits-then-a-lt0-2.ensures
+    c.reverse.ensures
+    ∙ ap ordering_reverse c.order_with_bits-then-a-lt0-2.ensures
     ∙ minus_minus _ c.ranges.a _ _ _ c.magnitude-n.ensures c.if-a-lt0-2.true (minus_pattern _ (subst T (sym c.well_formed.1.0.1) tt) c.requires c.if-p-lt-SIGN.false)
 
 pub returns-then-n-gt0 : goal.returns-then-n-gt0
@@ -38,6 +38,6 @@ order_with_bits-requires-2 c = (minus_pattern _ (subst T (sym c.well_formed.1.0.
 
 pub returns : goal.returns
 returns c =
-    c.reversed-2.ensures
-    ∙ ap reverse c.order_with_bits-2.ensures
+    c.reverse-2.ensures
+    ∙ ap ordering_reverse c.order_with_bits-2.ensures
     ∙ zero_float _ c.ranges.a _ _ _ c.magnitude-n.ensures c.if-a-lt0-2.false c.if-n-gt0.false (minus_pattern _ (subst T (sym c.well_formed.1.0.1) tt) c.requires c.if-p-lt-SIGN.false)

@@ -1,6 +1,0 @@
--- It counts up to the number of lines.
-use Rattle.std.proofs.Common.{◌-◌}
-use Rattle.slices_vectors.proofs.indices.Given as goal
-
-abbrev pub decreases-loop-t : goal.decreases-loop-t
-decreases-loop-t g l = 44 - l.t
