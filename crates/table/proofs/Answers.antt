@@ -5,35 +5,27 @@ use mathlib.Core.List.{List, []}
 use mathlib.Core.Bool.{Bool, true, false, cond}
 use borrow.Author.Tests.{eq-eqb, ne_eqb}
 use Rattle.definition.specs.Tables.{check_table}
-use Rattle.definition.specs.Tables.Checked.{accepted, sized, wrong_at, text_at}
-use Rattle.definition.specs.TableOutcomes.{TableOutcome, PartOutcome, report_table, table_outcome}
-use Rattle.table_laws.specs.Outcomes.{report_accepted, report_sized, report_wrong, report_text}
+use Rattle.definition.specs.Tables.Checked.{accepted}
+use Rattle.definition.specs.TableOutcomes.{TableOutcome, PartOutcome, part_by_lem, table_outcome}
+use Rattle.table_laws.specs.Outcomes.{report_accepted, report_sized, report_wrong, report_text, number_sized, number_wrong, number_text}
 use Rattle.table_laws.specs.Places.{Begins, part_start}
-use Rattle.table.specs.declared.TableChecked.{TableChecked}
-use Rattle.table.specs.declared.TableChecked.TheVariants.{Accepted, WrongSize, WrongNode, WrongText}
+use Rattle.std.specs.Prelude.{Ok, Err}
+use Rattle.table.specs.declared.TableRefusal.{TableRefusal}
+use Rattle.table.specs.declared.TableRefusal.TheVariants.{WrongSize, WrongNode, WrongText}
 use Rattle.table.specs.Outcomes.{reported, answered}
 
-module _ (T X : List ℕ) (r : TableChecked) (h : reported r ≡ table_outcome T X) where
-  number_of : (s : TableChecked) → r ≡ s → (report_table (check_table T X)).refusal ≡ (reported s).refusal
-  unfolding table_outcome
-  number_of s e = ap (λ (o : TableOutcome). o.refusal) (sym h) ∙ ap (λ (x : TableChecked). (reported x).refusal) e
+module _ (T X : List ℕ) where
+  -- a check that refuses nothing accepts
+  pub says_accepted : reported (Ok tt) ≡ table_outcome T X → check_table T X ≡ accepted
+  unfolding reported table_outcome
+  says_accepted h = report_accepted (check_table T X) (ap (λ (o : TableOutcome). o.refusal) (sym h))
 
-  -- each answer stands for one outcome of the check
-  pub says_accepted : r ≡ Accepted → check_table T X ≡ accepted
-  unfolding reported
-  says_accepted e = report_accepted (check_table T X) (number_of Accepted e)
-
-  pub says_sized : r ≡ WrongSize → check_table T X ≡ sized
-  unfolding reported
-  says_sized e = report_sized (check_table T X) (number_of WrongSize e)
-
-  pub says_wrong : (i : ℕ) → r ≡ WrongNode i → check_table T X ≡ wrong_at (report_table (check_table T X)).node
-  unfolding reported
-  says_wrong i e = report_wrong (check_table T X) (number_of (WrongNode i) e)
-
-  pub says_text : (i : ℕ) → r ≡ WrongText i → check_table T X ≡ text_at (report_table (check_table T X)).node
-  unfolding reported
-  says_text i e = report_text (check_table T X) (number_of (WrongText i) e)
+  -- the number of a refusal is that of text of a node and of key of a node
+  pub number_refused : (r : TableRefusal) (b : Bool) (s : List ℕ) → reported (Err r) ≡ table_outcome T X → (part_by_lem (check_table T X) b s).number ≡ (reported (Err r)).refusal
+  unfolding reported table_outcome
+  number_refused WrongSize b s h = number_sized (check_table T X) b s (report_sized (check_table T X) (ap (λ (o : TableOutcome). o.refusal) (sym h)))
+  number_refused (WrongNode i) b s h = number_wrong (check_table T X) b s _ (report_wrong (check_table T X) (ap (λ (o : TableOutcome). o.refusal) (sym h)))
+  number_refused (WrongText i) b s h = number_text (check_table T X) b s _ (report_text (check_table T X) (ap (λ (o : TableOutcome). o.refusal) (sym h)))
 
 -- a part and a number that are an outcome's are the outcome
 pub answered_is : (o : PartOutcome) (s : List ℕ) (n : ℕ) → s ≡ o.part → n ≡ o.number → answered s n ≡ o

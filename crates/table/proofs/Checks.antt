@@ -20,10 +20,9 @@ use Rattle.table_laws.specs.Rights.{good_inside}
 use Rattle.table_laws.specs.Records.{RecordsBelow, record_payload, counts_reach}
 use Rattle.table_laws.specs.Pair.{least_text_lem, right_pair, records_sized, records_by, texts_sized, texts_by, check_sized, check_record, check_text}
 use Rattle.table_laws.specs.Starts.{least_start, keys_inside}
-use Rattle.table.specs.declared.TableChecked.{TableChecked}
-use Rattle.table.specs.declared.TableChecked.TheVariants.{Accepted, WrongSize, WrongNode, WrongText}
-use Rattle.table.specs.declared.structure.Pass.{Pass}
-use Rattle.table.specs.declared.structure.Pass.TheVariants.{Right, WrongAt}
+use Rattle.std.specs.Prelude.{Result, Ok, Err}
+use Rattle.table.specs.declared.TableRefusal.{TableRefusal}
+use Rattle.table.specs.declared.TableRefusal.TheVariants.{WrongSize, WrongNode, WrongText}
 use Rattle.table.specs.Outcomes.{reported, found}
 use Rattle.table.specs.Words.{TextsBelow, KeysInside}
 
@@ -57,103 +56,61 @@ keys_up_to T X i m l r e g = record { nodes = omega arith; keys = λ j a b. by j
         let s : i ≡ j = omega arith in
         subst (λ (x : ℕ). key_start T x + key_length T x ≤ length X) s (good_inside X (key_start T i) (key_length T i) g)
 
--- ---- what the pass over all rules answers
-
-module _ (r : TableChecked) (o : Option ℕ) (h : reported r ≡ report_table (by_least o)) where
-  number_is : (s : TableChecked) → r ≡ s → (reported s).refusal ≡ (report_table (by_least o)).refusal
-  number_is s e = ap (λ (x : TableOutcome). x.refusal) (sym (ap reported e) ∙ h)
-
-  node_is : (s : TableChecked) → r ≡ s → (reported s).node ≡ (report_table (by_least o)).node
-  node_is s e = ap (λ (x : TableOutcome). x.node) (sym (ap reported e) ∙ h)
-
-  pub joined_wrong : (i : ℕ) → r ≡ WrongNode i → some i ≡ o
-  unfolding reported report_table by_least
-  joined_wrong i e = by o (number_is (WrongNode i) e) (node_is (WrongNode i) e)
-    where
-      by : (x : Option ℕ) → 10 ≡ (report_table (by_least x)).refusal → i ≡ (report_table (by_least x)).node → some i ≡ x
-      by none n z = absurd (omega arith)
-      by (some j) n z = ap some z
-
-  pub joined_right : r ≡ Accepted → none ≡ o
-  unfolding reported report_table by_least
-  joined_right e = by o (number_is Accepted e)
-    where
-      by : (x : Option ℕ) → 0 ≡ (report_table (by_least x)).refusal → none ≡ x
-      by none n = refl
-      by (some j) n = absurd (omega arith)
-
-  -- it answers nothing else
-  pub joined_size : r ≡ WrongSize → none ≡ o
-  unfolding reported report_table by_least
-  joined_size e = by o (number_is WrongSize e)
-    where
-      by : (x : Option ℕ) → 9 ≡ (report_table (by_least x)).refusal → none ≡ x
-      by none n = absurd (omega arith)
-      by (some j) n = absurd (omega arith)
-
-  pub joined_text : (i : ℕ) → r ≡ WrongText i → none ≡ o
-  unfolding reported report_table by_least
-  joined_text i e = by o (number_is (WrongText i) e)
-    where
-      by : (x : Option ℕ) → 17 ≡ (report_table (by_least x)).refusal → none ≡ x
-      by none n = absurd (omega arith)
-      by (some j) n = absurd (omega arith)
-
 -- ---- what the records come to
 
-module _ (p : Pass) (o : Option ℕ) (h : found p ≡ o) where
-  pub found_right : p ≡ Right → o ≡ none
+module _ (p : Result (Unit {0}) ℕ) (o : Option ℕ) (h : found p ≡ o) where
+  pub found_right : p ≡ Ok tt → o ≡ none
   unfolding found
   found_right e = sym h ∙ ap found e
 
-  pub found_wrong : (k : ℕ) → p ≡ WrongAt k → o ≡ some k
+  pub found_wrong : (k : ℕ) → p ≡ Err k → o ≡ some k
   unfolding found
   found_wrong k e = sym h ∙ ap found e
 
-  pub refused_text : (n : ℕ) → p ≡ Right → reported (WrongText n) ≡ report_table (and_then (by_record o) (text_at n))
+  pub refused_text : (n : ℕ) → p ≡ Ok tt → reported (Err (WrongText n)) ≡ report_table (and_then (by_record o) (text_at n))
   unfolding reported report_table and_then by_record
   refused_text n e = sym (ap (λ (x : Option ℕ). report_table (and_then (by_record x) (text_at n))) (found_right e))
 
-  pub refused_record : (n k : ℕ) → p ≡ WrongAt k → reported (WrongNode k) ≡ report_table (and_then (by_record o) (text_at n))
+  pub refused_record : (n k : ℕ) → p ≡ Err k → reported (Err (WrongNode k)) ≡ report_table (and_then (by_record o) (text_at n))
   unfolding reported report_table and_then by_record
   refused_record n k e = sym (ap (λ (x : Option ℕ). report_table (and_then (by_record x) (text_at n))) (found_wrong k e))
 
 module _ (T X : List ℕ) where
-  pub records_size : bad_size T X ≡ true → reported WrongSize ≡ records_outcome T X
+  pub records_size : bad_size T X ≡ true → reported (Err WrongSize) ≡ records_outcome T X
   unfolding reported report_table records_outcome
   records_size b = sym (ap report_table (records_sized T X b))
 
-  pub texts_size : bad_size T X ≡ true → reported WrongSize ≡ texts_outcome T X
+  pub texts_size : bad_size T X ≡ true → reported (Err WrongSize) ≡ texts_outcome T X
   unfolding reported report_table texts_outcome
   texts_size b = sym (ap report_table (texts_sized T X b))
 
-  pub pair_size : bad_size T X ≡ true → reported WrongSize ≡ table_outcome T X
+  pub pair_size : bad_size T X ≡ true → reported (Err WrongSize) ≡ table_outcome T X
   unfolding reported report_table table_outcome
   pair_size b = sym (ap report_table (check_sized T X b))
 
-  module _ (b : bad_size T X ≡ false) (p : Pass) where
-    pub records_right : found p ≡ least_record T → p ≡ Right → reported Accepted ≡ records_outcome T X
+  module _ (b : bad_size T X ≡ false) (p : Result (Unit {0}) ℕ) where
+    pub records_right : found p ≡ least_record T → p ≡ Ok tt → reported (Ok tt) ≡ records_outcome T X
     unfolding reported report_table records_outcome by_record
     records_right h e = sym (ap report_table (records_by T X b ∙ ap by_record (found_right p (least_record T) h e)))
 
-    pub records_wrong : (k : ℕ) → found p ≡ least_record T → p ≡ WrongAt k → reported (WrongNode k) ≡ records_outcome T X
+    pub records_wrong : (k : ℕ) → found p ≡ least_record T → p ≡ Err k → reported (Err (WrongNode k)) ≡ records_outcome T X
     unfolding reported report_table records_outcome by_record
     records_wrong k h e = sym (ap report_table (records_by T X b ∙ ap by_record (found_wrong p (least_record T) h k e)))
 
     module _ (h : found p ≡ least_wrong T X 0 (node_count T)) where
-      both_right : p ≡ Right → (least_record T ≡ none) × (least_text T X ≡ none)
+      both_right : p ≡ Ok tt → (least_record T ≡ none) × (least_text T X ≡ none)
       both_right e = right_pair T X (none_right T X (node_count T) (found_right p (least_wrong T X 0 (node_count T)) h e))
 
-      pub texts_right : p ≡ Right → reported Accepted ≡ texts_outcome T X
+      pub texts_right : p ≡ Ok tt → reported (Ok tt) ≡ texts_outcome T X
       unfolding reported report_table texts_outcome by_text
       texts_right e = sym (ap report_table (texts_by T X b ∙ ap by_text (both_right e).1))
 
-      pub pair_right : p ≡ Right → reported Accepted ≡ table_outcome T X
+      pub pair_right : p ≡ Ok tt → reported (Ok tt) ≡ table_outcome T X
       unfolding reported report_table table_outcome by_text
       pair_right e = let w = both_right e in sym (ap report_table (check_text T X b w.0 ∙ ap by_text w.1))
 
       -- the pair behind the pass over all rules: a wrong record, or else the text or key of the node that it found
-      pub pair_behind : (n : ℕ) → p ≡ WrongAt n → (r : TableChecked) → reported r ≡ report_table (and_then (by_record (least_record T)) (text_at n)) → reported r ≡ table_outcome T X
+      pub pair_behind : (n : ℕ) → p ≡ Err n → (r : Result (Unit {0}) TableRefusal) → reported r ≡ report_table (and_then (by_record (least_record T)) (text_at n)) → reported r ≡ table_outcome T X
       unfolding table_outcome and_then by_record by_text
       pair_behind n e r g = g ∙ by (least_record T) refl
         where
@@ -162,11 +119,11 @@ module _ (T X : List ℕ) where
           by (some k) f = sym (ap report_table (check_record T X k b f))
 
   -- the texts and keys by themselves
-  pub texts_are : bad_size T X ≡ false → (r : TableChecked) → reported r ≡ report_table (by_text (least_text T X)) → reported r ≡ texts_outcome T X
+  pub texts_are : bad_size T X ≡ false → (r : Result (Unit {0}) TableRefusal) → reported r ≡ report_table (by_text (least_text T X)) → reported r ≡ texts_outcome T X
   unfolding texts_outcome
   texts_are b r g = g ∙ sym (ap report_table (texts_by T X b))
 
   -- with right records the node that the pass over all rules found is the one of the texts
-  pub texts_same : (n : ℕ) → least_record T ≡ none → least_wrong T X 0 (node_count T) ≡ some n → reported (WrongText n) ≡ report_table (by_text (least_text T X))
+  pub texts_same : (n : ℕ) → least_record T ≡ none → least_wrong T X 0 (node_count T) ≡ some n → reported (Err (WrongText n)) ≡ report_table (by_text (least_text T X))
   unfolding reported report_table by_text
   texts_same n e w = sym (ap (λ (o : Option ℕ). report_table (by_text o)) (sym (least_text_lem T X e) ∙ w))

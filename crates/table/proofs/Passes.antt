@@ -8,14 +8,13 @@ use lib.ListN.{length}
 use native.Mathlib.Omega.{arith}
 use Rattle.definition.specs.Limits.{max_nodes}
 use Rattle.definition.specs.Tables.{node_count, first_child}
-use Rattle.definition.specs.TableOutcomes.{report_table}
-use Rattle.table_laws.specs.Joined.{least_wrong, by_least, node_right}
+use Rattle.table_laws.specs.Joined.{least_wrong, node_right}
 use Rattle.table_laws.specs.Least.{RightBelow, least_wrong_lem, least_none}
 use Rattle.table_laws.specs.Rights.{first_inside, stands_alone, wrong_place}
-use Rattle.table.specs.declared.TableChecked.TheVariants.{Accepted, WrongNode}
+use Rattle.std.specs.Prelude.{Ok, Err}
 use Rattle.table.specs.declared.scan.Cursor.{Cursor}
 use Rattle.table.specs.declared.scan.Passed.{Passed}
-use Rattle.table.specs.Outcomes.{reported}
+use Rattle.table.specs.Outcomes.{found}
 use Rattle.table.specs.Words.{HasParent, CursorAt, ParentAt, Moved, Surely, Kept, Before, Begun, Along, WrongAt, PassedBy}
 use Rattle.table.proofs.Along.{begun_at, before_along}
 use Rattle.table.proofs.Kept.{kept_moved, before_surely}
@@ -28,24 +27,24 @@ pub record InPass (T X H₀ L₀ H L : List ℕ) (q : Cursor) (first node : ℕ)
   pub heads : length H ≡ length H₀
   pub links : length L ≡ length L₀
 
--- a wrong node before which all are right is what is reported
-pub wrong_reported : {T X : List ℕ} {n : ℕ} → WrongAt T X n → reported (WrongNode n) ≡ report_table (by_least (least_wrong T X 0 (node_count T)))
-unfolding reported report_table by_least
-wrong_reported {T} {X} {n} w = sym (ap (λ (o : Option ℕ). report_table (by_least o)) (least_wrong_lem T X n (node_count T) w.right w.wrong w.node_in))
+-- a wrong node before which all are right is what is found
+pub wrong_found : {T X : List ℕ} {n : ℕ} → WrongAt T X n → found (Err n) ≡ least_wrong T X 0 (node_count T)
+unfolding found
+wrong_found {T} {X} {n} w = sym (least_wrong_lem T X n (node_count T) w.right w.wrong w.node_in)
 
 module _ {T X H₀ L₀ H L : List ℕ} {q : Cursor} {first node : ℕ} (i : InPass T X H₀ L₀ H L q first node) where
   -- behind the last node
-  pub pass_ends : node_count T ≤ node → reported Accepted ≡ report_table (by_least (least_wrong T X 0 (node_count T)))
-  unfolding reported report_table by_least
-  pass_ends e = sym (ap (λ (o : Option ℕ). report_table (by_least o)) (least_none T X (node_count T) (λ k m. i.right k (omega arith))))
+  pub pass_ends : node_count T ≤ node → found (Ok tt) ≡ least_wrong T X 0 (node_count T)
+  unfolding found
+  pass_ends e = sym (least_none T X (node_count T) (λ k m. i.right k (omega arith)))
 
   module _ (n : node < node_count T) where
     -- a node that the counts before it do not reach
-    pub pass_alone : first ≤ node → reported (WrongNode node) ≡ report_table (by_least (least_wrong T X 0 (node_count T)))
+    pub pass_alone : first ≤ node → found (Err node) ≡ least_wrong T X 0 (node_count T)
     pass_alone h =
         let f = i.first_is in
         let e = i.before.cursor.earlier in
-        wrong_reported (record { node_in = n; right = i.right; wrong = wrong_place T X node (stands_alone T X node (omega arith) (omega arith)) })
+        wrong_found (record { node_in = n; right = i.right; wrong = wrong_place T X node (stands_alone T X node (omega arith) (omega arith)) })
 
     -- a node that they reach has a parent, which the cursor moves to
     pub pass_parent : node < first → 0 < node_count T → HasParent T node × CursorAt T node q

@@ -33,17 +33,14 @@ mod texts;
 mod utf8;
 
 use crate::records::RECORD;
-use structure::Pass;
 
 const MAX_NODES: usize = 65535;
 
 const MAX_TEXT: usize = 16777216;
 
-// What a check of a table finds.
+// Why a check refuses a table.
 #[derive(Clone, Copy)]
-pub enum TableChecked {
-    // No rule fails.
-    Accepted,
+pub enum TableRefusal {
     // Refusal 9: the table's size or the text's is wrong.
     WrongSize,
     // Refusal 10: the least node at which a rule on records fails.
@@ -69,41 +66,41 @@ fn bad_size(table: &[u8], text: &[u8]) -> bool
 }
 
 // The check of the records alone.
-pub fn check_records(table: &[u8], text: &[u8]) -> TableChecked
+pub fn check_records(table: &[u8], text: &[u8]) -> Result<(), TableRefusal>
     ensures { reported result ≡ records_outcome table.now text.now }
 {
     if bad_size(table, text) {
-        return TableChecked::WrongSize;
+        return Err(TableRefusal::WrongSize);
     }
     match structure::over_records(table) {
-        Pass::Right => TableChecked::Accepted,
-        Pass::WrongAt(node) => TableChecked::WrongNode(node),
+        Ok(()) => Ok(()),
+        Err(node) => Err(TableRefusal::WrongNode(node)),
     }
 }
 
 // The check of the texts and keys alone, which takes each range as its record writes it, as far as the table reaches.
-pub fn check_texts(table: &[u8], text: &[u8]) -> TableChecked
+pub fn check_texts(table: &[u8], text: &[u8]) -> Result<(), TableRefusal>
     ensures { reported result ≡ texts_outcome table.now text.now }
 {
     if bad_size(table, text) {
-        return TableChecked::WrongSize;
+        return Err(TableRefusal::WrongSize);
     }
-    match pair::joined(table, text) {
-        Pass::Right => TableChecked::Accepted,
-        Pass::WrongAt(node) => pair::refused_text(table, text, node),
+    match scan::scan(table, text) {
+        Ok(()) => Ok(()),
+        Err(node) => pair::refused_text(table, text, node),
     }
 }
 
 // The pair: the check of the records over all nodes, then that of the texts and keys.
-pub fn check_table(table: &[u8], text: &[u8]) -> TableChecked
+pub fn check_table(table: &[u8], text: &[u8]) -> Result<(), TableRefusal>
     ensures { reported result ≡ table_outcome table.now text.now }
 {
     if bad_size(table, text) {
-        return TableChecked::WrongSize;
+        return Err(TableRefusal::WrongSize);
     }
-    match pair::joined(table, text) {
-        Pass::Right => TableChecked::Accepted,
-        Pass::WrongAt(node) => pair::refused(table, node),
+    match scan::scan(table, text) {
+        Ok(()) => Ok(()),
+        Err(node) => Err(pair::refused(table, node)),
     }
 }
 

@@ -1,12 +1,13 @@
 // The text and the key of a node: whether there is one, the refusal where there is none, and the part of the text that holds it.
-ghost use Rattle.std.specs.Prelude.{◌≡◌, ◌<◌, ◌≤◌, ◌+◌, length};
+ghost use Rattle.std.specs.Prelude.{◌≡◌, ◌<◌, ◌≤◌, ◌+◌, Err, length};
 ghost use Rattle.definition.specs.Tables.{node_count, key_start, key_length, low_word, high_word, key_bytes, text_bytes_at};
 ghost use Rattle.definition.specs.TableOutcomes.{has_text, has_key, text_outcome, key_outcome};
 ghost use Rattle.table_laws.specs.Accepted.{Parented};
 ghost use Rattle.table_laws.specs.Places.{Begins};
+ghost use Rattle.table.specs.Outcomes.{reported};
 
 use crate::records::{KIND_MAP, KIND_TEXT, RECORD};
-use crate::{TableChecked, records};
+use crate::{TableRefusal, records};
 
 const FOUND: u8 = 0;
 
@@ -43,20 +44,29 @@ fn has_key(table: &[u8], node: usize) -> bool
     records::kind(table, above) == KIND_MAP
 }
 
+// The number of a refusal.
+fn number(refusal: TableRefusal) -> u8
+    ensures { result ≡ (reported (Err refusal)).refusal }
+{
+    match refusal {
+        TableRefusal::WrongSize => WRONG_SIZE,
+        TableRefusal::WrongNode(_) => WRONG_NODE,
+        TableRefusal::WrongText(_) => WRONG_TEXT,
+    }
+}
+
 // The refusal of text of a node, 0 for none.
 pub fn text_refusal(table: &[u8], text: &[u8], node: usize) -> u8
     ensures { result ≡ (text_outcome table.now text.now node).number }
 {
     match crate::check_table(table, text) {
-        TableChecked::Accepted => {
+        Ok(()) => {
             if has_text(table, node) {
                 return FOUND;
             }
             NO_TEXT
         }
-        TableChecked::WrongSize => WRONG_SIZE,
-        TableChecked::WrongNode(_) => WRONG_NODE,
-        TableChecked::WrongText(_) => WRONG_TEXT,
+        Err(refusal) => number(refusal),
     }
 }
 
@@ -65,15 +75,13 @@ pub fn key_refusal(table: &[u8], text: &[u8], node: usize) -> u8
     ensures { result ≡ (key_outcome table.now text.now node).number }
 {
     match crate::check_table(table, text) {
-        TableChecked::Accepted => {
+        Ok(()) => {
             if has_key(table, node) {
                 return FOUND;
             }
             NO_TEXT
         }
-        TableChecked::WrongSize => WRONG_SIZE,
-        TableChecked::WrongNode(_) => WRONG_NODE,
-        TableChecked::WrongText(_) => WRONG_TEXT,
+        Err(refusal) => number(refusal),
     }
 }
 

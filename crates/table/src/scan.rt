@@ -2,15 +2,14 @@
 ghost use Rattle.std.specs.Prelude.{◌≡◌, ◌<◌, ◌≤◌, ◌+◌};
 ghost use Rattle.definition.specs.Limits.{max_nodes};
 ghost use Rattle.definition.specs.Tables.{node_count, first_child, kind_at, kind_map};
-ghost use Rattle.definition.specs.TableOutcomes.{report_table};
-ghost use Rattle.table_laws.specs.Joined.{least_wrong, by_least};
+ghost use Rattle.table_laws.specs.Joined.{least_wrong};
 ghost use Rattle.table_laws.specs.Least.{RightBelow};
 ghost use Rattle.text.specs.Known.{Known};
 ghost use Rattle.table.specs.Words.{HasParent, CursorAt, ParentAt, Moved, Surely, Kept, Before, Begun, PassedBy, RootList, Front};
-ghost use Rattle.table.specs.Outcomes.{reported};
+ghost use Rattle.table.specs.Outcomes.{found};
 
 use crate::records::{KIND_MAP, RECORD};
-use crate::{TableChecked, buckets, distinct, records, rules, utf8};
+use crate::{buckets, distinct, records, rules, utf8};
 use text::encoding;
 
 pub const MAX_MEMBERS: usize = 1024;
@@ -238,11 +237,11 @@ fn rest(
     links: &mut [u16],
     known: u8,
     from: usize,
-) -> TableChecked
+) -> Result<(), usize>
     requires start_value { (start ≡ first_child table.now from) × Before table.now text.now from root heads.old links.old }
     requires table_nonzero { (0 < node_count table.now) × (node_count table.now ≤ max_nodes) × RightBelow table.now text.now from }
     requires known { Known known text.now }
-    ensures { reported result ≡ report_table (by_least (least_wrong table.now text.now 0 (node_count table.now))) }
+    ensures { found result ≡ least_wrong table.now text.now 0 (node_count table.now) }
 {
     let count = table.len() / RECORD;
     let mut cursor = root;
@@ -250,12 +249,12 @@ fn rest(
     let mut node = from;
     while node < count {
         if first <= node {
-            return TableChecked::WrongNode(node);
+            return Err(node);
         }
         let above = to_parent(table, node, cursor);
         let passed = children(table, text, node, first, above, heads, links, known);
         if passed.found == WRONG {
-            return TableChecked::WrongNode(passed.node);
+            return Err(passed.node);
         }
         node = passed.node;
         first = passed.first;
@@ -264,7 +263,7 @@ fn rest(
             cursor = surely(table, text, above);
         }
     }
-    TableChecked::Accepted
+    Ok(())
 }
 
 // The same, with room for chains of which none is begun.
@@ -275,11 +274,11 @@ fn with_chains(
     root: Cursor,
     known: u8,
     from: usize,
-) -> TableChecked
+) -> Result<(), usize>
     requires start_value { (start ≡ first_child table.now 1) × CursorAt table.now 1 root × (root.sure ≡ 0) }
     requires table_nonzero { (0 < node_count table.now) × (node_count table.now ≤ max_nodes) × Front table.now text.now from }
     requires known { Known known text.now }
-    ensures { reported result ≡ report_table (by_least (least_wrong table.now text.now 0 (node_count table.now))) }
+    ensures { found result ≡ least_wrong table.now text.now 0 (node_count table.now) }
 {
     let mut heads = [0u16; buckets::BUCKETS];
     let mut links = [0u16; MAX_MEMBERS];
@@ -296,12 +295,12 @@ fn with_few(
     root: Cursor,
     known: u8,
     from: usize,
-) -> TableChecked
+) -> Result<(), usize>
     requires start_value { (start ≡ first_child table.now 1) × CursorAt table.now 1 root × (root.sure ≡ 0) }
     requires table_nonzero { (0 < node_count table.now) × (node_count table.now ≤ max_nodes) × Front table.now text.now from }
     requires table_bound { node_count table.now ≤ 128 }
     requires known { Known known text.now }
-    ensures { reported result ≡ report_table (by_least (least_wrong table.now text.now 0 (node_count table.now))) }
+    ensures { found result ≡ least_wrong table.now text.now 0 (node_count table.now) }
 {
     let mut heads = [0u16; buckets::FEW_BUCKETS];
     let mut links = [0u16; FEW_NODES];
@@ -311,12 +310,12 @@ fn with_few(
 }
 
 // The whole pass.
-pub fn scan(table: &[u8], text: &[u8]) -> TableChecked
+pub fn scan(table: &[u8], text: &[u8]) -> Result<(), usize>
     requires { (0 < node_count table.now) × (node_count table.now ≤ max_nodes) }
-    ensures { reported result ≡ report_table (by_least (least_wrong table.now text.now 0 (node_count table.now))) }
+    ensures { found result ≡ least_wrong table.now text.now 0 (node_count table.now) }
 {
     if !rules::root_right(table, text) {
-        return TableChecked::WrongNode(0);
+        return Err(0);
     }
     let end = 1 + records::child_count(table, 0) as usize;
     let kind = records::kind(table, 0);

@@ -14,13 +14,6 @@ use crate::{records, rules};
 
 const MAX_MEMBERS: u32 = 1024;
 
-// What a pass over the nodes finds: that all are right, or the least that is not.
-#[derive(Clone, Copy)]
-pub enum Pass {
-    Right,
-    WrongAt(usize),
-}
-
 // Bytes 16-23, as the kind asks, without the text that they name; first is where the range of a container's children must begin.
 fn payload_right(table: &[u8], node: usize, first: usize) -> bool
     requires { (node < node_count table.now) × (first ≡ first_child table.now node) }
@@ -111,8 +104,8 @@ fn record_right(table: &[u8], node: usize, first: usize) -> bool
     place_right(table, node)
 }
 
-// The pass over all records.
-pub fn over_records(table: &[u8]) -> Pass
+// The pass over all records. The error is the least node that is not right.
+pub fn over_records(table: &[u8]) -> Result<(), usize>
     requires { (0 < node_count table.now) × (node_count table.now ≤ max_nodes) }
     ensures { found result ≡ least_record table.now }
 {
@@ -121,10 +114,10 @@ pub fn over_records(table: &[u8]) -> Pass
     let mut node = 0;
     while node < count {
         if !record_right(table, node, first) {
-            return Pass::WrongAt(node);
+            return Err(node);
         }
         first += records::child_count(table, node) as usize;
         node += 1;
     }
-    Pass::Right
+    Ok(())
 }

@@ -10,7 +10,7 @@ ghost use Rattle.table.specs.Words.{TextsBelow};
 ghost use Rattle.table.specs.Outcomes.{reported};
 
 use crate::records::{KIND_MAP, KIND_TEXT, RECORD};
-use crate::{TableChecked, keys, records, rules};
+use crate::{TableRefusal, keys, records, rules};
 use text::encoding;
 
 // Whether the text of a node, if it is one, lies inside the text and is UTF-8.
@@ -94,16 +94,16 @@ fn text_right(table: &[u8], text: &[u8], node: usize) -> bool
 }
 
 // The pass over the texts and keys of all nodes.
-pub fn over_texts(table: &[u8], text: &[u8]) -> TableChecked
+pub fn over_texts(table: &[u8], text: &[u8]) -> Result<(), TableRefusal>
     ensures { reported result ≡ report_table (by_text (least_text table.now text.now)) }
 {
     let count = table.len() / RECORD;
     let mut node = 0;
     while node < count {
         if !text_right(table, text, node) {
-            return TableChecked::WrongText(node);
+            return Err(TableRefusal::WrongText(node));
         }
         node += 1;
     }
-    TableChecked::Accepted
+    Ok(())
 }

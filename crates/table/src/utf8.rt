@@ -2,16 +2,15 @@
 ghost use Rattle.std.specs.Prelude.{◌≡◌, ◌<◌, ◌≤◌};
 ghost use Rattle.definition.specs.Limits.{max_nodes};
 ghost use Rattle.definition.specs.Tables.{node_count, child_count, first_child, kind_at, kind_map};
-ghost use Rattle.definition.specs.TableOutcomes.{report_table};
-ghost use Rattle.table_laws.specs.Joined.{least_wrong, by_least};
+ghost use Rattle.table_laws.specs.Joined.{least_wrong};
 ghost use Rattle.table_laws.specs.Least.{RightBelow};
 ghost use Rattle.text.specs.Known.{Known};
 ghost use Rattle.table.specs.Words.{HasParent, CursorAt, ParentAt, Moved, Kept, Before, Begun, PassedBy, Front, ListedFrom, Behind};
-ghost use Rattle.table.specs.Outcomes.{reported};
+ghost use Rattle.table.specs.Outcomes.{found};
 
 use crate::records::{KIND_LIST, KIND_MAP, RECORD};
 use crate::scan::{Cursor, Passed};
-use crate::{TableChecked, buckets, records, rules, scan};
+use crate::{buckets, records, rules, scan};
 use text::encoding;
 
 // In a list of fewer children texts are not looked for.
@@ -182,11 +181,11 @@ fn rest(
     heads: &mut [u16],
     links: &mut [u16],
     from: usize,
-) -> TableChecked
+) -> Result<(), usize>
     requires start_value { (start ≡ first_child table.now from) × Before table.now text.now from root heads.old links.old }
     requires table_nonzero { (0 < node_count table.now) × (node_count table.now ≤ max_nodes) × RightBelow table.now text.now from }
     requires known { Known 1 text.now }
-    ensures { reported result ≡ report_table (by_least (least_wrong table.now text.now 0 (node_count table.now))) }
+    ensures { found result ≡ least_wrong table.now text.now 0 (node_count table.now) }
 {
     let count = table.len() / RECORD;
     let mut cursor = root;
@@ -194,12 +193,12 @@ fn rest(
     let mut node = from;
     while node < count {
         if first <= node {
-            return TableChecked::WrongNode(node);
+            return Err(node);
         }
         let above = to_parent(table, node, cursor);
         let passed = children(table, text, node, first, above, heads, links);
         if passed.found == scan::WRONG {
-            return TableChecked::WrongNode(passed.node);
+            return Err(passed.node);
         }
         node = passed.node;
         first = passed.first;
@@ -208,7 +207,7 @@ fn rest(
             cursor = scan::surely(table, text, above);
         }
     }
-    TableChecked::Accepted
+    Ok(())
 }
 
 // The same, with room for chains of which none is begun.
@@ -218,11 +217,11 @@ pub fn with_chains(
     start: usize,
     root: Cursor,
     from: usize,
-) -> TableChecked
+) -> Result<(), usize>
     requires start_value { (start ≡ first_child table.now 1) × CursorAt table.now 1 root × (root.sure ≡ 0) }
     requires table_nonzero { (0 < node_count table.now) × (node_count table.now ≤ max_nodes) × Front table.now text.now from }
     requires known { Known 1 text.now }
-    ensures { reported result ≡ report_table (by_least (least_wrong table.now text.now 0 (node_count table.now))) }
+    ensures { found result ≡ least_wrong table.now text.now 0 (node_count table.now) }
 {
     let mut heads = [0u16; buckets::BUCKETS];
     let mut links = [0u16; scan::MAX_MEMBERS];

@@ -14,54 +14,59 @@ ghost use Rattle.definition.specs.Paths.{path_outcome};
 ghost use Rattle.table_laws.specs.Accepted.{Accepted};
 ghost use Rattle.table_path.specs.Outcomes.{told, ToldIn};
 
-use table::TableChecked;
+use table::TableRefusal;
 use table::records::RECORD;
 
 mod climb;
 mod escapes;
 mod writing;
 
-// What is answered.
+// Why no path is written.
 #[derive(Clone, Copy)]
-pub enum PathWritten {
-    // The path has so many bytes: the first of the room.
-    Written(usize),
-    // Refusal 9: the table's size or the text's is wrong.
-    WrongSize,
-    // Refusal 10: the least node at which a rule on records fails.
-    WrongNode(usize),
-    // Refusal 17: the least node at which a rule on texts and keys fails.
-    WrongText(usize),
+pub enum PathRefusal {
+    // Refusals 9, 10 and 17: what the check of the table finds.
+    Table(TableRefusal),
     // Refusal 15: there is no such node.
     NoNode,
     // Refusal 16: the path has so many bytes, and the room has less.
     SmallRoom(usize),
 }
 
-// The same over an accepted table.
-fn path_in(table: &[u8], text: &[u8], node: usize, room: &mut [u8]) -> PathWritten
+impl From<TableRefusal> for PathRefusal {
+    ghost use Rattle.table_path.specs.declared.PathRefusal.TheVariants.{Table};
+
+    ghost from_gives = { λ refusal given. given ≡ Table refusal };
+
+    fn from(refusal: TableRefusal) -> PathRefusal {
+        PathRefusal::Table(refusal)
+    }
+}
+
+// The path of a node of an accepted table, in the first bytes of the room, and how many there are.
+fn path_in(table: &[u8], text: &[u8], node: usize, room: &mut [u8]) -> Result<usize, PathRefusal>
     requires { Accepted table.now text.now }
     ensures { ToldIn table.now text.now node room.old result room.new }
 {
     if table.len() / RECORD <= node {
-        return PathWritten::NoNode;
+        return Err(PathRefusal::NoNode);
     }
     let size = climb::path_length(table, text, node);
     if room.len() < size {
-        return PathWritten::SmallRoom(size);
+        return Err(PathRefusal::SmallRoom(size));
     }
     climb::write_path(table, text, node, room, size);
-    PathWritten::Written(size)
+    Ok(size)
 }
 
-// The Normalized Path of a node, in the first bytes of the room. With every refusal the room stays as it was.
-pub fn path_of_node(table: &[u8], text: &[u8], node: usize, room: &mut [u8]) -> PathWritten
+// The same for any table. With every refusal the room stays as it was.
+pub fn path_of_node(
+    table: &[u8],
+    text: &[u8],
+    node: usize,
+    room: &mut [u8],
+) -> Result<usize, PathRefusal>
     ensures { told result room.new ≡ path_outcome table.now text.now node room.old }
 {
-    match table::check_table(table, text) {
-        TableChecked::Accepted => path_in(table, text, node, room),
-        TableChecked::WrongSize => PathWritten::WrongSize,
-        TableChecked::WrongNode(wrong) => PathWritten::WrongNode(wrong),
-        TableChecked::WrongText(wrong) => PathWritten::WrongText(wrong),
-    }
+    table::check_table(table, text)?;
+    path_in(table, text, node, room)
 }

@@ -13,8 +13,8 @@ over_records-requires c =
     let z = right_size c.args.table.now c.args.text.now (sym c.bad_size.ensures ∙ c.if-bad_size.false) in
     (z.some_node, z.few)
 
-pub returns-in-Right : goal.returns-in-Right
-returns-in-Right c = records_right c.args.table.now c.args.text.now (sym c.bad_size.ensures ∙ c.if-bad_size.false) _ c.over_records.ensures c.in-Right.is
+pub returns-in-Ok : goal.returns-in-Ok
+returns-in-Ok c = records_right c.args.table.now c.args.text.now (sym c.bad_size.ensures ∙ c.if-bad_size.false) _ c.over_records.ensures c.in-Ok.is
 
-pub returns-in-WrongAt : goal.returns-in-WrongAt
-returns-in-WrongAt c = records_wrong c.args.table.now c.args.text.now (sym c.bad_size.ensures ∙ c.if-bad_size.false) _ _ c.over_records.ensures c.in-WrongAt.is
+pub returns-in-Err : goal.returns-in-Err
+returns-in-Err c = records_wrong c.args.table.now c.args.text.now (sym c.bad_size.ensures ∙ c.if-bad_size.false) _ _ c.over_records.ensures c.in-Err.is

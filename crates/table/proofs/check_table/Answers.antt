@@ -8,8 +8,8 @@ use Rattle.table.proofs.check_table.Goals as goal
 pub returns-then-bad_size : goal.returns-then-bad_size
 returns-then-bad_size c = pair_size c.args.table.now c.args.text.now (sym c.bad_size.ensures ∙ c.if-bad_size.true)
 
-pub joined-requires : goal.joined-requires
-joined-requires c =
+pub scan-requires : goal.scan-requires
+scan-requires c =
     let z = right_size c.args.table.now c.args.text.now (sym c.bad_size.ensures ∙ c.if-bad_size.false) in
     (z.some_node, z.few)
 
@@ -18,8 +18,8 @@ refused-requires c =
     let z = right_size c.args.table.now c.args.text.now (sym c.bad_size.ensures ∙ c.if-bad_size.false) in
     (z.some_node, z.few)
 
-pub returns-in-Right : goal.returns-in-Right
-returns-in-Right c = pair_right c.args.table.now c.args.text.now (sym c.bad_size.ensures ∙ c.if-bad_size.false) _ c.joined.ensures c.in-Right.is
+pub returns-in-Ok : goal.returns-in-Ok
+returns-in-Ok c = pair_right c.args.table.now c.args.text.now (sym c.bad_size.ensures ∙ c.if-bad_size.false) _ c.scan.ensures c.in-Ok.is
 
-pub returns-in-WrongAt : goal.returns-in-WrongAt
-returns-in-WrongAt c = pair_behind c.args.table.now c.args.text.now (sym c.bad_size.ensures ∙ c.if-bad_size.false) _ c.joined.ensures _ c.in-WrongAt.is _ c.refused.ensures
+pub returns-in-Err : goal.returns-in-Err
+returns-in-Err c = pair_behind c.args.table.now c.args.text.now (sym c.bad_size.ensures ∙ c.if-bad_size.false) _ c.scan.ensures _ c.in-Err.is _ c.refused.ensures

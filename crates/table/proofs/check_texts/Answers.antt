@@ -8,18 +8,18 @@ use Rattle.table.proofs.check_texts.Goals as goal
 pub returns-then-bad_size : goal.returns-then-bad_size
 returns-then-bad_size c = texts_size c.args.table.now c.args.text.now (sym c.bad_size.ensures ∙ c.if-bad_size.true)
 
-pub joined-requires : goal.joined-requires
-joined-requires c =
+pub scan-requires : goal.scan-requires
+scan-requires c =
     let z = right_size c.args.table.now c.args.text.now (sym c.bad_size.ensures ∙ c.if-bad_size.false) in
     (z.some_node, z.few)
 
 pub refused_text-requires : goal.refused_text-requires
 refused_text-requires c =
     let z = right_size c.args.table.now c.args.text.now (sym c.bad_size.ensures ∙ c.if-bad_size.false) in
-    record { table_nonzero = (z.some_node, z.few); table_value = found_wrong _ _ c.joined.ensures _ c.in-WrongAt.is }
+    record { table_nonzero = (z.some_node, z.few); table_value = found_wrong _ _ c.scan.ensures _ c.in-Err.is }
 
-pub returns-in-Right : goal.returns-in-Right
-returns-in-Right c = texts_right c.args.table.now c.args.text.now (sym c.bad_size.ensures ∙ c.if-bad_size.false) _ c.joined.ensures c.in-Right.is
+pub returns-in-Ok : goal.returns-in-Ok
+returns-in-Ok c = texts_right c.args.table.now c.args.text.now (sym c.bad_size.ensures ∙ c.if-bad_size.false) _ c.scan.ensures c.in-Ok.is
 
-pub returns-in-WrongAt : goal.returns-in-WrongAt
-returns-in-WrongAt c = texts_are c.args.table.now c.args.text.now (sym c.bad_size.ensures ∙ c.if-bad_size.false) _ c.refused_text.ensures
+pub returns-in-Err : goal.returns-in-Err
+returns-in-Err c = texts_are c.args.table.now c.args.text.now (sym c.bad_size.ensures ∙ c.if-bad_size.false) _ c.refused_text.ensures

@@ -2,7 +2,7 @@
 use native.Mathlib.Omega.{arith}
 use mathlib.Core.Path.{refl}
 use Prim.Native.Nat.{◌-◌}
-use Rattle.table.proofs.Passes.{InPass, wrong_reported, pass_ends, pass_alone, pass_parent, pass_begun, pass_kept, pass_on, pass_surely, parent_range}
+use Rattle.table.proofs.Passes.{InPass, wrong_found, pass_ends, pass_alone, pass_parent, pass_begun, pass_kept, pass_on, pass_surely, parent_range}
 use borrow.Author.Rules.{rules}
 use Rattle.table.proofs.scan.rest.Given as goal
 

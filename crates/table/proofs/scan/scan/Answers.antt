@@ -2,23 +2,19 @@
 use native.Mathlib.Omega.{arith}
 use borrow.Author.Tests.{not-true, not-false}
 use mathlib.Core.Path.{refl, sym, ◌∙◌, ap}
-use Prim.Native.Nat.{ℕ}
-use mathlib.Core.Option.{Option}
 use Rattle.definition.specs.Tables.{node_count}
-use Rattle.table_laws.specs.Joined.{by_least}
-use Rattle.definition.specs.TableOutcomes.{report_table}
 use Rattle.table_laws.specs.Least.{least_wrong_lem}
-use Rattle.table.specs.Outcomes.{reported}
+use Rattle.table.specs.Outcomes.{found}
 use Rattle.table.proofs.Cursor.{root_first, root_cursor, root_below}
 use borrow.Author.Rules.{rules}
 use mathlib.Core.Bool.{not}
 use Rattle.table.proofs.scan.scan.Goals as goal
 
 pub returns-then-not-root_right : goal.returns-then-not-root_right
-unfolding reported report_table by_least
+unfolding found
 returns-then-not-root_right c =
     let w = sym c.root_right.ensures ∙ not-true _ (ap not c.if-not-root_right.true) in
-    sym (ap (λ (o : Option ℕ). report_table (by_least o)) (least_wrong_lem c.args.table.now c.args.text.now 0 (node_count c.args.table.now) (λ k l. absurd (omega arith)) w c.requires.0))
+    sym (least_wrong_lem c.args.table.now c.args.text.now 0 (node_count c.args.table.now) (λ k l. absurd (omega arith)) w c.requires.0)
 
 pub front-from-requires : goal.front-from-requires
 front-from-requires c =

@@ -2,7 +2,7 @@
 use native.Mathlib.Omega.{arith}
 use mathlib.Core.Path.{refl}
 use Prim.Native.Nat.{◌-◌}
-use Rattle.table.proofs.Passes.{InPass, wrong_reported, pass_ends, pass_alone, pass_parent, pass_begun, pass_kept, pass_on, pass_surely, parent_range}
+use Rattle.table.proofs.Passes.{InPass, wrong_found, pass_ends, pass_alone, pass_parent, pass_begun, pass_kept, pass_on, pass_surely, parent_range}
 use borrow.Author.Rules.{rules}
 use Rattle.table.proofs.utf8.rest.Goals as goal
 
@@ -19,7 +19,7 @@ pub children-passed-requires : goal.children-passed-requires
 children-passed-requires c = record { begun = pass_begun c.loop-node.invariant c.loop-node-test.true c.requires.table_nonzero.1 c.to_parent-above.ensures.parent_at; kept = pass_kept c.loop-node.invariant c.loop-node-test.true c.requires.table_nonzero.1 c.to_parent-above.ensures.parent_at c.to_parent-above.ensures.moved; known = c.requires.known }
 
 pub returns-then-passed-eq-WRONG : goal.returns-then-passed-eq-WRONG
-returns-then-passed-eq-WRONG c = wrong_reported (c.children-passed.ensures.passed_by.stops c.if-passed-eq-WRONG.true)
+returns-then-passed-eq-WRONG c = wrong_found (c.children-passed.ensures.passed_by.stops c.if-passed-eq-WRONG.true)
 
 pub surely-cursor-requires : goal.surely-cursor-requires
 surely-cursor-requires c = parent_range c.to_parent-above.ensures.parent_at
