@@ -11,6 +11,10 @@ use lib.Dec.{is_le, compare_is_eq}
 use lib.ListN.{length, drop, get_or, drop_of_length-le}
 use lib.Seq.{drop-cons}
 use Rattle.definition.specs.Bytes.{part, order_bytes}
+use Rattle.std.specs.Cmp.Lexicographic.{slice_cmp}
+use Rattle.std.specs.Ordering.{nat_cmp}
+use Rattle.std.proofs.lemmas.Cmp.{ranked, by_ranked}
+use Rattle.text.specs.Orders.{answer}
 use Rattle.text.proofs.Same.{part_rest}
 
 -- ---- how two numbers compare
@@ -61,6 +65,18 @@ head_eq x y s t h = rw (compare_eq x y h, order_bytes) refl
 head_gt : (x y : ℕ) (s t : List ℕ) → y < x → order_bytes (x ∷ s) (y ∷ t) ≡ Ordering.gt
 unfolding order_bytes
 head_gt x y s t h = rw (compare_gt x y h, order_bytes) refl
+
+-- std's order of two lists of numbers is that of two texts
+pub slice_cmp-order : (s t : List ℕ) → slice_cmp nat_cmp s t ≡ answer (order_bytes s t)
+unfolding order_bytes
+slice_cmp-order [] [] = refl
+slice_cmp-order [] (y ∷ t) = refl
+slice_cmp-order (x ∷ s) [] = refl
+slice_cmp-order (x ∷ s) (y ∷ t) =
+    by_ranked (x < y) (x ≡ y) (y < x) (nat_cmp x y) (ranked x y (nat_cmp x y) refl)
+    (λ e h. rw (e, compare_lt x y h, order_bytes) refl)
+    (λ e h. rw (e, compare_eq x y h, order_bytes) (slice_cmp-order s t))
+    (λ e h. rw (e, compare_gt x y h, order_bytes) refl)
 
 -- a common front decides nothing
 order_append : (p s t : List ℕ) → order_bytes (p ++ s) (p ++ t) ≡ order_bytes s t

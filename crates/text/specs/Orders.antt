@@ -2,8 +2,8 @@
 use Prim.Native.Nat.{ℕ, ◌≤◌, Ordering}
 use Rattle.std.specs.Prelude.{◌≡◌, List, length, drop}
 use Rattle.definition.specs.Bytes.{order_bytes}
-use Rattle.text.specs.declared.parts.Order.{Order}
-use Rattle.text.specs.declared.parts.Order.TheVariants.{Less, Equal, Greater}
+use Rattle.std.specs.declared.cmp.Ordering.{Ordering as Order}
+use Rattle.std.specs.declared.cmp.Ordering.TheVariants.{Less, Equal, Greater}
 
 -- the code's answer for an order
 abbrev pub answer : Ordering → Order

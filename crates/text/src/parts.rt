@@ -6,14 +6,7 @@ ghost use Rattle.text.specs.Orders.{answer, Front};
 ghost use Rattle.text.specs.Ends.{EndsOf};
 
 use crate::bytes;
-
-// How one text stands to another.
-#[derive(Clone, Copy)]
-pub enum Order {
-    Less,
-    Equal,
-    Greater,
-}
+use std::cmp::Ordering;
 
 // Whether a and b hold the same bytes. Words are compared at once, and the last word of each as a whole, though it may begin among bytes that were compared before.
 pub fn same_bytes(a: &[u8], b: &[u8]) -> bool
@@ -182,33 +175,15 @@ fn same_front(a: &[u8], b: &[u8]) -> usize
 }
 
 // The order of a and b that the first unlike byte decides, the shorter first where there is none. Words that are the same are passed at once.
-pub fn order_bytes(a: &[u8], b: &[u8]) -> Order
+pub fn order_bytes(a: &[u8], b: &[u8]) -> Ordering
     ensures { result ≡ answer (order_bytes a.now b.now) }
 {
-    let mut i = same_front(a, b);
-    while i < a.len() {
-        if b.len() <= i {
-            return Order::Greater;
-        }
-        let x = a[i];
-        let y = b[i];
-        if x < y {
-            return Order::Less;
-        }
-        if y < x {
-            return Order::Greater;
-        }
-        i += 1;
-    }
-    if i < b.len() {
-        Order::Less
-    } else {
-        Order::Equal
-    }
+    let i = same_front(a, b);
+    (&a[i..]).cmp(&&b[i..])
 }
 
 // The order of the n bytes of s from a on and the m bytes of t from b on.
-pub fn order_part(s: &[u8], a: usize, n: usize, t: &[u8], b: usize, m: usize) -> Order
+pub fn order_part(s: &[u8], a: usize, n: usize, t: &[u8], b: usize, m: usize) -> Ordering
     requires { (a + n ≤ length s.now) × (b + m ≤ length t.now) }
     ensures { result ≡ answer (order_bytes (part s.now a n) (part t.now b m)) }
 {

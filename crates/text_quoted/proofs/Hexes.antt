@@ -1,6 +1,6 @@
 -- Hexadecimal digits: what the tests of a byte tell, and four of them at a place. Assumes nothing.
 use Prim.Native.Nat.{ℕ, ◌+◌, ◌-◌, ◌*◌, ◌≤◌, ◌<◌}
-use mathlib.Core.Path.{◌≡◌, sym, ap, ◌∙◌}
+use mathlib.Core.Path.{◌≡◌, refl, sym, ap, ◌∙◌}
 use mathlib.Core.Logic.{◌⊎◌, inl, inr}
 use mathlib.Core.List.{List}
 use mathlib.Core.Bool.{true, false, ◌&&◌, and-eq-true_iff, and-false, true≢false}
@@ -11,7 +11,10 @@ use lib.ListN.{length, get_or, length-drop}
 use Rattle.definition.specs.Bytes.{within}
 use Rattle.definition.specs.Lexical.{Hex4, is_hex, hex_value, hex4_value, spell_hex4}
 use Rattle.utf8_laws.specs.Bytes.{by_test, inside, inside_low, inside_high}
-use Rattle.text_quoted.specs.Pieces.{hex_or, HasDigits, NoDigits}
+use Rattle.std.proofs.lemmas.Bool.Decides.{nat_tests}
+use Rattle.std.specs.Char.{digit_value}
+use Rattle.std.specs.Prelude.{Option, Some, None, SomeIff}
+use Rattle.text_quoted.specs.Pieces.{HexDigit, HasDigits, NoDigits}
 use Rattle.text_quoted.proofs.Places.{here_four}
 
 -- ---- one digit
@@ -22,23 +25,6 @@ under lo hi b h = rw (lt-leb lo b h)
 
 pub beyond : (lo hi b : ℕ) → hi < b → within lo hi b ≡ false
 beyond lo hi b h = rw (lt-leb b hi h) (and-false (leb lo b))
-
-pub hex_decimal : (b : ℕ) → 0x30 ≤ b → b ≤ 0x39 → b - 0x30 ≡ hex_or b
-unfolding hex_or
-hex_decimal b l h = rw (inside 0x30 0x39 b l h)
-
-pub hex_upper : (b : ℕ) → 0x41 ≤ b → b ≤ 0x46 → b - 0x37 ≡ hex_or b
-unfolding hex_or
-hex_upper b l h = rw (beyond 0x30 0x39 b (omega arith), inside 0x41 0x46 b l h, lt-leb 0x61 b (omega arith))
-
-pub hex_lower : (b : ℕ) → 0x61 ≤ b → b ≤ 0x66 → b - 0x57 ≡ hex_or b
-unfolding hex_or
-hex_lower b l h = rw (beyond 0x30 0x39 b (omega arith), beyond 0x41 0x46 b (omega arith), inside 0x61 0x66 b l h, le-leb 0x61 b l)
-
--- a byte in none of the three ranges is no digit
-pub hex_none : (b : ℕ) → within 0x30 0x39 b ≡ false → within 0x41 0x46 b ≡ false → within 0x61 0x66 b ≡ false → 16 ≡ hex_or b
-unfolding hex_or
-hex_none b d u l = rw (d, u, l)
 
 -- the three ranges of a digit
 pub hex_ranges : (b : ℕ) → is_hex b ≡ true → ((0x30 ≤ b) × (b ≤ 0x39)) ⊎ (((0x41 ≤ b) × (b ≤ 0x46)) ⊎ ((0x61 ≤ b) × (b ≤ 0x66)))
@@ -64,22 +50,25 @@ hex_small b e = by (hex_ranges b e)
     by (inr (inl h)) = rw (beyond 0x30 0x39 b (omega arith), lt-leb 0x61 b (omega arith)) (omega arith)
     by (inr (inr h)) = rw (beyond 0x30 0x39 b (omega arith), le-leb 0x61 b h.0) (omega arith)
 
--- what the answer 16 tells, and any other
-pub hex_or_none : (b : ℕ) → hex_or b ≡ 16 → is_hex b ≡ false
-unfolding hex_or
-hex_or_none b e = by_test (is_hex b) (λ t. let h = hex_small b t in let v : hex_value b ≡ 16 = rw t at e in absurd (omega arith)) (λ f. f)
+-- a byte in none of the three ranges is no digit
+hex_none : (b : ℕ) → within 0x30 0x39 b ≡ false → within 0x41 0x46 b ≡ false → within 0x61 0x66 b ≡ false → is_hex b ≡ false
+hex_none b d u l = rw (d, u, l) refl
 
-pub hex_or_is : (b : ℕ) → (hex_or b ≡ 16 → ⊥) → is_hex b ≡ true
-unfolding hex_or
-hex_or_is b n = by_test (is_hex b) (λ t. t) (λ f. absurd (n (rw f)))
+-- the value that std gives a byte in any base up to 36 tells whether it is a hexadecimal digit, and which
+std_value : (b : ℕ) → is_hex b ≡ true → hex_value b ≡ digit_value b
+std_value b e = by (hex_ranges b e)
+  where
+    by : ((0x30 ≤ b) × (b ≤ 0x39)) ⊎ (((0x41 ≤ b) × (b ≤ 0x46)) ⊎ ((0x61 ≤ b) × (b ≤ 0x66))) → hex_value b ≡ digit_value b
+    by (inl h) = grind (arith, nat_tests)
+    by (inr (inl h)) = grind (arith, nat_tests)
+    by (inr (inr h)) = grind (arith, nat_tests)
 
-pub hex_or_value : (b : ℕ) → is_hex b ≡ true → hex_or b ≡ hex_value b
-unfolding hex_or
-hex_or_value b e = rw e
+std_none : (b : ℕ) → digit_value b < 16 → is_hex b ≡ true
+std_none b h = grind (arith, nat_tests)
 
-pub hex_or_most : (b : ℕ) → hex_or b ≤ 16
-unfolding hex_or
-hex_or_most b = by_test (is_hex b) (λ t. let h = hex_small b t in rw t (omega arith)) (λ f. rw f (omega arith))
+pub HexDigit-from_std : (b : ℕ) (o : Option ℕ) → SomeIff o (digit_value b < 16) (digit_value b) → HexDigit b o
+HexDigit-from_std b None h = by_test (is_hex b) (λ t. let e = std_value b t in let l = hex_small b t in absurd (h (omega arith))) (λ f. f)
+HexDigit-from_std b (Some v) h = let t = std_none b h.0 in (t, std_value b t ∙ sym h.1)
 
 -- ---- four digits
 
@@ -135,62 +124,37 @@ module _ (s : List ℕ) (at : ℕ) where
             n (rw (ea, eb, ec, ed) at (all_hex h.a h.b h.c h.d h.good));
       }
 
--- the four bytes from a place on, with the answers that the code has for them
-pub record Four (s : List ℕ) (at a b c d : ℕ) : Type 0 where
-  pub room : at + 4 ≤ length s
-  pub a_is : a ≡ hex_or (get_or s at 0)
-  pub b_is : b ≡ hex_or (get_or s (at + 1) 0)
-  pub c_is : c ≡ hex_or (get_or s (at + 2) 0)
-  pub d_is : d ≡ hex_or (get_or s (at + 3) 0)
+-- an answer for the byte at k
+module _ (s : List ℕ) (at : ℕ) (room : at + 4 ≤ length s) where
+  pub first_wrong : HexDigit (get_or s at 0) None → NoDigits s at
+  first_wrong f = digits_wrong s at room (λ x. true≢false (sym x.a_is ∙ f))
 
--- an answer of 16 is no digit's
-no_digit {ℓ} : {X : Type ℓ} (x b : ℕ) → x ≡ hex_or b → x ≡ 16 → is_hex b ≡ true → X
-no_digit x b e h t = absurd (true≢false (sym t ∙ hex_or_none b (sym e ∙ h)))
+  pub second_wrong : HexDigit (get_or s (at + 1) 0) None → NoDigits s at
+  second_wrong f = digits_wrong s at room (λ x. true≢false (sym x.b_is ∙ f))
 
-module _ (s : List ℕ) (at a b c d : ℕ) (f : Four s at a b c d) where
-  pub four_first : a ≡ 16 → NoDigits s at
-  four_first h = digits_wrong s at f.room (λ x. no_digit a (get_or s at 0) f.a_is h x.a_is)
+  pub third_wrong : HexDigit (get_or s (at + 2) 0) None → NoDigits s at
+  third_wrong f = digits_wrong s at room (λ x. true≢false (sym x.c_is ∙ f))
 
-  pub four_second : b ≡ 16 → NoDigits s at
-  four_second h = digits_wrong s at f.room (λ x. no_digit b (get_or s (at + 1) 0) f.b_is h x.b_is)
+  pub fourth_wrong : HexDigit (get_or s (at + 3) 0) None → NoDigits s at
+  fourth_wrong f = digits_wrong s at room (λ x. true≢false (sym x.d_is ∙ f))
 
-  pub four_third : c ≡ 16 → NoDigits s at
-  four_third h = digits_wrong s at f.room (λ x. no_digit c (get_or s (at + 2) 0) f.c_is h x.c_is)
+  -- the four bytes are digits of the number that they write
+  pub four_digits : (a b c d : ℕ) → HexDigit (get_or s at 0) (Some a) → HexDigit (get_or s (at + 1) 0) (Some b) → HexDigit (get_or s (at + 2) 0) (Some c) → HexDigit (get_or s (at + 3) 0) (Some d) → HasDigits s at (((a * 16 + b) * 16 + c) * 16 + d)
+  four_digits a b c d x y z w =
+      record {
+        digits =
+            record {
+              a = get_or s at 0;
+              b = get_or s (at + 1) 0;
+              c = get_or s (at + 2) 0;
+              d = get_or s (at + 3) 0;
+              good = hex_all (get_or s at 0) (get_or s (at + 1) 0) (get_or s (at + 2) 0) (get_or s (at + 3) 0) (record { a_is = x.0; b_is = y.0; c_is = z.0; d_is = w.0 });
+            };
+        is = here_four s at room;
+        value = rw (x.1, y.1, z.1, w.1);
+        to = room;
+      }
 
-  pub four_fourth : d ≡ 16 → NoDigits s at
-  four_fourth h = digits_wrong s at f.room (λ x. no_digit d (get_or s (at + 3) 0) f.d_is h x.d_is)
-
-  pub four_most : (a ≤ 16) × (b ≤ 16) × (c ≤ 16) × (d ≤ 16)
-  four_most = (
-    rw f.a_is (hex_or_most (get_or s at 0)),
-    rw f.b_is (hex_or_most (get_or s (at + 1) 0)),
-    rw f.c_is (hex_or_most (get_or s (at + 2) 0)),
-    rw f.d_is (hex_or_most (get_or s (at + 3) 0)),
-  )
-
--- an answer other than 16 is a digit's value
-is_digit : (x b : ℕ) → x ≡ hex_or b → (x ≡ 16 → ⊥) → (is_hex b ≡ true) × (hex_value b ≡ x)
-is_digit x b e n =
-    let t = hex_or_is b (λ h. n (e ∙ h)) in
-    (t, sym (e ∙ hex_or_value b t))
-
--- with no answer of 16, the four bytes are digits of the number that they write
-pub four_digits : (s : List ℕ) (at a b c d : ℕ) → Four s at a b c d → (a ≡ 16 → ⊥) → (b ≡ 16 → ⊥) → (c ≡ 16 → ⊥) → (d ≡ 16 → ⊥) → HasDigits s at (((a * 16 + b) * 16 + c) * 16 + d)
-four_digits s at a b c d f na nb nc nd =
-    let x = is_digit a (get_or s at 0) f.a_is na in
-    let y = is_digit b (get_or s (at + 1) 0) f.b_is nb in
-    let z = is_digit c (get_or s (at + 2) 0) f.c_is nc in
-    let w = is_digit d (get_or s (at + 3) 0) f.d_is nd in
-    record {
-      digits =
-          record {
-            a = get_or s at 0;
-            b = get_or s (at + 1) 0;
-            c = get_or s (at + 2) 0;
-            d = get_or s (at + 3) 0;
-            good = hex_all (get_or s at 0) (get_or s (at + 1) 0) (get_or s (at + 2) 0) (get_or s (at + 3) 0) (record { a_is = x.0; b_is = y.0; c_is = z.0; d_is = w.0 });
-          };
-      is = here_four s at f.room;
-      value = rw (x.1, y.1, z.1, w.1);
-      to = f.room;
-    }
+-- a digit's value is below 16
+pub digit_small : (b v : ℕ) → HexDigit b (Some v) → v < 16
+digit_small b v h = let l = hex_small b h.0 in let e = h.1 in omega arith

@@ -9,23 +9,25 @@ use Rattle.definition.specs.Lexical.{is_short, is_unescaped}
 use Rattle.definition.specs.Literals.{short_value}
 use Rattle.utf8_laws.specs.Bytes.{by_test, inside}
 use Rattle.utf8_laws.specs.Names.{unescaped_byte}
-use Rattle.text_quoted.specs.Pieces.{short_or}
+use Rattle.std.specs.Prelude.{Some, None}
+use Rattle.std.proofs.lemmas.Option.{cond_some, none-some}
+use Rattle.text_quoted.specs.Pieces.{short_code}
 use Rattle.text_quoted.proofs.Hexes.{under, beyond}
 
 -- a byte that is none of the letters
-pub short_none : (b : ℕ) → (b ≡ 0x62 → ⊥) → (b ≡ 0x66 → ⊥) → (b ≡ 0x6E → ⊥) → (b ≡ 0x72 → ⊥) → (b ≡ 0x74 → ⊥) → (b ≡ 0x2F → ⊥) → (b ≡ 0x5C → ⊥) → 0 ≡ short_or b
-unfolding short_or
+pub short_none : (b : ℕ) → (b ≡ 0x62 → ⊥) → (b ≡ 0x66 → ⊥) → (b ≡ 0x6E → ⊥) → (b ≡ 0x72 → ⊥) → (b ≡ 0x74 → ⊥) → (b ≡ 0x2F → ⊥) → (b ≡ 0x5C → ⊥) → None ≡ short_code b
+unfolding short_code
 short_none b n62 n66 n6E n72 n74 n2F n5C =
     rw (ne_eqb b 0x62 n62, ne_eqb b 0x66 n66, ne_eqb b 0x6E n6E, ne_eqb b 0x72 n72, ne_eqb b 0x74 n74, ne_eqb b 0x2F n2F, ne_eqb b 0x5C n5C)
 
 -- what the code's answer tells of a byte
-pub short_is : (b : ℕ) → (short_or b ≡ 0 → ⊥) → is_short b ≡ true
-unfolding short_or
-short_is b n = by_test (is_short b) (λ t. t) (λ f. absurd (n (rw f)))
+pub short_is : (b c : ℕ) → Some c ≡ short_code b → (is_short b ≡ true) × (short_value b ≡ c)
+unfolding short_code
+short_is b c e = cond_some (is_short b) (short_value b) c (sym e)
 
-pub short_value_lem : (b : ℕ) → is_short b ≡ true → short_or b ≡ short_value b
-unfolding short_or
-short_value_lem b t = rw t
+pub short_not : (b : ℕ) → None ≡ short_code b → is_short b ≡ false
+unfolding short_code
+short_not b e = by_test (is_short b) (λ t. absurd (none-some (short_value b) (rw t at e))) (λ f. f)
 
 -- no letter names the code point 0, and all of them name ASCII characters
 pub short_range : (b : ℕ) → is_short b ≡ true → (0 < short_value b) × (short_value b < 0x80)
@@ -49,10 +51,6 @@ letter_ascii b t =
     by_test (ltb b 0x80) (λ y. ltb-true b 0x80 y) (λ n.
     let l : 0x80 ≤ b = ltb-false b 0x80 n in
     absurd (true≢false (sym t ∙ rw (ne_eqb b 0x62 (λ e. omega arith), ne_eqb b 0x66 (λ e. omega arith), ne_eqb b 0x6E (λ e. omega arith), ne_eqb b 0x72 (λ e. omega arith), ne_eqb b 0x74 (λ e. omega arith), ne_eqb b 0x2F (λ e. omega arith), ne_eqb b 0x5C (λ e. omega arith)))))
-
-pub short_not : (b : ℕ) → short_or b ≡ 0 → is_short b ≡ false
-unfolding short_or
-short_not b e = by_test (is_short b) (λ t. let h = short_range b t in let z : short_value b ≡ 0 = rw t at e in absurd (omega arith)) (λ f. f)
 
 -- ---- plain bytes
 

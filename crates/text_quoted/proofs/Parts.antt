@@ -21,7 +21,8 @@ use Rattle.utf8_laws.specs.Names.{unescaped_byte, unescaped_scan}
 use Rattle.text_quoted.specs.Quoted.{Any, Stuck, Unescapes, Refuses}
 use Rattle.text_quoted.specs.Pieces.{Went, Fails, Turning, Copied, Encoded, HasEscape}
 use Rattle.text_quoted.specs.declared.Turn.{Turn}
-use Rattle.text_quoted.specs.declared.Turn.TheVariants.{On, End, Wrong}
+use Rattle.text_quoted.specs.declared.Turn.TheVariants.{On, End}
+use Rattle.std.specs.Prelude.{Result, Ok, Err}
 use Rattle.text_quoted.proofs.Chars.{own-not-slash, own-not-other, other_char, wrong_char}
 use Rattle.text_quoted.proofs.Letters.{single_left, double_left}
 use Rattle.text_quoted.proofs.Places.{wrote_kept}
@@ -63,10 +64,10 @@ module _ (q : Quote) (s : List ℕ) (at : ℕ) (p : List ℕ) (len : ℕ) (p1 : 
         to = b.to;
       }
 
-  pub turning_then : (p2 : List ℕ) (t : Turn) → Turning q s i p1 n p2 t → Turning q s at p len p2 t
-  turning_then p2 (On next end) b = let f = a.from in let g = b.0 in (omega arith, went_then p2 next end (drop next s) b.1)
-  turning_then p2 (End next end) b = let f = a.from in let g = b.0 in (omega arith, went_then p2 next end (own_byte q ∷ drop next s) b.1)
-  turning_then p2 (Wrong place) b = went_fails p2 place b
+  pub turning_then : (p2 : List ℕ) (t : Result Turn ℕ) → Turning q s i p1 n p2 t → Turning q s at p len p2 t
+  turning_then p2 (Ok (On u)) b = let f = a.from in let g = b.0 in (omega arith, went_then p2 u.next u.end (drop u.next s) b.1)
+  turning_then p2 (Ok (End u)) b = let f = a.from in let g = b.0 in (omega arith, went_then p2 u.next u.end (own_byte q ∷ drop u.next s) b.1)
+  turning_then p2 (Err place) b = went_fails p2 place b
 
   -- what was read leaves UTF-8
   pub went_sound : is_utf8 (drop at s) ≡ true → is_utf8 (drop i s) ≡ true

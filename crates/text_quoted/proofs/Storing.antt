@@ -1,9 +1,9 @@
 -- The bytes of a code point stored one by one, and a copy of plain bytes. Assumes nothing.
-use Prim.Native.Nat.{ℕ, ◌+◌, ◌/◌, ◌%◌, ◌≤◌, ◌<◌}
+use Prim.Native.Nat.{ℕ, suc, ◌+◌, ◌-◌, ◌/◌, ◌%◌, ◌≤◌, ◌<◌}
 use mathlib.Core.Path.{◌≡◌, refl, ◌∙◌}
 use mathlib.Core.List.{List, [], ◌∷◌}
 use mathlib.Core.Bool.{true, false}
-use native.Mathlib.Numerals.{add-one, towards_suc}
+use native.Mathlib.Numerals.{towards_suc}
 use native.Mathlib.Omega.{arith}
 use lib.ListN.{length, drop, get_or, set, length-set, drop_of_length-le}
 use lib.Seq.{sets}
@@ -45,32 +45,32 @@ module _ (p : List ℕ) (len c : ℕ) where
 
 -- ---- a copy of plain bytes
 
--- From `at` on, the plain bytes up to i are stored from `len` up to n: what is left to copy gives the whole copy.
-pub record Copying (s : List ℕ) (at : ℕ) (p : List ℕ) (len : ℕ) (q : List ℕ) (i n : ℕ) : Type 0 where
+-- From `at` on, the plain bytes up to i are stored from `len` on: what is left to copy gives the whole copy.
+pub record Copying (s : List ℕ) (at : ℕ) (p : List ℕ) (len : ℕ) (q : List ℕ) (i : ℕ) : Type 0 where
   pub from : at ≤ i
   pub to : i ≤ length s
-  pub place : n + at ≡ len + i
   pub rest : behind unescaped_byte (drop i s) ≡ behind unescaped_byte (drop at s)
-  pub left : sets q n (front unescaped_byte (drop i s)) ≡ sets p len (front unescaped_byte (drop at s))
+  pub left : sets q (len + (i - at)) (front unescaped_byte (drop i s)) ≡ sets p len (front unescaped_byte (drop at s))
   pub size : length q ≡ length p
 
-pub copying_start : (s : List ℕ) (at : ℕ) (p : List ℕ) (len : ℕ) → at ≤ length s → Copying s at p len p at len
-copying_start s at p len h = record { from = omega arith; to = h; place = refl; rest = refl; left = refl; size = refl }
+pub copying_start : (s : List ℕ) (at : ℕ) (p : List ℕ) (len : ℕ) → at ≤ length s → Copying s at p len p at
+copying_start s at p len h =
+    let e : len + (at - at) ≡ len = omega arith in
+    record { from = omega arith; to = h; rest = refl; left = rw e refl; size = refl }
 
-module _ (s : List ℕ) (at : ℕ) (p : List ℕ) (len : ℕ) (q : List ℕ) (i n : ℕ) (c : Copying s at p len q i n) where
+module _ (s : List ℕ) (at : ℕ) (p : List ℕ) (len : ℕ) (q : List ℕ) (i : ℕ) (c : Copying s at p len q i) where
   -- a plain byte is copied
-  pub copying_on : i < length s → unescaped_byte (get_or s i 0) ≡ true → Copying s at p len (set q n (get_or s i 0)) (i + 1) (n + 1)
+  pub copying_on : i < length s → unescaped_byte (get_or s i 0) ≡ true → Copying s at p len (set q (len + (i - at)) (get_or s i 0)) (i + 1)
   copying_on h t =
       let f = c.from in
-      let e = c.place in
       let one : front unescaped_byte (drop i s) ≡ get_or s i 0 ∷ front unescaped_byte (drop (i + 1) s) = rw (here s i h, t) in
+      let e : len + (i + 1 - at) ≡ suc (len + (i - at)) = omega arith in
       record {
         from = omega arith;
         to = omega arith;
-        place = omega arith;
         rest = behind_on unescaped_byte s i h t ∙ c.rest;
-        left = rw add-one (rw one at c.left);
-        size = length-set q n (get_or s i 0) ∙ c.size;
+        left = rw e (rw one at c.left);
+        size = length-set q (len + (i - at)) (get_or s i 0) ∙ c.size;
       }
 
   -- a byte that is not plain ends the copy
@@ -80,7 +80,9 @@ module _ (s : List ℕ) (at : ℕ) (p : List ℕ) (len : ℕ) (q : List ℕ) (i 
       record { from = c.from; to = c.to; rest = behind_stop unescaped_byte s i h t ∙ c.rest; wrote = record { is = rw none at c.left } }
 
   -- and so does the end of the text
-  pub copying_end : length s ≤ i → Copied s at p len q i
+  pub copying_end : length s ≤ i → Copied s at p len q (length s)
   copying_end h =
       let none : front unescaped_byte (drop i s) ≡ [] = rw (drop_of_length-le s h) in
-      record { from = c.from; to = c.to; rest = behind_end unescaped_byte s i h ∙ c.rest; wrote = record { is = rw none at c.left } }
+      let e : i ≡ length s = omega (arith, c.to) in
+      let f = c.from in
+      record { from = omega arith; to = omega arith; rest = rw (← e) (behind_end unescaped_byte s i h ∙ c.rest); wrote = record { is = rw none at c.left } }

@@ -1,5 +1,5 @@
 -- The words of the contracts of unescape_string's parts.
-use Rattle.std.specs.Prelude.{ℕ, ◌+◌, ◌≤◌, ◌<◌, ◌≡◌, List, ◌∷◌, ◌++◌, true, cond, length, drop}
+use Rattle.std.specs.Prelude.{ℕ, ◌+◌, ◌≤◌, ◌<◌, ◌≡◌, List, ◌∷◌, ◌++◌, true, false, cond, length, drop, Option, Some, None, Result, Ok, Err}
 use Rattle.definition.specs.Lexical.{Char, Escape, Hex4, Quote, own_byte, is_hex, hex_value, hex4_value, is_low, is_short, spell_hex4, spell_escape, spell_char, spell_chars}
 use Rattle.definition.specs.Literals.{short_value, escape_value, char_bytes, chars_bytes}
 use Rattle.definition.specs.Utf8.{encode}
@@ -8,17 +8,14 @@ use Rattle.utf8_laws.specs.Scan.{front, behind}
 use Rattle.utf8_laws.specs.Names.{unescaped_byte}
 use Rattle.text_quoted.specs.Quoted.{spell_closed, Any, Stuck}
 use Rattle.text_quoted.specs.declared.Turn.{Turn}
-use Rattle.text_quoted.specs.declared.Turn.TheVariants.{On, End, Wrong}
-use Rattle.text_quoted.specs.declared.digits.Hex.{Hex}
-use Rattle.text_quoted.specs.declared.digits.Hex.TheVariants as Hexes
-use Rattle.text_quoted.specs.declared.escapes.Point.{Point}
-use Rattle.text_quoted.specs.declared.escapes.Point.TheVariants as Points
+use Rattle.text_quoted.specs.declared.Turn.TheVariants.{On, End}
 
 -- ---- hexadecimal digits
 
--- a hexadecimal digit's value, or 16, which is none's
-unfoldable pub hex_or : ℕ → ℕ
-hex_or b = cond (is_hex b) (hex_value b) 16
+-- the value of a byte that is a hexadecimal digit
+abbrev pub HexDigit : ℕ → Option ℕ → Type 0
+HexDigit b (Some v) = (is_hex b ≡ true) × (hex_value b ≡ v)
+HexDigit b None = is_hex b ≡ false
 
 -- from `at` on, s has four hexadecimal digits of the value v
 pub record HasDigits (s : List ℕ) (at v : ℕ) : Type 0 where
@@ -31,9 +28,9 @@ pub record HasDigits (s : List ℕ) (at v : ℕ) : Type 0 where
 pub record NoDigits (s : List ℕ) (at : ℕ) : Type 0 where
   pub none : (h : Hex4) (r : List ℕ) → drop at s ≡ spell_hex4 h r → ⊥
 
-abbrev pub Digits : List ℕ → ℕ → Hex → Type 0
-Digits s at (Hexes.Value v) = HasDigits s at v
-Digits s at Hexes.Nothing = NoDigits s at
+abbrev pub Digits : List ℕ → ℕ → Option ℕ → Type 0
+Digits s at (Some v) = HasDigits s at v
+Digits s at None = NoDigits s at
 
 -- from `at` on, s has the escape of the low surrogate v
 pub record HasLow (s : List ℕ) (at v : ℕ) : Type 0 where
@@ -47,15 +44,15 @@ pub record HasLow (s : List ℕ) (at v : ℕ) : Type 0 where
 pub record NoLow (s : List ℕ) (at : ℕ) : Type 0 where
   pub none : (h : Hex4) (r : List ℕ) → is_low (hex4_value h) ≡ true → drop at s ≡ 0x5C ∷ 0x75 ∷ spell_hex4 h r → ⊥
 
-abbrev pub LowDigits : List ℕ → ℕ → Hex → Type 0
-LowDigits s at (Hexes.Value v) = HasLow s at v
-LowDigits s at Hexes.Nothing = NoLow s at
+abbrev pub LowDigits : List ℕ → ℕ → Option ℕ → Type 0
+LowDigits s at (Some v) = HasLow s at v
+LowDigits s at None = NoLow s at
 
 -- ---- escapes
 
--- the code point that a letter names, or 0, which none does
-unfoldable pub short_or : ℕ → ℕ
-short_or b = cond (is_short b) (short_value b) 0
+-- the code point that a letter names
+unfoldable pub short_code : ℕ → Option ℕ
+short_code b = cond (is_short b) (Some (short_value b)) None
 
 -- behind a backslash and u, s has from `at` to `next` what makes them the escape of the code point c
 pub record HasUnicode (s : List ℕ) (at c next : ℕ) : Type 0 where
@@ -66,9 +63,9 @@ pub record HasUnicode (s : List ℕ) (at c next : ℕ) : Type 0 where
   pub from : at < next
   pub to : next ≤ length s
 
-abbrev pub Unicode : List ℕ → ℕ → Point → Type 0
-Unicode s at (Points.At c next) = HasUnicode s at c next
-Unicode s at Points.Nothing = ReadsNone spell_escape Any (0x5C ∷ 0x75 ∷ drop at s)
+abbrev pub Unicode : List ℕ → ℕ → Option (ℕ × ℕ) → Type 0
+Unicode s at (Some p) = HasUnicode s at p.0 p.1
+Unicode s at None = ReadsNone spell_escape Any (0x5C ∷ 0x75 ∷ drop at s)
 
 -- behind a backslash, s has from `at` to `next` what makes it an escaped character, which stands for the code point c
 pub record HasEscape (q : Quote) (s : List ℕ) (at c next : ℕ) : Type 0 where
@@ -79,9 +76,9 @@ pub record HasEscape (q : Quote) (s : List ℕ) (at c next : ℕ) : Type 0 where
   pub from : at < next
   pub to : next ≤ length s
 
-abbrev pub Escaped : Quote → List ℕ → ℕ → Point → Type 0
-Escaped q s at (Points.At c next) = HasEscape q s at c next
-Escaped q s at Points.Nothing = ReadsNone (spell_char q) Any (0x5C ∷ drop at s)
+abbrev pub Escaped : Quote → List ℕ → ℕ → Option (ℕ × ℕ) → Type 0
+Escaped q s at (Some p) = HasEscape q s at p.0 p.1
+Escaped q s at None = ReadsNone (spell_char q) Any (0x5C ∷ drop at s)
 
 -- ---- what is written
 
@@ -127,7 +124,7 @@ pub record Fails (q : Quote) (s : List ℕ) (at : ℕ) (p : List ℕ) (len : ℕ
   pub to : place ≤ length s
 
 -- a part of the characters is read, or the last part and the closing quote, or no quoted text stands there
-abbrev pub Turning : Quote → List ℕ → ℕ → List ℕ → ℕ → List ℕ → Turn → Type 0
-Turning q s at p len p' (On next end) = (at < next) × Went q s at p len p' next end (drop next s)
-Turning q s at p len p' (End next end) = (at < next) × Went q s at p len p' next end (own_byte q ∷ drop next s)
-Turning q s at p len p' (Wrong place) = Fails q s at p len p' place
+abbrev pub Turning : Quote → List ℕ → ℕ → List ℕ → ℕ → List ℕ → Result Turn ℕ → Type 0
+Turning q s at p len p' (Ok (On u)) = (at < u.next) × Went q s at p len p' u.next u.end (drop u.next s)
+Turning q s at p len p' (Ok (End u)) = (at < u.next) × Went q s at p len p' u.next u.end (own_byte q ∷ drop u.next s)
+Turning q s at p len p' (Err place) = Fails q s at p len p' place

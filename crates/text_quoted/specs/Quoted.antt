@@ -1,12 +1,11 @@
 -- The words of unescape_string's contract.
-use Rattle.std.specs.Prelude.{ℕ, ◌+◌, ◌-◌, ◌≤◌, ◌<◌, ◌≡◌, List, ◌∷◌, true, cond, eqb, length, take, drop}
+use Rattle.std.specs.Prelude.{ℕ, ◌+◌, ◌-◌, ◌≤◌, ◌<◌, ◌≡◌, List, ◌∷◌, true, cond, eqb, length, take, drop, Result, Ok, Err}
 use Rattle.definition.specs.Lexical.{Char, Quote, own_byte, spell_char, spell_chars}
 use Rattle.definition.specs.Lexical.Quote.{double, single}
 use Rattle.definition.specs.Literals.{chars_bytes}
 use Rattle.definition.specs.Utf8.{is_utf8}
 use Rattle.basics.specs.Reads.{Reads, ReadsNone, Wrote}
 use Rattle.text_quoted.specs.declared.Unescaped.{Unescaped}
-use Rattle.text_quoted.specs.declared.Unescaped.TheVariants.{Done, Bad}
 
 -- the kind of quoted text that a quote begins: a double quote, or any other byte taken for a single one
 unfoldable pub quote_of : ℕ → Quote
@@ -58,6 +57,6 @@ pub record Refuses (q : Quote) (s : List ℕ) (at : ℕ) (p : List ℕ) (len : �
   pub to : place ≤ length s
 
 -- the answer of unescape_string
-abbrev pub Unescaping : Quote → List ℕ → ℕ → List ℕ → ℕ → List ℕ → Unescaped → Type 0
-Unescaping q s at p len p' (Done next end) = Unescapes q s at p len p' next end
-Unescaping q s at p len p' (Bad place) = Refuses q s at p len p' place
+abbrev pub Unescaping : Quote → List ℕ → ℕ → List ℕ → ℕ → List ℕ → Result Unescaped ℕ → Type 0
+Unescaping q s at p len p' (Ok u) = Unescapes q s at p len p' u.next u.end
+Unescaping q s at p len p' (Err place) = Refuses q s at p len p' place

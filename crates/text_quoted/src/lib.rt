@@ -19,54 +19,50 @@ ghost use Rattle.utf8_laws.specs.Names.{unescaped_byte};
 ghost use Rattle.text_quoted.specs.Quoted.{quote_of, Opened, Unescaping};
 ghost use Rattle.text_quoted.specs.Pieces.{Turning};
 
-use escapes::Point;
-
-// The place behind the closing quote with the place behind the last byte written, or the place where the text is no quoted text.
+// The place behind what is read, with the place behind the last byte written.
 #[derive(Clone, Copy)]
-pub enum Unescaped {
-    Done(usize, usize),
-    Bad(usize),
+pub struct Unescaped {
+    pub next: usize,
+    pub end: usize,
 }
 
-// The same for a part of the text: it goes on, its closing quote is passed, or it is wrong.
+// Behind a part of the text: it goes on, or its closing quote is passed.
 #[derive(Clone, Copy)]
 enum Turn {
-    On(usize, usize),
-    End(usize, usize),
-    Wrong(usize),
+    On(Unescaped),
+    End(Unescaped),
 }
 
-// Reads the byte at which a run of plain bytes has ended: a quote, a backslash with what it escapes, or a wrong byte.
-fn special(s: &[u8], at: usize, quote: u8, out: &mut [u8], len: usize) -> Turn
+// Reads the byte at which a run of plain bytes has ended: a quote, a backslash with what it escapes, or a wrong byte, whose place is the error.
+fn special(s: &[u8], at: usize, quote: u8, out: &mut [u8], len: usize) -> Result<Turn, usize>
     requires { (own_byte (quote_of quote) ≡ quote) × StartsNot unescaped_byte (drop at s.now) × (at ≤ length s.now) × (len + (length s.now - at) ≤ length out.old) }
     ensures { Turning (quote_of quote) s.now at out.old len out.new result }
 {
     if at >= s.len() {
-        return Turn::Wrong(at);
+        return Err(at);
     }
     let b = s[at];
-    let behind = at + 1;
+    let next = at + 1;
     if b == quote {
-        return Turn::End(behind, len);
+        return Ok(Turn::End(Unescaped { next, end: len }));
     }
     if b == b'\\' {
-        let Point::At(c, next) = escapes::escape(s, behind, quote) else {
-            return Turn::Wrong(at);
+        let Some((c, next)) = escapes::escape(s, next, quote) else {
+            return Err(at);
         };
         let end = writing::put_point(out, len, c);
-        return Turn::On(next, end);
+        return Ok(Turn::On(Unescaped { next, end }));
     }
     if b < 0x20 {
-        return Turn::Wrong(at);
+        return Err(at);
     }
     // no plain byte, so only the other quote is left
     out[len] = b;
-    let end = len + 1;
-    Turn::On(behind, end)
+    Ok(Turn::On(Unescaped { next, end: len + 1 }))
 }
 
 // Copies a run of plain bytes, and reads what ends it.
-fn read_part(s: &[u8], at: usize, quote: u8, out: &mut [u8], len: usize) -> Turn
+fn read_part(s: &[u8], at: usize, quote: u8, out: &mut [u8], len: usize) -> Result<Turn, usize>
     requires { Opened quote s.now at out.old len }
     ensures { Turning (quote_of quote) s.now at out.old len out.new result }
 {
@@ -75,21 +71,22 @@ fn read_part(s: &[u8], at: usize, quote: u8, out: &mut [u8], len: usize) -> Turn
 }
 
 // Reads the characters of a quoted text from `at`, which stands right behind the opening quote, up to the closing quote, and writes the
-// bytes that they stand for into out from `len` on.
-pub fn unescape_string(s: &[u8], at: usize, quote: u8, out: &mut [u8], len: usize) -> Unescaped
+// bytes that they stand for into out from `len` on. The error is the place where the text is no quoted text.
+pub fn unescape_string(
+    s: &[u8],
+    at: usize,
+    quote: u8,
+    out: &mut [u8],
+    len: usize,
+) -> Result<Unescaped, usize>
     requires { Opened quote s.now at out.old len }
     ensures { Unescaping (quote_of quote) s.now at out.old len out.new result }
 {
-    let mut i = at;
-    let mut n = len;
+    let mut so_far = Unescaped { next: at, end: len };
     loop {
-        match read_part(s, i, quote, out, n) {
-            Turn::On(next, end) => {
-                i = next;
-                n = end;
-            }
-            Turn::End(next, end) => return Unescaped::Done(next, end),
-            Turn::Wrong(place) => return Unescaped::Bad(place),
+        match read_part(s, so_far.next, quote, out, so_far.end)? {
+            Turn::On(part) => so_far = part,
+            Turn::End(part) => return Ok(part),
         }
     }
 }

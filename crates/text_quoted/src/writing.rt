@@ -29,18 +29,14 @@ pub fn copy_plain(s: &[u8], at: usize, out: &mut [u8], len: usize) -> usize
     requires { (at ≤ length s.now) × (len + (length s.now - at) ≤ length out.old) }
     ensures { Copied s.now at out.old len out.new result }
 {
-    let mut i = at;
-    let mut n = len;
-    while i < s.len() {
+    for i in at..s.len() {
         let b = s[i];
         if !is_plain(b) {
             return i;
         }
-        out[n] = b;
-        n += 1;
-        i += 1;
+        out[len + (i - at)] = b;
     }
-    i
+    s.len()
 }
 
 // Writes the bytes of a code point, and answers the place behind them.

@@ -15,11 +15,8 @@ use text_quoted::Unescaped;
 
 // Writes bytes in hexadecimal.
 fn print_bytes(rt: &impl Print, s: &[u8]) -> io::Result<()> {
-    let mut i = 0;
-    while i < s.len() {
-        let b = s[i];
+    for b in s {
         print!(rt; "{b:02x}")?;
-        i += 1;
     }
     Ok(())
 }
@@ -44,11 +41,8 @@ fn show(rt: &impl Print, quote: u8, s: &[u8], out: &mut [u8]) -> io::Result<()>
     requires { (own_byte (quote_of quote) ≡ quote) × (is_utf8 s.now ≡ true) × (length s.now ≤ length out.old) }
 {
     match text_quoted::unescape_string(s, 0, quote, out, 0) {
-        Unescaped::Done(next, end) => {
-            let left = s.len() - next;
-            print_done(rt, &out[..end], left)
-        }
-        Unescaped::Bad(place) => print_bad(rt, place),
+        Ok(Unescaped { next, end }) => print_done(rt, &out[..end], s.len() - next),
+        Err(place) => print_bad(rt, place),
     }
 }
 

@@ -1,5 +1,4 @@
 -- `text_quoted::read_part` meets its contract. The run, and what ends it.
-use borrow.Author.Rules.{rules}
 use Prim.Native.Nat.{◌+◌, ◌-◌}
 use lib.ListN.{drop}
 use Rattle.utf8_laws.specs.Names.{unescaped_byte}

@@ -1,6 +1,5 @@
 -- `text_quoted::special` meets its contract. The byte decides: the end, the closing quote, an escape, a control character, or the other quote.
 use native.Mathlib.Omega.{arith}
-use borrow.Author.Rules.{rules}
 use mathlib.Core.Path.{◌∙◌, sym}
 use Rattle.text_quoted.specs.Quoted.{quote_of}
 use Rattle.text_quoted.proofs.Parts.{special_end, special_own, special_no_escape, escape_room, special_escape, special_control, special_other}
@@ -17,13 +16,13 @@ returns-in_default c = special_no_escape (quote_of c.args.quote) c.args.s.now c.
 
 pub put_point-end-requires : goal.put_point-end-requires
 put_point-end-requires c =
-    let e = rw c.in-At.is at c.escape.ensures in
-    (e.most, escape_room (quote_of c.args.quote) c.args.s.now c.args.at c.args.out.now c.args.len c.if-at-s.false c.in-At.c c.in-At.next e c.requires.3)
+    let e = rw c.in-Some.is at c.escape.ensures in
+    (e.most, escape_room (quote_of c.args.quote) c.args.s.now c.args.at c.args.out.now c.args.len c.if-at-s.false c.in-Some.c c.in-Some.next e c.requires.3)
 
 pub returns-then-b-eq92 : goal.returns-then-b-eq92
 returns-then-b-eq92 c =
-    let e = rw c.in-At.is at c.escape.ensures in
-    special_escape (quote_of c.args.quote) c.args.s.now c.args.at c.args.out.now c.args.len c.if-at-s.false c.in-At.c c.in-At.next c.put_point-end.result c.put_point-end.new.out c.if-b-eq92.true e c.put_point-end.ensures
+    let e = rw c.in-Some.is at c.escape.ensures in
+    special_escape (quote_of c.args.quote) c.args.s.now c.args.at c.args.out.now c.args.len c.if-at-s.false c.in-Some.c c.in-Some.next c.put_point-end.result c.put_point-end.new.out c.if-b-eq92.true e c.put_point-end.ensures
 
 pub returns-then-b-lt32 : goal.returns-then-b-lt32
 returns-then-b-lt32 c = special_control (quote_of c.args.quote) c.args.s.now c.args.at c.args.out.now c.args.len c.if-at-s.false c.requires.1 (omega arith)

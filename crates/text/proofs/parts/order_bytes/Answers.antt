@@ -1,32 +1,18 @@
--- `text::parts::order_bytes` meets its contract. The loop's invariant: what is left of the two texts stands as the whole texts do.
--- The measure is what is left of the first.
+-- `text::parts::order_bytes` meets its contract: std's order of what is left of the two texts, which stands as the whole texts do.
 use borrow.Author.Rules.{rules}
-use native.Mathlib.Omega.{arith}
-use mathlib.Core.Path.{◌≡◌, sym, ap, ◌∙◌}
-use Prim.Native.Nat.{◌≤◌, ◌-◌}
-use lib.ListN.{length, drop}
-use Rattle.definition.specs.Bytes.{order_bytes}
+use mathlib.Core.Path.{◌≡◌, refl, sym, ap, ◌∙◌}
+use lib.ListN.{drop}
+use Rattle.std.proofs.lemmas.List.{take_rest}
+use Rattle.std.specs.Cmp.Lexicographic.{slice_cmp}
+use Rattle.std.specs.Ordering.{nat_cmp}
 use Rattle.text.specs.Orders.{answer}
-use Rattle.text.proofs.Orders.{order_lower, order_higher, order_on, order_longer, order_shorter, order_ends}
+use Rattle.text.proofs.Orders.{slice_cmp-order}
 use Rattle.text.proofs.parts.order_bytes.Goals as goal
 
-pub loop-i-init : goal.loop-i-init
-loop-i-init c = (c.same_front-i.ensures.first, c.same_front-i.ensures.second, c.same_front-i.ensures.rest)
-
-pub returns-then-b-i : goal.returns-then-b-i
-returns-then-b-i c = sym (ap answer (c.loop-i.invariant.2 ∙ order_longer c.args.a.now c.args.b.now c.loop-i.i (omega arith) (omega arith)))
-
-pub returns-then-x-y : goal.returns-then-x-y
-returns-then-x-y c = sym (ap answer (c.loop-i.invariant.2 ∙ order_lower c.args.a.now c.args.b.now c.loop-i.i (omega arith) (omega arith) c.if-x-y.true))
-
-pub returns-then-y-x : goal.returns-then-y-x
-returns-then-y-x c = sym (ap answer (c.loop-i.invariant.2 ∙ order_higher c.args.a.now c.args.b.now c.loop-i.i (omega arith) (omega arith) c.if-y-x.true))
-
-pub loop-i-preserved : goal.loop-i-preserved
-loop-i-preserved c = (omega arith, omega arith, c.loop-i.invariant.2 ∙ order_on c.args.a.now c.args.b.now c.loop-i.i (omega arith) (omega arith) (omega arith))
-
-pub returns-then-i-b : goal.returns-then-i-b
-returns-then-i-b c = sym (ap answer (c.loop-i.invariant.2 ∙ order_shorter c.args.a.now c.args.b.now c.loop-i.i (omega arith) (omega arith)))
-
-pub returns-else-i-b : goal.returns-else-i-b
-returns-else-i-b c = sym (ap answer (c.loop-i.invariant.2 ∙ order_ends c.args.a.now c.args.b.now c.loop-i.i (omega arith) (omega arith)))
+pub returns : goal.returns
+returns c =
+    let a = c.args.a.now in
+    let b = c.args.b.now in
+    let i = c.same_front-i.result in
+    let e : c.cmp.result ≡ slice_cmp nat_cmp (drop i a) (drop i b) = c.cmp.ensures ∙ rw (take_rest a i, take_rest b i) refl in
+    e ∙ slice_cmp-order (drop i a) (drop i b) ∙ sym (ap answer c.same_front-i.ensures.rest)

@@ -1,75 +1,34 @@
 -- `text_quoted::digits::hex4` meets its contract. The four answers decide.
 use native.Mathlib.Omega.{arith}
-use borrow.Author.Rules.{rules}
-use Rattle.text_quoted.proofs.Hexes.{Four, digits_short, four_first, four_second, four_third, four_fourth, four_most, four_digits}
+use Prim.Native.Nat.{◌+◌}
+use lib.ListN.{get_or}
+use Rattle.text_quoted.proofs.Hexes.{digits_short, first_wrong, second_wrong, third_wrong, fourth_wrong, four_digits, digit_small}
 use Rattle.text_quoted.proofs.digits.hex4.Goals as goal
 
 pub returns-then-s-at-lt4 : goal.returns-then-s-at-lt4
 returns-then-s-at-lt4 c = digits_short c.args.s.now c.args.at c.if-s-at-lt4.true
 
-pub returns-then-a-eq-NO_DIGIT : goal.returns-then-a-eq-NO_DIGIT
-returns-then-a-eq-NO_DIGIT c =
-    let four : Four c.args.s.now c.args.at c.hex_value-a.result c.hex_value-b.result c.hex_value-c.result c.hex_value-d.result = record {
-      room = omega arith;
-      a_is = c.hex_value-a.ensures;
-      b_is = c.hex_value-b.ensures;
-      c_is = c.hex_value-c.ensures;
-      d_is = c.hex_value-d.ensures;
-    } in
-    four_first _ _ _ _ _ _ four c.if-a-eq-NO_DIGIT.true
+pub returns-in_err-a : goal.returns-in_err-a
+returns-in_err-a c = rw c.from_residual.ensures (first_wrong c.args.s.now c.args.at (omega arith) c.in_err-a.ensures)
 
-pub returns-then-b-eq-NO_DIGIT : goal.returns-then-b-eq-NO_DIGIT
-returns-then-b-eq-NO_DIGIT c =
-    let four : Four c.args.s.now c.args.at c.hex_value-a.result c.hex_value-b.result c.hex_value-c.result c.hex_value-d.result = record {
-      room = omega arith;
-      a_is = c.hex_value-a.ensures;
-      b_is = c.hex_value-b.ensures;
-      c_is = c.hex_value-c.ensures;
-      d_is = c.hex_value-d.ensures;
-    } in
-    four_second _ _ _ _ _ _ four c.if-b-eq-NO_DIGIT.true
+pub returns-in_err-b : goal.returns-in_err-b
+returns-in_err-b c = rw c.from_residual-in_err-b.ensures (second_wrong c.args.s.now c.args.at (omega arith) c.in_err-b.ensures)
 
-pub returns-then-c-eq-NO_DIGIT : goal.returns-then-c-eq-NO_DIGIT
-returns-then-c-eq-NO_DIGIT c =
-    let four : Four c.args.s.now c.args.at c.hex_value-a.result c.hex_value-b.result c.hex_value-c.result c.hex_value-d.result = record {
-      room = omega arith;
-      a_is = c.hex_value-a.ensures;
-      b_is = c.hex_value-b.ensures;
-      c_is = c.hex_value-c.ensures;
-      d_is = c.hex_value-d.ensures;
-    } in
-    four_third _ _ _ _ _ _ four c.if-c-eq-NO_DIGIT.true
+pub returns-in_err-c : goal.returns-in_err-c
+returns-in_err-c c = rw c.from_residual-in_err-c.ensures (third_wrong c.args.s.now c.args.at (omega arith) c.in_err-c.ensures)
 
-pub returns-then-d-eq-NO_DIGIT : goal.returns-then-d-eq-NO_DIGIT
-returns-then-d-eq-NO_DIGIT c =
-    let four : Four c.args.s.now c.args.at c.hex_value-a.result c.hex_value-b.result c.hex_value-c.result c.hex_value-d.result = record {
-      room = omega arith;
-      a_is = c.hex_value-a.ensures;
-      b_is = c.hex_value-b.ensures;
-      c_is = c.hex_value-c.ensures;
-      d_is = c.hex_value-d.ensures;
-    } in
-    four_fourth _ _ _ _ _ _ four c.if-d-eq-NO_DIGIT.true
+pub returns-in_err-d : goal.returns-in_err-d
+returns-in_err-d c = rw c.from_residual-in_err-d.ensures (fourth_wrong c.args.s.now c.args.at (omega arith) c.in_err-d.ensures)
 
 pub joined-requires : goal.joined-requires
 joined-requires c =
-    let four : Four c.args.s.now c.args.at c.hex_value-a.result c.hex_value-b.result c.hex_value-c.result c.hex_value-d.result = record {
-      room = omega arith;
-      a_is = c.hex_value-a.ensures;
-      b_is = c.hex_value-b.ensures;
-      c_is = c.hex_value-c.ensures;
-      d_is = c.hex_value-d.ensures;
-    } in
-    four_most _ _ _ _ _ _ four
+    let s = c.args.s.now in
+    let at = c.args.at in (
+      digit_small (get_or s at 0) c.in_ok-a.a c.in_ok-a.ensures,
+      digit_small (get_or s (at + 1) 0) c.in_ok-b.b c.in_ok-b.ensures,
+      digit_small (get_or s (at + 2) 0) c.in_ok-c.c c.in_ok-c.ensures,
+      digit_small (get_or s (at + 3) 0) c.in_ok-d.d c.in_ok-d.ensures,
+    )
 
 pub returns : goal.returns
-returns c =
-    let four : Four c.args.s.now c.args.at c.hex_value-a.result c.hex_value-b.result c.hex_value-c.result c.hex_value-d.result = record {
-      room = omega arith;
-      a_is = c.hex_value-a.ensures;
-      b_is = c.hex_value-b.ensures;
-      c_is = c.hex_value-c.ensures;
-      d_is = c.hex_value-d.ensures;
-    } in
-    rw c.joined.ensures
-    (four_digits _ _ _ _ _ _ four c.if-a-eq-NO_DIGIT.false c.if-b-eq-NO_DIGIT.false c.if-c-eq-NO_DIGIT.false c.if-d-eq-NO_DIGIT.false)
+returns c = rw c.joined.ensures (four_digits c.args.s.now c.args.at (omega arith) c.in_ok-a.a c.in_ok-b.b c.in_ok-c.c c.in_ok-d.d c.in_ok-a.ensures c.in_ok-b.ensures c.in_ok-c.ensures c.in_ok-d.ensures)

@@ -1,6 +1,5 @@
 -- `text_quoted::writing::put_point` meets its contract. The size of the code point decides, and each byte has room.
 use native.Mathlib.Omega.{arith}
-use borrow.Author.Rules.{rules}
 use lib.ListN.{length-set}
 use Rattle.text_quoted.proofs.Storing.{size_one, size_two, size_three, size_four, stored_one, stored_two, stored_three, stored_four}
 use Rattle.text_quoted.proofs.writing.put_point.Goals as goal
