@@ -3,6 +3,7 @@ use mathlib.Core.Path.{◌≡◌, refl, sym, ap, subst, ◌∙◌}
 use mathlib.Core.Bool.{Bool, true, false, cond, not, ◌&&◌}
 use mathlib.Core.List.{List, [], ◌∷◌, ◌++◌}
 use mathlib.Core.Logic.{◌≢◌}
+use Rattle.std.specs.Prelude.{Ok, Err}
 use Prim.Native.Nat.{ℕ, zero, suc, ◌+◌, ◌%◌, ◌≤◌, ◌<◌}
 use native.Mathlib.Nat.{zero-add}
 use native.Mathlib.Omega.{arith}
@@ -40,11 +41,11 @@ use Rattle.parser_items.specs.declared.Cursor.{Cursor}
 use Rattle.parser_items.specs.declared.Step.{Step}
 use Rattle.parser_items.specs.declared.Step.TheVariants as step
 use Rattle.compile_unique.specs.Readings.{OneReading, OneCompile, none_only, tree_only, early_only, compiles_only}
-use Rattle.compile.specs.Outcomes.{outcome, number_of}
-use Rattle.compile.specs.Steps.{Enough, Rooms, Parsed, ParsePost, whole, none, refusal_of, verdict_of}
-use Rattle.compile.specs.declared.Compiled.TheVariants as compiled
+use Rattle.compile.specs.Outcomes.{outcome, number_of, QueryNumber}
+use Rattle.compile.specs.Steps.{Enough, Sizes, Rooms, Parsed, ParsePost, whole, none, refusal_of, verdict_of}
+use Rattle.compile.specs.declared.CompileRefusal.TheVariants as why
 use Rattle.compile.specs.declared.Refusal.{Refusal}
-use Rattle.compile.specs.declared.Refusal.TheVariants.{Malformed}
+use Rattle.compile.specs.declared.Refusal.TheVariants.{TooLong, NotUtf8, TooDeep, Malformed, Mistyped, UnknownFunction, BeyondRange}
 
 -- ---- lists
 
@@ -100,29 +101,25 @@ module _ (s : List ℕ) where
 
 -- ---- the numbers of a query's refusals
 
--- 1 to 8, of which 7 is given to none
-abbrev pub QueryNumber : ℕ → Type 0
-QueryNumber n = (0 < n) × (n < 9) × (n ≡ 7 → ⊥)
-
-early_number : (a b c : Bool) → (◌≡◌ {A = ℕ} (cond a 1 (cond (not b) 2 (cond c 3 0))) 0 → ⊥) → QueryNumber (cond a 1 (cond (not b) 2 (cond c 3 0)))
-early_number true b c h = (omega arith, omega arith, λ e. omega arith)
-early_number false false c h = (omega arith, omega arith, λ e. omega arith)
-early_number false true true h = (omega arith, omega arith, λ e. omega arith)
-early_number false true false h = absurd (h refl)
-
-pub numbered_early : (s : List ℕ) {n : ℕ} → n ≡ early s → (n ≡ 0 → ⊥) → QueryNumber n
-unfolding early
-numbered_early s {n} e h = subst QueryNumber (sym e) (early_number (ltb max_query (length s)) (is_utf8 s) (too_deep s) (λ z. h (e ∙ z)))
+-- 0 stands for none
+pub number_positive : (w : Refusal) → number_of w ≢ 0
+number_positive TooLong e = omega arith
+number_positive NotUtf8 e = omega arith
+number_positive TooDeep e = omega arith
+number_positive Malformed e = omega arith
+number_positive Mistyped e = omega arith
+number_positive UnknownFunction e = omega arith
+number_positive BeyondRange e = omega arith
 
 walk_number : {n : ℕ} → WalkNumber n → QueryNumber n
-walk_number four = (omega arith, omega arith, λ e. omega arith)
-walk_number five = (omega arith, omega arith, λ e. omega arith)
-walk_number six = (omega arith, omega arith, λ e. omega arith)
+walk_number four = (omega arith, λ e. omega arith)
+walk_number five = (omega arith, λ e. omega arith)
+walk_number six = (omega arith, λ e. omega arith)
 
 judge_number : (w : Walked Query) (n : ℕ) → Keeps w → judge w ≡ refused n → QueryNumber n
 unfolding judge
 judge_number (Walked.refused m) n k e = let f : m ≡ n = cc in subst QueryNumber f (walk_number k)
-judge_number (walked true q) n k e = let f : 8 ≡ n = cc in (omega arith, omega arith, λ z. omega arith)
+judge_number (walked true q) n k e = let f : 8 ≡ n = cc in (omega arith, λ z. omega arith)
 judge_number (walked false q) n k e = let z : ◌≡◌ {A = ℕ} 0 1 = cc in absurd (omega (arith, z))
 
 -- ---- the whole query
@@ -232,21 +229,25 @@ module _ {s P' L' : List ℕ} {b : Cursor} (p : Parsed s P' L' b) where
       eight : ◌≡◌ {A = ℕ} 8 0 → ⊥
       eight x = omega arith
 
-  pub numbered : {n : ℕ} → n ≡ verdict_of b → (n ≡ 0 → ⊥) → QueryNumber n
-  numbered {n} e k = judge_number (walk p.tree) n (walk_keeps p.tree) (judged (λ z. k (e ∙ z)) ∙ ap refused (sym e))
+  pub numbered : QueryNumber (verdict_of b)
+  numbered =
+      by_test (eqb (verdict_of b) 0)
+      (λ z. subst QueryNumber (sym (eqb-true (verdict_of b) 0 z)) (omega arith, λ e. omega arith))
+      (λ f. judge_number (walk p.tree) (verdict_of b) (walk_keeps p.tree) (judged (eqb-false (verdict_of b) 0 f)))
 
   -- ---- the outcome
 
-  pub outcome_refused : {P L : List ℕ} {n : ℕ} (w : Refusal) → early s ≡ 0 → n ≡ verdict_of b → (n ≡ 0 → ⊥) → number_of w ≡ n → OneCompile s P L (outcome (compiled.Refused w) P L)
+  pub outcome_refused : {P L : List ℕ} (w : Refusal) → early s ≡ 0 → (QueryNumber (verdict_of b) → number_of w ≡ verdict_of b) → OneCompile s P L (outcome (Err (why.Query w)) P L)
   unfolding compile_by
-  outcome_refused {P} {L} {n} w h e k g =
-      let j : judge (walk p.tree) ≡ refused (number_of w) = judged (λ z. k (e ∙ z)) ∙ ap refused (sym e ∙ sym g) in
+  outcome_refused {P} {L} w h k =
+      let g : number_of w ≡ verdict_of b = k numbered in
+      let j : judge (walk p.tree) ≡ refused (number_of w) = judged (λ z. number_positive w (g ∙ z)) ∙ ap refused (sym g) in
       compiles_only (subst (OneReading s) j (reading h)) refl
 
-  pub outcome_form : {P L : List ℕ} {n : ℕ} {o : CompileOutcome} → early s ≡ 0 → n ≡ verdict_of b → n ≡ 0 → o ≡ write (leb b.len (length P) && leb b.pool (length L)) (take b.len P') (take b.pool L') P L → OneCompile s P L o
+  pub outcome_form : {P L : List ℕ} {o : CompileOutcome} → early s ≡ 0 → (QueryNumber (verdict_of b) → 0 ≡ verdict_of b) → o ≡ write (leb b.len (length P) && leb b.pool (length L)) (take b.len P') (take b.pool L') P L → OneCompile s P L o
   unfolding compile_by
-  outcome_form {P} {L} {n} {o} h e z w =
-      let f = formed (sym e ∙ z) in
+  outcome_form {P} {L} {o} h k w =
+      let f = formed (sym (k numbered)) in
       let x : take b.len P' ≡ plan_of f.query = p.plan ∙ sym f.plan in
       let y : take b.pool L' ≡ pool_of f.query = p.pool ∙ sym f.pool in
       let l : b.len ≡ length (plan_of f.query) = sym (short P' b.len p.len) ∙ ap length x in
@@ -254,14 +255,14 @@ module _ {s P' L' : List ℕ} {b : Cursor} (p : Parsed s P' L' b) where
       compiles_only (subst (OneReading s) f.is (reading h)) (w ∙ (λ i. write (leb (l i) (length P) && leb (m i) (length L)) (x i) (y i) P L))
 
 -- no tree
-pub outcome_none : {s P L : List ℕ} → early s ≡ 0 → ((t : G.Query) → spell t ≡ s → ⊥) → OneCompile s P L (outcome (compiled.Refused Malformed) P L)
+pub outcome_none : {s P L : List ℕ} → early s ≡ 0 → ((t : G.Query) → spell t ≡ s → ⊥) → OneCompile s P L (outcome (Err (why.Query Malformed)) P L)
 unfolding compile_by
 outcome_none h f = compiles_only (none_only h f) refl
 
 -- a refusal before the grammar
-pub outcome_early : {s P L : List ℕ} {n : ℕ} (w : Refusal) → n ≡ early s → (n ≡ 0 → ⊥) → number_of w ≡ n → OneCompile s P L (outcome (compiled.Refused w) P L)
+pub outcome_early : {s P L : List ℕ} (w : Refusal) → number_of w ≡ early s → OneCompile s P L (outcome (Err (why.Query w)) P L)
 unfolding compile_by
-outcome_early {s} {P} {L} w e k g = compiles_only (early_only (λ z. k (e ∙ z))) (ap (λ (m : ℕ). record { refusal = m; plan_length = 0; pool_length = 0; plan_room = P; pool_room = L }) (g ∙ e))
+outcome_early {s} {P} {L} w e = compiles_only (early_only (λ z. number_positive w (e ∙ z))) (ap (λ (m : ℕ). record { refusal = m; plan_length = 0; pool_length = 0; plan_room = P; pool_room = L }) e)
 
 -- ---- from the answer of parse
 
@@ -280,21 +281,21 @@ none_of {s} {P} {P'} {L} {L'} h i e = go (rw e at h)
 -- ---- delivery
 
 module _ (A B P L : List ℕ) {n m : ℕ} (h : n ≤ length A) (k : m ≤ length B) where
-  too_small : (leb n (length P) && leb m (length L)) ≡ false → outcome (compiled.SmallRoom n m) P L ≡ write (leb n (length P) && leb m (length L)) (take n A) (take m B) P L
+  too_small : (leb n (length P) && leb m (length L)) ≡ false → outcome (Err (why.SmallRoom (record { plan = n; pool = m }))) P L ≡ write (leb n (length P) && leb m (length L)) (take n A) (take m B) P L
   unfolding write
   too_small e = rw (e, short A n h, short B m k)
 
   -- the plan's room is too small
-  pub small_plan_lem : length P < n → outcome (compiled.SmallRoom n m) P L ≡ write (leb n (length P) && leb m (length L)) (take n A) (take m B) P L
+  pub small_plan_lem : length P < n → outcome (Err (why.SmallRoom (record { plan = n; pool = m }))) P L ≡ write (leb n (length P) && leb m (length L)) (take n A) (take m B) P L
   small_plan_lem x = too_small (rw (lt-leb n (length P) x))
 
   -- the pool's room is too small
-  pub small_pool_lem : n ≤ length P → length L < m → outcome (compiled.SmallRoom n m) P L ≡ write (leb n (length P) && leb m (length L)) (take n A) (take m B) P L
+  pub small_pool_lem : n ≤ length P → length L < m → outcome (Err (why.SmallRoom (record { plan = n; pool = m }))) P L ≡ write (leb n (length P) && leb m (length L)) (take n A) (take m B) P L
   small_pool_lem x y = too_small (rw (le-leb n (length P) x, lt-leb m (length L) y))
 
   -- both are large enough
   pub fits_both : {P' L' : List ℕ} → n ≤ length P → m ≤ length L → Wrote P 0 (take n A) P' → Wrote L 0 (take m B) L'
-      → outcome (compiled.Written n m) P' L' ≡ write (leb n (length P) && leb m (length L)) (take n A) (take m B) P L
+      → outcome (Ok (record { plan = n; pool = m })) P' L' ≡ write (leb n (length P) && leb m (length L)) (take n A) (take m B) P L
   unfolding write
   fits_both x y v w = rw (le-leb n (length P) x, le-leb m (length L) y, short A n h, short B m k, v.is, w.is)
 
@@ -318,11 +319,15 @@ module _ (n : ℕ) where
   unfolding marks_at
   refused_late e f = rw e f
 
+  -- a refusal of the walk is the first
+  pub verdict_first : (w : Refusal) → n % 256 ≢ 0 → (QueryNumber (n % 256) → number_of w ≡ n % 256) → QueryNumber (refusal_of (marks_at n)) → number_of w ≡ refusal_of (marks_at n)
+  verdict_first w h f q = let e = refused_first h in f (subst QueryNumber (sym e) q) ∙ e
+
 -- ---- rooms
 
 pub rooms_of : {s P L : List ℕ} → Enough s P L → early s ≡ 0 → Rooms s P L
 rooms_of {s} e h = record { enough = e; utf8 = passed_utf8 s h }
 
--- The largest rooms take every query. Of the smaller ones the search tells by their sizes alone that they take the queries that they are for.
-pub enough_for_all : {s P L : List ℕ} → early s ≡ 0 → length P ≡ 61440 → length L ≡ 4096 → Enough s P L
-enough_for_all {s} h p l = let n = passed_short s h in record { plan = omega arith; pool = omega arith; small = omega arith; small_pool = omega arith }
+-- The largest rooms take every query.
+pub sizes_for_all : (s : List ℕ) → early s ≡ 0 → Sizes s 61440 4096
+sizes_for_all s h = let n = passed_short s h in (omega arith, omega arith, omega arith, omega arith)

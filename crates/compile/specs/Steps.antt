@@ -18,6 +18,10 @@ pub record Enough (s P L : List ℕ) : Type 0 where
   pub small : length P < 65536
   pub small_pool : length L < 65536
 
+-- rooms of these sizes are enough
+abbrev pub Sizes : List ℕ → ℕ → ℕ → Type 0
+Sizes s n m = (15 * length s ≤ n) × (length s ≤ m) × (n < 65536) × (m < 65536)
+
 -- room enough for a query that is UTF-8
 pub record Rooms (s P L : List ℕ) : Type 0 where
   pub enough : Enough s P L

@@ -9,11 +9,12 @@ pub mod rooms;
 ghost use Rattle.std.specs.Prelude.{◌≡◌};
 ghost use Rattle.definition.specs.Outcomes.{CompileOutcome, Compiles};
 ghost use Rattle.compile.specs.Outcomes.{outcome};
+ghost use Rattle.compile.specs.declared.CompileRefusal.TheVariants.{Query};
 
-use numbers::refusal_of;
 use rooms::{
-    BRIEF, MIDDLE, NO_BYTE, SHORT, SMALL, TINY, compile_brief, compile_long, compile_middle,
-    compile_short, compile_small, compile_tiny, early_refusal,
+    BRIEF, BRIEF_PLAN_ROOM, BRIEF_POOL_ROOM, MIDDLE, NO_BYTE, SHORT, SHORT_PLAN_ROOM,
+    SHORT_POOL_ROOM, SMALL, SMALL_PLAN_ROOM, SMALL_POOL_ROOM, TINY, TINY_PLAN_ROOM, TINY_POOL_ROOM,
+    compile_long, compile_middle, compile_within, early_refusal,
 };
 
 // Why a query is refused.
@@ -35,37 +36,47 @@ pub enum Refusal {
     BeyondRange,
 }
 
-// What compile comes to.
+// The lengths of a plan and of its pool.
 #[derive(Clone, Copy)]
-pub enum Compiled {
-    // The plan and the pool are written, of these lengths.
-    Written(usize, usize),
+pub struct Lengths {
+    pub plan: usize,
+    pub pool: usize,
+}
+
+// Why nothing is written.
+#[derive(Clone, Copy)]
+pub enum CompileRefusal {
     // The query is refused.
-    Refused(Refusal),
-    // Refusal 12: the plan and the pool have these lengths, and one of the rooms is too small.
-    SmallRoom(usize, usize),
+    Query(Refusal),
+    // 12: the plan and the pool have these lengths, and one of the rooms is too small.
+    SmallRoom(Lengths),
+}
+
+impl From<Refusal> for CompileRefusal {
+    ghost from_gives = { λ refusal given. given ≡ Query refusal };
+
+    fn from(refusal: Refusal) -> CompileRefusal {
+        CompileRefusal::Query(refusal)
+    }
 }
 
 // "Compile: 1, 2, 3, 4 by grammar, then the first of 4, 5, 6 in the Rust's walk", then 8, 12. There is one outcome for each input.
-pub fn compile(query: &[u8], plan: &mut [u8], pool: &mut [u8]) -> Compiled
+pub fn compile(query: &[u8], plan: &mut [u8], pool: &mut [u8]) -> Result<Lengths, CompileRefusal>
     ensures answers { Compiles query.now plan.old pool.old (outcome result plan.new pool.new) }
     ensures only { (o : CompileOutcome) → Compiles query.now plan.old pool.old o → o ≡ outcome result plan.new pool.new }
 {
-    let refusal = early_refusal(query);
-    if refusal != 0 {
-        return Compiled::Refused(refusal_of(refusal));
-    }
+    early_refusal(query)?;
     if query.len() <= TINY {
-        return compile_tiny(query, plan, pool);
+        return compile_within::<TINY_PLAN_ROOM, TINY_POOL_ROOM>(query, plan, pool);
     }
     if query.len() <= SMALL {
-        return compile_small(query, plan, pool);
+        return compile_within::<SMALL_PLAN_ROOM, SMALL_POOL_ROOM>(query, plan, pool);
     }
     if query.len() <= BRIEF {
-        return compile_brief(query, plan, pool);
+        return compile_within::<BRIEF_PLAN_ROOM, BRIEF_POOL_ROOM>(query, plan, pool);
     }
     if query.len() <= SHORT {
-        return compile_short(query, plan, pool);
+        return compile_within::<SHORT_PLAN_ROOM, SHORT_POOL_ROOM>(query, plan, pool);
     }
     // 0 for every query, since it is UTF-8; but LLVM cannot tell.
     let again = query[0] / NO_BYTE;

@@ -1,12 +1,12 @@
 // A query read in a room of its own, and its plan and pool copied where they are wanted.
-ghost use Rattle.std.specs.Prelude.{◌≡◌, ◌≤◌, ◌<◌, length};
+ghost use Rattle.std.specs.Prelude.{◌≡◌, ◌≤◌, length};
 ghost use Rattle.definition.specs.Outcomes.{early};
 ghost use Rattle.compile_unique.specs.Readings.{OneCompile};
-ghost use Rattle.compile.specs.Outcomes.{outcome};
-ghost use Rattle.compile.specs.Steps.{Enough, Rooms, ParsePost, verdict_of, Delivers};
+ghost use Rattle.compile.specs.Outcomes.{outcome, QueryNumber, number_or_zero};
+ghost use Rattle.compile.specs.Steps.{Enough, Sizes, Rooms, ParsePost, verdict_of, Delivers};
 
 use crate::numbers::refusal_of;
-use crate::{Compiled, Refusal};
+use crate::{CompileRefusal, Lengths, Refusal};
 use parser::query as parse_query;
 use parser_items::{BEYOND, Cursor, Step};
 use parser_scan::is;
@@ -62,20 +62,20 @@ pub const TINY_PLAN_ROOM: usize = 240;
 
 pub const TINY_POOL_ROOM: usize = 16;
 
-// The refusals before the grammar, in their order; 0 where there is none.
-pub fn early_refusal(query: &[u8]) -> u8
-    ensures { result ≡ early query.now }
+// The refusals before the grammar, in their order.
+pub fn early_refusal(query: &[u8]) -> Result<(), Refusal>
+    ensures { number_or_zero result ≡ early query.now }
 {
     if MAX_QUERY < query.len() {
-        return 1;
+        return Err(Refusal::TooLong);
     }
     if !is_utf8(query) {
-        return 2;
+        return Err(Refusal::NotUtf8);
     }
     if too_deep(query) {
-        return 3;
+        return Err(Refusal::TooDeep);
     }
-    0
+    Ok(())
 }
 
 // jsonpath-query = root-identifier segments, from the first byte to the last; the cursor behind it, or the place where reading stopped.
@@ -103,16 +103,19 @@ pub fn parse(s: &[u8], plan: &mut [u8], pool: &mut [u8]) -> Step
     r
 }
 
-// "then the first of 4, 5, 6 in the Rust's walk", then 8; 0 for none.
-pub fn verdict(st: Cursor) -> u8
-    ensures { result ≡ verdict_of st }
+// "then the first of 4, 5, 6 in the Rust's walk", then 8.
+pub fn verdict(st: Cursor) -> Result<(), Refusal>
+    ensures { QueryNumber (verdict_of st) → number_or_zero result ≡ verdict_of st }
 {
     let marks = st.marks;
-    let first = (marks % BEYOND) as u8;
-    if first != 0 {
-        return first;
+    if let Some(first) = refusal_of((marks % BEYOND) as u8) {
+        return Err(first);
     }
-    if marks < BEYOND { 0 } else { 8 }
+    if marks < BEYOND {
+        Ok(())
+    } else {
+        Err(Refusal::BeyondRange)
+    }
 }
 
 // The first n bytes of one room and the first m of the other, copied where both fit; otherwise both lengths.
@@ -123,19 +126,20 @@ fn deliver(
     m: usize,
     plan: &mut [u8],
     pool: &mut [u8],
-) -> Compiled
+) -> Result<Lengths, CompileRefusal>
     requires { (n ≤ length from.now) × (m ≤ length texts.now) }
     ensures { Delivers from.now n texts.now m plan.old pool.old (outcome result plan.new pool.new) }
 {
+    let lengths = Lengths { plan: n, pool: m };
     if plan.len() < n {
-        return Compiled::SmallRoom(n, m);
+        return Err(CompileRefusal::SmallRoom(lengths));
     }
     if pool.len() < m {
-        return Compiled::SmallRoom(n, m);
+        return Err(CompileRefusal::SmallRoom(lengths));
     }
     copy_part(from, 0, n, plan, 0);
     copy_part(texts, 0, m, pool, 0);
-    Compiled::Written(n, m)
+    Ok(lengths)
 }
 
 // A query that no early refusal meets, read in the two rooms given. What is handed on is `&query[0..]`, the same slice, since LLVM then keeps the one at hand in
@@ -146,81 +150,63 @@ fn compile_in(
     texts: &mut [u8],
     plan: &mut [u8],
     pool: &mut [u8],
-) -> Compiled
+) -> Result<Lengths, CompileRefusal>
     requires { Enough query.now room.old texts.old × (early query.now ≡ 0) }
     ensures { OneCompile query.now plan.old pool.old (outcome result plan.new pool.new) }
 {
     match parse(&query[0..], room, texts) {
-        Step::Stop(_) => Compiled::Refused(Refusal::Malformed),
+        Step::Stop(_) => Err(CompileRefusal::Query(Refusal::Malformed)),
         Step::Next(st, _) => {
-            let refusal = verdict(st);
-            if refusal != 0 {
-                return Compiled::Refused(refusal_of(refusal));
-            }
+            verdict(st)?;
             deliver(room, st.len, texts, st.pool, plan, pool)
         }
     }
 }
 
-pub fn compile_tiny(query: &[u8], plan: &mut [u8], pool: &mut [u8]) -> Compiled
-    requires { (length query.now ≤ 16) × (early query.now ≡ 0) }
+// The same in rooms of these sizes, which are cleared.
+pub fn compile_within<const PLAN: usize, const POOL: usize>(
+    query: &[u8],
+    plan: &mut [u8],
+    pool: &mut [u8],
+) -> Result<Lengths, CompileRefusal>
+    requires { Sizes query.now PLAN POOL × (early query.now ≡ 0) }
     ensures { OneCompile query.now plan.old pool.old (outcome result plan.new pool.new) }
 {
-    let mut room = [0u8; TINY_PLAN_ROOM];
-    let mut texts = [0u8; TINY_POOL_ROOM];
-    compile_in(query, &mut room, &mut texts, plan, pool)
-}
-
-pub fn compile_small(query: &[u8], plan: &mut [u8], pool: &mut [u8]) -> Compiled
-    requires { (length query.now ≤ 32) × (early query.now ≡ 0) }
-    ensures { OneCompile query.now plan.old pool.old (outcome result plan.new pool.new) }
-{
-    let mut room = [0u8; SMALL_PLAN_ROOM];
-    let mut texts = [0u8; SMALL_POOL_ROOM];
-    compile_in(query, &mut room, &mut texts, plan, pool)
-}
-
-pub fn compile_brief(query: &[u8], plan: &mut [u8], pool: &mut [u8]) -> Compiled
-    requires { (length query.now ≤ 64) × (early query.now ≡ 0) }
-    ensures { OneCompile query.now plan.old pool.old (outcome result plan.new pool.new) }
-{
-    let mut room = [0u8; BRIEF_PLAN_ROOM];
-    let mut texts = [0u8; BRIEF_POOL_ROOM];
-    compile_in(query, &mut room, &mut texts, plan, pool)
-}
-
-pub fn compile_short(query: &[u8], plan: &mut [u8], pool: &mut [u8]) -> Compiled
-    requires { (length query.now ≤ 256) × (early query.now ≡ 0) }
-    ensures { OneCompile query.now plan.old pool.old (outcome result plan.new pool.new) }
-{
-    let mut room = [0u8; SHORT_PLAN_ROOM];
-    let mut texts = [0u8; SHORT_POOL_ROOM];
+    let mut room = [0u8; PLAN];
+    let mut texts = [0u8; POOL];
     compile_in(query, &mut room, &mut texts, plan, pool)
 }
 
 // The larger rooms fill 4 and 16 pages of the stack, and a frame that has them is touched page by page on entry. LLVM would join the function that has them
 // into its caller, and every compile would pay for that; a function that calls itself it leaves alone. `again` says how often one does, which changes nothing
 // of the answer.
-pub fn compile_middle(query: &[u8], plan: &mut [u8], pool: &mut [u8], again: u8) -> Compiled
+// Two functions and not one with sizes: bin/archive names both, to keep them apart.
+pub fn compile_middle(
+    query: &[u8],
+    plan: &mut [u8],
+    pool: &mut [u8],
+    again: u8,
+) -> Result<Lengths, CompileRefusal>
     requires { (length query.now ≤ 1024) × (early query.now ≡ 0) }
     ensures { OneCompile query.now plan.old pool.old (outcome result plan.new pool.new) }
 {
     if 0 < again {
         return compile_middle(query, plan, pool, again - 1);
     }
-    let mut room = [0u8; MIDDLE_PLAN_ROOM];
-    let mut texts = [0u8; MIDDLE_POOL_ROOM];
-    compile_in(query, &mut room, &mut texts, plan, pool)
+    compile_within::<MIDDLE_PLAN_ROOM, MIDDLE_POOL_ROOM>(query, plan, pool)
 }
 
-pub fn compile_long(query: &[u8], plan: &mut [u8], pool: &mut [u8], again: u8) -> Compiled
+pub fn compile_long(
+    query: &[u8],
+    plan: &mut [u8],
+    pool: &mut [u8],
+    again: u8,
+) -> Result<Lengths, CompileRefusal>
     requires { early query.now ≡ 0 }
     ensures { OneCompile query.now plan.old pool.old (outcome result plan.new pool.new) }
 {
     if 0 < again {
         return compile_long(query, plan, pool, again - 1);
     }
-    let mut room = [0u8; PLAN_ROOM];
-    let mut texts = [0u8; POOL_ROOM];
-    compile_in(query, &mut room, &mut texts, plan, pool)
+    compile_within::<PLAN_ROOM, POOL_ROOM>(query, plan, pool)
 }

@@ -1,6 +1,5 @@
 -- `compile::rooms::deliver` meets its contract: plan and pool are copied where both fit.
 use Rattle.compile.proofs.Answers.{small_plan_lem, small_pool_lem, fits_both}
-use borrow.Author.Rules.{rules}
 use Rattle.compile.proofs.rooms.deliver.Goals as goal
 
 pub returns-then-plan-n : goal.returns-then-plan-n

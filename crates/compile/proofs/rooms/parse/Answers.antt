@@ -2,7 +2,6 @@
 use borrow.Author.Tests.{not-true, not-false}
 use Rattle.parser_items.specs.Laws.{read_of, none_of, whole, asks_whole, post_whole}
 use Rattle.compile.proofs.Answers.{no_root, root_start, no_segments, some_left, all_read}
-use borrow.Author.Rules.{rules}
 use mathlib.Core.Path.{ap}
 use mathlib.Core.Bool.{not}
 use Rattle.compile.proofs.rooms.parse.Goals as goal
