@@ -1,4 +1,5 @@
 -- The scalar values of bytes, one byte at a time, and the expression of them. Assumes nothing.
+use Rattle.std.specs.Prelude.{Option as Answer, None}
 use mathlib.Core.Path.{◌≡◌, refl, ap, sym, ◌∙◌}
 use mathlib.Core.Bool.{true, false}
 use mathlib.Core.List.{List, [], ◌∷◌, ◌++◌, append_assoc, append-nil}
@@ -17,8 +18,6 @@ use Rattle.basics.specs.Lists.{drop_at}
 use Rattle.basics.specs.Stores.{wrote_then}
 use Rattle.regex_reader.specs.Reads.{ReadsWhole}
 use Rattle.regex_reader.specs.Reads.ReadsWhole.{code as whole_code, outside as whole-outside}
-use Rattle.regex_reader.specs.declared.nested.Reading.{Reading}
-use Rattle.regex_reader.specs.declared.nested.Reading.TheVariants as reading
 use Rattle.regex_bytes.specs.Points.{points_of, points_utf8}
 use Rattle.regex_bytes.specs.Bytes.{OneMore, Scalars, ReadsBytes}
 use Rattle.regex_bytes.specs.Bytes.ReadsBytes.{code, outside}
@@ -114,11 +113,11 @@ written {s} {p} {q} {n} g h =
 pub counted : {s p q : List ℕ} {n : ℕ} → Scalars s p q n → length s ≤ length p → n ≡ length (take n q)
 counted g h = g.count ∙ sym (ap length (written g h))
 
-pub bytes_long : (s p q : List ℕ) (len : ℕ) → 1024 < length s → ReadsBytes s p q len reading.Outside
+pub bytes_long : (s p q : List ℕ) (len : ℕ) → 1024 < length s → ReadsBytes s p q len None
 unfolding regexp_of
 bytes_long s p q len h = outside (rw (lt-leb (length s) 1024 h) refl)
 
-pub bytes_read : {s p q : List ℕ} {len : ℕ} (w : List ℕ) {r : Reading} → is_utf8 s ≡ true → length s ≤ 1024 → w ≡ points_of s → ReadsWhole w p q len r → ReadsBytes s p q len r
+pub bytes_read : {s p q : List ℕ} {len : ℕ} (w : List ℕ) {r : Answer ℕ} → is_utf8 s ≡ true → length s ≤ 1024 → w ≡ points_of s → ReadsWhole w p q len r → ReadsBytes s p q len r
 unfolding regexp_of
 bytes_read {s} w u h e (whole_code n d) =
     code n (record { expr = d.expr; is = rw (le-leb (length s) 1024 h, sym (e ∙ points_utf8 s u)) d.is; grown = d.grown; few = omega (arith, d.few, scalars_few s, ap length (e ∙ points_utf8 s u)); buf = d.buf })

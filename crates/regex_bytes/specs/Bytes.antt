@@ -1,20 +1,16 @@
 -- What the reader of bytes answers.
-use Rattle.std.specs.Prelude.{◌≡◌, List, [], ◌++◌, ℕ, ◌+◌, ◌-◌, ◌*◌, ◌≤◌, length, drop, get_or}
+use Rattle.std.specs.Prelude.{Option as Answer, Some, None}
+use Rattle.std.specs.Prelude.{◌≡◌, List, [], ◌++◌, ℕ, ◌+◌, ◌*◌, ◌≤◌, length, drop, get_or}
 use Rattle.std.proofs.Math.Option.{none, some}
 use Rattle.basics.specs.Reads.{Wrote}
 use Rattle.regex_definition.specs.Regexp.{Regexp}
 use Rattle.definition.specs.Regexps.{regexp_of}
 use Rattle.regex_code.specs.Flat.{flat}
 use Rattle.regex_bytes.specs.Points.{points_of}
-use Rattle.regex_reader.specs.declared.nested.Reading.{Reading}
-use Rattle.regex_reader.specs.declared.nested.Reading.TheVariants as reading
 
 -- the byte at a place, 0 behind the end
 abbrev pub byte_at : List ℕ → ℕ → ℕ
 byte_at s at = get_or s at 0
-
-abbrev pub less : ℕ → ℕ → ℕ
-less a b = a - b
 
 -- one character more, or none, where one byte is passed
 pub record OneMore (s p q : List ℕ) (i n r : ℕ) : Type 0 where
@@ -38,6 +34,6 @@ pub record IsCode (s p q : List ℕ) (len n : ℕ) : Type 0 where
   pub few : n ≤ len + 8 * length s + 3
   pub buf : Wrote p len (flat expr []) q
 
-pub data ReadsBytes (s p q : List ℕ) (len : ℕ) : Reading → Type 0 where
-  code : (n : ℕ) → IsCode s p q len n → ReadsBytes s p q len (reading.Code n)
-  outside : regexp_of s ≡ none → ReadsBytes s p q len reading.Outside
+pub data ReadsBytes (s p q : List ℕ) (len : ℕ) : Answer ℕ → Type 0 where
+  code : (n : ℕ) → IsCode s p q len n → ReadsBytes s p q len (Some n)
+  outside : regexp_of s ≡ none → ReadsBytes s p q len None

@@ -6,37 +6,18 @@ ghost use Rattle.std.specs.Prelude.{◌≡◌, ◌+◌, ◌*◌, ◌≤◌, ◌<
 ghost use Rattle.definition.specs.Bytes.{within};
 ghost use Rattle.definition.specs.Utf8.{is_utf8};
 ghost use Rattle.utf8_laws.specs.Unique.{point};
-ghost use Rattle.regex_bytes.specs.Bytes.{byte_at, less, OneMore, Scalars, ReadsBytes};
+ghost use Rattle.regex_bytes.specs.Bytes.{byte_at, OneMore, Scalars, ReadsBytes};
 
-use regex_reader::nested::{Reading, read};
+use regex_reader::nested::read;
 
 // Expressions have at most 1,024 bytes.
 const MAX_EXPRESSION: usize = 1024;
-
-fn wide(b: u8) -> u32
-    ensures { (result ≡ b) × (result ≤ 255) }
-{
-    b as u32
-}
 
 // The byte at `at`, 0 behind the end.
 fn byte_at(s: &[u8], at: usize) -> u32
     ensures { (result ≡ byte_at s.now at) × (result ≤ 255) }
 {
-    if s.len() <= at {
-        return 0;
-    }
-    wide(s[at])
-}
-
-// a - b, 0 where b is greater.
-fn minus(a: u32, b: u32) -> u32
-    ensures { result ≡ less a b }
-{
-    if a < b {
-        return 0;
-    }
-    a - b
+    if at < s.len() { u32::from(s[at]) } else { 0 }
 }
 
 // The code point whose bytes begin at `at`.
@@ -50,24 +31,21 @@ fn point(s: &[u8], at: usize) -> u32
     }
     let t = byte_at(s, at + 1);
     if b < 0xE0 {
-        return minus(b * 64 + t, 0x3080);
+        return (b * 64 + t).saturating_sub(0x3080);
     }
     let u = byte_at(s, at + 2);
     if b < 0xF0 {
-        return minus(b * 4096 + t * 64 + u, 0xE2080);
+        return (b * 4096 + t * 64 + u).saturating_sub(0xE2080);
     }
     let v = byte_at(s, at + 3);
-    minus(b * 262144 + t * 4096 + u * 64 + v, 0x3C82080)
+    (b * 262144 + t * 4096 + u * 64 + v).saturating_sub(0x3C82080)
 }
 
 // Whether b is no first byte of a character.
 fn is_tail(b: u8) -> bool
     ensures { result ≡ within 0x80 0xBF b }
 {
-    if b < 0x80 {
-        return false;
-    }
-    b <= 0xBF
+    0x80 <= b && b <= 0xBF
 }
 
 // Writes the character that begins at i, if one does, behind n others, and answers their number.
@@ -87,24 +65,22 @@ pub fn scalars(s: &[u8], chars: &mut [u32]) -> usize
     requires { length s.now ≤ length chars.old }
     ensures { Scalars s.now chars.old chars.new result }
 {
-    let mut i: usize = 0;
     let mut n: usize = 0;
-    while i < s.len() {
+    for i in 0..s.len() {
         n = scalar(s, chars, i, n);
-        i += 1;
     }
     n
 }
 
-// Reads the expression whose bytes, which are UTF-8, are s, and writes its code from `len` on. `chars` takes its characters: a word for each byte. The
-// code takes up to eight for each byte, and three more.
-pub fn read_bytes(s: &[u8], chars: &mut [u32], code: &mut [u32], len: usize) -> Reading
+// Reads the expression whose bytes, which are UTF-8, are s, writes its code from `len` on, and answers the place behind it; None says that the bytes
+// are no expression of the part. `chars` takes its characters: a word for each byte. The code takes up to eight for each byte, and three more.
+pub fn read_bytes(s: &[u8], chars: &mut [u32], code: &mut [u32], len: usize) -> Option<usize>
     requires s_value { is_utf8 s.now ≡ true }
     requires s_in_bounds { length s.now ≤ 1024 → (length s.now ≤ length chars.old) × (len + 8 * length s.now + 3 ≤ length code.old) }
     ensures { ReadsBytes s.now code.old code.new len result }
 {
     if MAX_EXPRESSION < s.len() {
-        return Reading::Outside;
+        return None;
     }
     let n = scalars(s, chars);
     read(&chars[..n], code, len)

@@ -1,4 +1,5 @@
 -- What is read at a place, one level of the definition at a time: characters. Assumes nothing.
+use Rattle.std.specs.Prelude.{Option as Answer, Some, None}
 use mathlib.Core.Path.{◌≡◌, refl, sym, ◌∙◌}
 use mathlib.Core.Bool.{Bool, true, false, true≢false, false≢true}
 use mathlib.Core.List.{List}
@@ -12,8 +13,6 @@ use Rattle.regex_definition.specs.Chars.{is_escaped, is_class_char, escape_value
 use Rattle.regex_definition.specs.Read.{begins, rest, read_escape, read_bare, read_ccchar}
 use Rattle.regex_leaves.specs.Reads.{Is, ReadChar}
 use Rattle.regex_leaves.specs.Reads.ReadChar.{next, stop}
-use Rattle.regex_leaves.specs.declared.chars.Char.{Char}
-use Rattle.regex_leaves.specs.declared.chars.Char.TheVariants as char
 use Rattle.basics.specs.Lists.{drop_at}
 
 module _ (s : List ℕ) (at : ℕ) where
@@ -44,37 +43,37 @@ pub is_there : (s : List ℕ) (at x : ℕ) → at < length s → Is s at x (eqb 
 is_there s at x h = record { told = sym (begins_at_lem s at x h); inside = λ e. h }
 
 -- the same answer, where the definition goes on to it
-pub same_char : {out out' : Option (ℕ × List ℕ)} {s : List ℕ} {from from' : ℕ} {r : Char} → out ≡ out' → from ≤ from' → ReadChar out' s from' r → ReadChar out s from r
+pub same_char : {out out' : Option (ℕ × List ℕ)} {s : List ℕ} {from from' : ℕ} {r : Answer (ℕ × ℕ)} → out ≡ out' → from ≤ from' → ReadChar out' s from' r → ReadChar out s from r
 same_char e h (next b c o f t) = next b c (e ∙ o) (omega arith) t
 same_char e h (stop o) = stop (e ∙ o)
 
 module _ (s : List ℕ) (at : ℕ) where
-  pub escape_end : length s ≤ at → ReadChar (read_escape (drop at s)) s (at + 1) char.Stop
+  pub escape_end : length s ≤ at → ReadChar (read_escape (drop at s)) s (at + 1) None
   escape_end h = stop (rw (drop_of_length-le s h))
 
-  pub escape_next : at < length s → is_escaped (get_or s at 0) ≡ true → (v : ℕ) → v ≡ escape_value (get_or s at 0)
-      → ReadChar (read_escape (drop at s)) s (at + 1) (char.Next (at + 1) v)
-  escape_next h e v q = next (at + 1) v (rw (drop_at s at h, e, q)) (omega arith) (omega arith)
+  pub escape_next : at < length s → {c : ℕ} → c ≡ get_or s at 0 → is_escaped c ≡ true → (v : ℕ) → v ≡ escape_value c
+      → ReadChar (read_escape (drop at s)) s (at + 1) (Some (at + 1, v))
+  escape_next h g e v q = next (at + 1) v (rw (drop_at s at h, ← g, e, q)) (omega arith) (omega arith)
 
-  pub escape_none : at < length s → is_escaped (get_or s at 0) ≡ false → ReadChar (read_escape (drop at s)) s (at + 1) char.Stop
-  escape_none h e = stop (rw (drop_at s at h, e))
+  pub escape_none : at < length s → {c : ℕ} → c ≡ get_or s at 0 → is_escaped c ≡ false → ReadChar (read_escape (drop at s)) s (at + 1) None
+  escape_none h g e = stop (rw (drop_at s at h, ← g, e))
 
   module _ (p : ℕ → Bool) where
-    pub bare_end : length s ≤ at → ReadChar (read_bare p (drop at s)) s (at + 1) char.Stop
+    pub bare_end : length s ≤ at → ReadChar (read_bare p (drop at s)) s (at + 1) None
     bare_end h = stop (rw (drop_of_length-le s h))
 
-    pub bare_next : at < length s → p (get_or s at 0) ≡ true → ReadChar (read_bare p (drop at s)) s (at + 1) (char.Next (at + 1) (get_or s at 0))
-    bare_next h e = next (at + 1) (get_or s at 0) (rw (drop_at s at h, e)) (omega arith) (omega arith)
+    pub bare_next : at < length s → {c : ℕ} → c ≡ get_or s at 0 → p c ≡ true → ReadChar (read_bare p (drop at s)) s (at + 1) (Some (at + 1, c))
+    bare_next h {c} g e = next (at + 1) c (rw (drop_at s at h, ← g, e)) (omega arith) (omega arith)
 
-    pub bare_none : at < length s → p (get_or s at 0) ≡ false → ReadChar (read_bare p (drop at s)) s (at + 1) char.Stop
-    bare_none h e = stop (rw (drop_at s at h, e))
+    pub bare_none : at < length s → {c : ℕ} → c ≡ get_or s at 0 → p c ≡ false → ReadChar (read_bare p (drop at s)) s (at + 1) None
+    bare_none h g e = stop (rw (drop_at s at h, ← g, e))
 
-  pub class_escape : begins 0x5C (drop at s) ≡ true → {r : Char} → ReadChar (read_escape (drop (at + 1) s)) s (at + 1 + 1) r
+  pub class_escape : begins 0x5C (drop at s) ≡ true → {r : Answer (ℕ × ℕ)} → ReadChar (read_escape (drop (at + 1) s)) s (at + 1 + 1) r
       → ReadChar (read_ccchar (drop at s)) s (at + 1) r
   unfolding read_ccchar
   class_escape e c = same_char (rw (e, behind s at 0x5C e)) (omega arith) c
 
-  pub class_bare : begins 0x5C (drop at s) ≡ false → {r : Char} → ReadChar (read_bare is_class_char (drop at s)) s (at + 1) r
+  pub class_bare : begins 0x5C (drop at s) ≡ false → {r : Answer (ℕ × ℕ)} → ReadChar (read_bare is_class_char (drop at s)) s (at + 1) r
       → ReadChar (read_ccchar (drop at s)) s (at + 1) r
   unfolding read_ccchar
   class_bare e c = same_char (rw e) (omega arith) c

@@ -7,13 +7,11 @@ pub fn insert(code: &mut [u32], from: usize, to: usize, x: u32)
     requires { (from ≤ to) × (to < length code.old) }
     ensures { Inserted code.old from to x code.new }
 {
-    let mut i = from;
     let mut carried = x;
-    while i < to {
+    for i in from..to {
         let w = code[i];
         code[i] = carried;
         carried = w;
-        i += 1;
     }
     code[to] = carried;
 }

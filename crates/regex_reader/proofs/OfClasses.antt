@@ -1,4 +1,5 @@
 -- A class, one level of the definition at a time. Assumes nothing.
+use Rattle.std.specs.Prelude.{Option as Answer, Some, None}
 use mathlib.Core.Path.{◌≡◌, refl, ap, sym, ◌∙◌}
 use mathlib.Core.Bool.{Bool, true, false, false≢true}
 use mathlib.Core.List.{List, [], ◌∷◌, ◌++◌, append_assoc, append-nil}
@@ -14,22 +15,19 @@ use Rattle.regex_definition.specs.Read.{begins, rest, read_item, read_first, rea
 use Rattle.regex_code.specs.Flat.{flag, flat, flat_ranges, flat_ranges_append}
 use Rattle.regex_leaves.specs.Reads.{Is, ReadItem}
 use Rattle.regex_leaves.specs.Reads.ReadItem.{next as item_next, stop as item-stop}
-use Rattle.regex_leaves.specs.declared.items.Item.TheVariants as item
 use Rattle.regex_leaves.proofs.OfChars.{rest_at, behind}
 use Rattle.regex_reader.specs.Reads.{IsEnd, ReadItems, PostRanges, Post, is_complement, out_ranges, out_class}
 use Rattle.regex_reader.specs.Reads.PostRanges.{next as ranges-next, stop as ranges-stop}
 use Rattle.regex_reader.specs.Reads.Post.{next, stop}
-use Rattle.regex_reader.specs.declared.classes.More.TheVariants as more
-use Rattle.regex_reader.specs.declared.steps.Step.{Step}
-use Rattle.regex_reader.specs.declared.steps.Step.TheVariants as step
+use Rattle.regex_reader.specs.declared.steps.Cursor.{Cursor}
 use Rattle.regex_reader.proofs.Parts.{ranges_behind, length_ranges, third, same_post}
 
 -- what an answer that is given says
-pub item_is : {out : Option (Range × List ℕ)} {s : List ℕ} {from b lo hi : ℕ} → ReadItem out s from (item.Next b lo hi)
+pub item_is : {out : Option (Range × List ℕ)} {s : List ℕ} {from b lo hi : ℕ} → ReadItem out s from (Some (b, lo, hi))
     → (out ≡ some (record { low = lo; high = hi }, drop b s)) × (from ≤ b) × (b ≤ length s)
 item_is (item_next b lo hi o f t) = (o, f, t)
 
-pub item_none : {out : Option (Range × List ℕ)} {s : List ℕ} {from : ℕ} → ReadItem out s from item.Stop → out ≡ none
+pub item_none : {out : Option (Range × List ℕ)} {s : List ℕ} {from : ℕ} → ReadItem out s from None → out ≡ none
 item_none (item-stop o) = o
 
 -- ---- "-]"
@@ -96,7 +94,7 @@ going_none s p at len h =
     }
 
 module _ {s p : List ℕ} {at len : ℕ} {q : List ℕ} {i n : ℕ} (g : Going s p at len q i n) where
-  pub ranges_close : {r : Bool} → Is s i 0x5D r → r ≡ true → PostRanges s p q at len (more.Next (i + 1) n)
+  pub ranges_close : {r : Bool} → Is s i 0x5D r → r ≡ true → PostRanges s p q at len (Some (i + 1, n))
   ranges_close d e =
       let h = d.inside e in
       ranges-next (i + 1) n
@@ -123,7 +121,7 @@ module _ {s p : List ℕ} {at len : ℕ} {q : List ℕ} {i n : ℕ} (g : Going s
   counted x = let l = length-append g.done (x ∷ []) in omega (arith, g.count)
 
   module _ {r : Bool} (c : Is s i 0x5D r) (n0 : r ≡ false) where
-    pub ranges_dash : {q' : List ℕ} {t : Bool} → IsEnd s i t → t ≡ true → Wrote q (len + 2 * n) (0x2D ∷ 0x2D ∷ []) q' → PostRanges s p q' at len (more.Next (i + 2) (n + 1))
+    pub ranges_dash : {q' : List ℕ} {t : Bool} → IsEnd s i t → t ≡ true → Wrote q (len + 2 * n) (0x2D ∷ 0x2D ∷ []) q' → PostRanges s p q' at len (Some (i + 2, n + 1))
     ranges_dash d e w =
         let h = d.inside e in
         ranges-next (i + 2) (n + 1)
@@ -139,11 +137,11 @@ module _ {s p : List ℕ} {at len : ℕ} {q : List ℕ} {i n : ℕ} (g : Going s
         })
 
     module _ {t : Bool} (d : IsEnd s i t) (e : t ≡ false) where
-      pub ranges_none : {q' : List ℕ} → ReadItem (read_item (drop i s)) s (i + 1) item.Stop → PostRanges s p q' at len more.Stop
+      pub ranges_none : {q' : List ℕ} → ReadItem (read_item (drop i s)) s (i + 1) None → PostRanges s p q' at len None
       ranges_none o =
           ranges-stop (λ m gs l. let t = g.is m gs l in t.2 ∙ none_at s i (sym c.told ∙ n0) d e t.0 (gs ++ g.done) (item_none o))
 
-      pub going_more : {b lo hi : ℕ} {q' : List ℕ} → ReadItem (read_item (drop i s)) s (i + 1) (item.Next b lo hi) → Wrote q (len + 2 * n) (lo ∷ hi ∷ []) q'
+      pub going_more : {b lo hi : ℕ} {q' : List ℕ} → ReadItem (read_item (drop i s)) s (i + 1) (Some (b, lo, hi)) → Wrote q (len + 2 * n) (lo ∷ hi ∷ []) q'
           → Going s p at len q' b (n + 1)
       going_more {b} {lo} {hi} o w =
           let k = item_is o in
@@ -161,7 +159,7 @@ module _ {s p : List ℕ} {at len : ℕ} {q : List ℕ} {i n : ℕ} (g : Going s
             buf = wrote_more lo hi w;
           }
 
-pub more_is : {s p q : List ℕ} {at len b n : ℕ} → PostRanges s p q at len (more.Next b n) → ReadItems s p q at len b n
+pub more_is : {s p q : List ℕ} {at len b n : ℕ} → PostRanges s p q at len (Some (b, n)) → ReadItems s p q at len b n
 more_is (ranges-next b n d) = d
 
 -- ---- a class
@@ -175,12 +173,12 @@ class_buf {s} {p} {p'} {p''} {len} {sign} {lo} {hi} {b} {e} {n} c w d =
     record { is = ap (λ (l : List ℕ). set l (len + 2) (n + 1)) v.is ∙ third p len 1 sign 0 (n + 1) (lo ∷ hi ∷ flat_ranges d.found []) ∙ rw (c, k) refl }
 
 module _ (s p : List ℕ) (at len sign : ℕ) where
-  pub class_none : {q : List ℕ} → ReadItem (read_first (drop at s)) s (at + 1) item.Stop → Post (out_ranges sign s (record { at = at; len = len })) 4 0 s p q (record { at = at; len = len }) step.Stop
+  pub class_none : {q : List ℕ} → ReadItem (read_first (drop at s)) s (at + 1) None → Post (out_ranges sign s (record { at = at; len = len })) 4 0 s p q (record { at = at; len = len }) None
   unfolding read_ranges
   class_none o = stop (λ n l. rw (item_none o) refl)
 
-  module _ {b lo hi : ℕ} (o : ReadItem (read_first (drop at s)) s (at + 1) (item.Next b lo hi)) where
-    pub class_open : {p' p'' q : List ℕ} → PostRanges s p' p'' b (len + 5) more.Stop → Post (out_ranges sign s (record { at = at; len = len })) 4 0 s p q (record { at = at; len = len }) step.Stop
+  module _ {b lo hi : ℕ} (o : ReadItem (read_first (drop at s)) s (at + 1) (Some (b, lo, hi))) where
+    pub class_open : {p' p'' q : List ℕ} → PostRanges s p' p'' b (len + 5) None → Post (out_ranges sign s (record { at = at; len = len })) 4 0 s p q (record { at = at; len = len }) None
     unfolding read_ranges
     class_open (ranges-stop f) =
         let k = item_is o in
@@ -188,8 +186,8 @@ module _ (s p : List ℕ) (at len sign : ℕ) where
         let y = k.2 in
         stop (λ n l. rw (k.0, f n (record { low = lo; high = hi } ∷ []) (omega arith)) refl)
 
-    pub class_next : flag (is_complement sign) ≡ sign → {p' p'' : List ℕ} {e n : ℕ} → Wrote p len (1 ∷ sign ∷ 0 ∷ lo ∷ hi ∷ []) p' → PostRanges s p' p'' b (len + 5) (more.Next e n)
-        → Post (out_ranges sign s (record { at = at; len = len })) 4 0 s p (set p'' (len + 2) (n + 1)) (record { at = at; len = len }) (step.Next (record { at = e; len = len + 5 + 2 * n }))
+    pub class_next : flag (is_complement sign) ≡ sign → {p' p'' : List ℕ} {e n : ℕ} → Wrote p len (1 ∷ sign ∷ 0 ∷ lo ∷ hi ∷ []) p' → PostRanges s p' p'' b (len + 5) (Some (e, n))
+        → Post (out_ranges sign s (record { at = at; len = len })) 4 0 s p (set p'' (len + 2) (n + 1)) (record { at = at; len = len }) (Some (record { at = e; len = len + 5 + 2 * n }))
     unfolding read_ranges
     class_next c {p'} {p''} w (ranges-next e n d) =
         let k = item_is o in
@@ -208,7 +206,7 @@ module _ (s p : List ℕ) (at len sign : ℕ) where
           buf = class_buf c w d;
         })
 
-  pub class_complement : {r : Step} {q : List ℕ} {t : Bool} → Is s at 0x5E t → t ≡ true
+  pub class_complement : {r : Answer Cursor} {q : List ℕ} {t : Bool} → Is s at 0x5E t → t ≡ true
       → Post (out_ranges 1 s (record { at = at + 1; len = len })) 4 0 s p q (record { at = at + 1; len = len }) r
       → Post (out_class s (record { at = at; len = len })) 4 0 s p q (record { at = at; len = len }) r
   unfolding read_class
@@ -217,7 +215,7 @@ module _ (s p : List ℕ) (at len sign : ℕ) where
       let f : begins 0x5E (drop at s) ≡ true = sym i.told ∙ e in
       same_post (omega arith) (λ n l. (omega arith, rw (f, behind s at 0x5E f) refl)) c
 
-  pub class_plain : {r : Step} {q : List ℕ} {t : Bool} → Is s at 0x5E t → t ≡ false
+  pub class_plain : {r : Answer Cursor} {q : List ℕ} {t : Bool} → Is s at 0x5E t → t ≡ false
       → Post (out_ranges 0 s (record { at = at; len = len })) 4 0 s p q (record { at = at; len = len }) r
       → Post (out_class s (record { at = at; len = len })) 4 0 s p q (record { at = at; len = len }) r
   unfolding read_class

@@ -1,4 +1,5 @@
 -- Groups, pieces, branches and alternatives, one level of the definition at a time. Assumes nothing.
+use Rattle.std.specs.Prelude.{Option as Answer, Some, None}
 use mathlib.Core.Path.{◌≡◌, refl, ap, sym, ◌∙◌}
 use mathlib.Core.Bool.{Bool, true, false, cond, true≢false}
 use mathlib.Core.List.{List, [], ◌∷◌, ◌++◌, append_assoc}
@@ -20,22 +21,19 @@ use Rattle.regex_leaves.specs.declared.counts.Quant.{Quant}
 use Rattle.regex_leaves.proofs.OfChars.{behind}
 use Rattle.regex_reader.specs.Reads.{Room, Read, Post, Repeats, out_leaf, out_atom, out_piece, out_branch, out_alternatives, ReadsWhole}
 use Rattle.regex_reader.specs.Reads.Post.{next, stop}
-use Rattle.regex_reader.specs.Reads.Repeats.{once, endless, bounded, stop as repeat-none}
+use Rattle.regex_reader.specs.Reads.Repeats.{once, endless, bounded}
 use Rattle.regex_reader.specs.Reads.ReadsWhole.{code, outside}
 use Rattle.regex_reader.specs.declared.steps.Cursor.{Cursor}
-use Rattle.regex_reader.specs.declared.steps.Step.{Step}
-use Rattle.regex_reader.specs.declared.steps.Step.TheVariants as step
-use Rattle.regex_reader.specs.declared.nested.Reading.TheVariants as reading
 use Rattle.regex_reader.proofs.Parts.{flat_behind}
 use Rattle.regex_reader.proofs.OfAtoms.{stops_end}
 use Rattle.basics.specs.Lists.{drop_at}
 use Rattle.basics.specs.Stores.{wrote_then, wrote_length}
 
 -- what an answer that is given says
-pub read_is : {out : ℕ → Option (Regexp × List ℕ)} {j k : ℕ} {s p q : List ℕ} {a b : Cursor} → Post out j k s p q a (step.Next b) → Read out j k s p q a b
+pub read_is : {out : ℕ → Option (Regexp × List ℕ)} {j k : ℕ} {s p q : List ℕ} {a b : Cursor} → Post out j k s p q a (Some b) → Read out j k s p q a b
 read_is (next b d) = d
 
-pub read_none : {out : ℕ → Option (Regexp × List ℕ)} {j k : ℕ} {s p q : List ℕ} {a : Cursor} → Post out j k s p q a step.Stop → (n : ℕ) → 4 * (length s - a.at) + j ≤ n → out n ≡ none
+pub read_none : {out : ℕ → Option (Regexp × List ℕ)} {j k : ℕ} {s p q : List ℕ} {a : Cursor} → Post out j k s p q a None → (n : ℕ) → 4 * (length s - a.at) + j ≤ n → out n ≡ none
 read_none (stop o) = o
 
 -- ---- an atom
@@ -46,7 +44,7 @@ module _ (s p : List ℕ) (at len : ℕ) where
   leaf_steps zero e l = absurd (omega arith)
   leaf_steps (suc n) e l = (n, omega arith, rw e refl)
 
-  pub atom_leaf : {t : Bool} → Is s at 0x28 t → t ≡ false → {q : List ℕ} {r : Step} → Post (out_leaf s (record { at = at; len = len })) 0 0 s p q (record { at = at; len = len }) r
+  pub atom_leaf : {t : Bool} → Is s at 0x28 t → t ≡ false → {q : List ℕ} {r : Answer Cursor} → Post (out_leaf s (record { at = at; len = len })) 0 0 s p q (record { at = at; len = len }) r
       → Post (out_atom s (record { at = at; len = len })) 1 0 s p q (record { at = at; len = len }) r
   atom_leaf i e (next b d) =
       next b
@@ -71,13 +69,13 @@ module _ (s p : List ℕ) (at len : ℕ) where
         let f : begins 0x28 (drop at s) ≡ true = sym i.told ∙ e in
         (n, omega arith, rw (f, behind s at 0x28 f) refl)
 
-    pub atom_none : {q : List ℕ} → Post (out_alternatives s (record { at = at + 1; len = len })) 4 2 s p q (record { at = at + 1; len = len }) step.Stop
-        → {q' : List ℕ} → Post (out_atom s (record { at = at; len = len })) 1 0 s p q' (record { at = at; len = len }) step.Stop
+    pub atom_none : {q : List ℕ} → Post (out_alternatives s (record { at = at + 1; len = len })) 4 2 s p q (record { at = at + 1; len = len }) None
+        → {q' : List ℕ} → Post (out_atom s (record { at = at; len = len })) 1 0 s p q' (record { at = at; len = len }) None
     atom_none o = stop (λ n l. let m = group_steps n l in m.2 ∙ rw (read_none o m.0 m.1) refl)
 
     module _ {q : List ℕ} {b : Cursor} (d : Read (out_alternatives s (record { at = at + 1; len = len })) 4 2 s p q (record { at = at + 1; len = len }) b) where
       pub atom_group : {u : Bool} → Is s b.at 0x29 u → u ≡ true
-          → Post (out_atom s (record { at = at; len = len })) 1 0 s p q (record { at = at; len = len }) (step.Next (record { at = b.at + 1; len = b.len }))
+          → Post (out_atom s (record { at = at; len = len })) 1 0 s p q (record { at = at; len = len }) (Some (record { at = b.at + 1; len = b.len }))
       atom_group c f =
           let h = c.inside f in
           let g : begins 0x29 (drop b.at s) ≡ true = sym c.told ∙ f in
@@ -92,7 +90,7 @@ module _ (s p : List ℕ) (at len : ℕ) where
             buf = d.buf;
           })
 
-      pub atom_open : {u : Bool} → Is s b.at 0x29 u → u ≡ false → {q' : List ℕ} → Post (out_atom s (record { at = at; len = len })) 1 0 s p q' (record { at = at; len = len }) step.Stop
+      pub atom_open : {u : Bool} → Is s b.at 0x29 u → u ≡ false → {q' : List ℕ} → Post (out_atom s (record { at = at; len = len })) 1 0 s p q' (record { at = at; len = len }) None
       atom_open c f = stop (λ n l. let m = group_steps n l in m.2 ∙ rw (d.is m.0 m.1, sym c.told ∙ f) refl)
 
 -- ---- a piece
@@ -103,15 +101,15 @@ module _ (s p : List ℕ) (at len : ℕ) where
   piece_steps zero l = absurd (omega arith)
   piece_steps (suc n) l = (n, omega arith, refl)
 
-  pub piece_none : {q : List ℕ} → Post (out_atom s (record { at = at; len = len })) 1 0 s p q (record { at = at; len = len }) step.Stop
-      → {q' : List ℕ} → Post (out_piece s (record { at = at; len = len })) 2 0 s p q' (record { at = at; len = len }) step.Stop
+  pub piece_none : {q : List ℕ} → Post (out_atom s (record { at = at; len = len })) 1 0 s p q (record { at = at; len = len }) None
+      → {q' : List ℕ} → Post (out_piece s (record { at = at; len = len })) 2 0 s p q' (record { at = at; len = len }) None
   piece_none o = stop (λ n l. let m = piece_steps n l in m.2 ∙ rw (read_none o m.0 m.1) refl)
 
   module _ {q : List ℕ} {b : Cursor} (d : Read (out_atom s (record { at = at; len = len })) 1 0 s p q (record { at = at; len = len }) b) where
     size : length (flat d.expr []) ≡ b.len - len
     size = omega (arith, d.grown)
 
-    pub piece_of : {q' : List ℕ} {c : Quant} {r : Step} → ReadQuantifier s b.at c → Repeats q q' len b c r → Post (out_piece s (record { at = at; len = len })) 2 0 s p q' (record { at = at; len = len }) r
+    pub piece_of : {q' : List ℕ} {c : Quant} {r : Cursor} → ReadQuantifier s b.at (Some c) → Repeats q q' len b c r → Post (out_piece s (record { at = at; len = len })) 2 0 s p q' (record { at = at; len = len }) (Some r)
     piece_of (quant-once f) (once e) =
         next b
         (record {
@@ -145,7 +143,9 @@ module _ (s p : List ℕ) (at len : ℕ) where
           cost = omega (arith, d.cost, d.from);
           buf = w p (flat d.expr []) d.buf size;
         })
-    piece_of (quant-none f) repeat-none = stop (λ n l. let m = piece_steps n l in m.2 ∙ rw (d.is m.0 m.1) (f d.expr))
+
+    pub piece_stop : {q' : List ℕ} → ReadQuantifier s b.at None → Post (out_piece s (record { at = at; len = len })) 2 0 s p q' (record { at = at; len = len }) None
+    piece_stop (quant-none f) = stop (λ n l. let m = piece_steps n l in m.2 ∙ rw (d.is m.0 m.1) (f d.expr))
 
 -- ---- a branch
 
@@ -189,7 +189,7 @@ module _ {s p : List ℕ} {a : Cursor} {q : List ℕ} {at len : ℕ} (g : Branch
   end_steps zero e l = absurd (omega arith)
   end_steps (suc n) e l = rw e refl
 
-  pub branch_end : stops (drop at s) ≡ true → Post (out_branch s a) 3 2 s p (set q len 0) a (step.Next (record { at = at; len = len + 1 }))
+  pub branch_end : stops (drop at s) ≡ true → Post (out_branch s a) 3 2 s p (set q len 0) a (Some (record { at = at; len = len + 1 }))
   branch_end e =
       let c = g.codes empty in
       let k = ap length c ∙ length-append g.done (0 ∷ []) in
@@ -211,8 +211,8 @@ module _ {s p : List ℕ} {a : Cursor} {q : List ℕ} {at len : ℕ} (g : Branch
   more_steps_lem (suc n) e l = (n, omega arith, rw e refl)
 
   module _ (e : stops (drop at s) ≡ false) where
-    pub branch_none : {q' : List ℕ} → Post (out_piece s (record { at = at; len = len + 1 })) 2 0 s (set q len 2) q' (record { at = at; len = len + 1 }) step.Stop
-        → Post (out_branch s a) 3 2 s p q' a step.Stop
+    pub branch_none : {q' : List ℕ} → Post (out_piece s (record { at = at; len = len + 1 })) 2 0 s (set q len 2) q' (record { at = at; len = len + 1 }) None
+        → Post (out_branch s a) 3 2 s p q' a None
     branch_none o =
         stop (λ n l. let m = g.is n l in let k = more_steps_lem m.0 e m.1 in m.2 ∙ k.2 ∙ rw (read_none o k.0 k.1) refl)
 
@@ -273,13 +273,13 @@ module _ {s p : List ℕ} {a : Cursor} {q : List ℕ} {at len : ℕ} (g : Altern
   branch_steps zero l = absurd (omega arith)
   branch_steps (suc n) l = (n, omega arith, refl)
 
-  pub alts_none : {q' q'' : List ℕ} → Post (out_branch s (record { at = at; len = len })) 3 2 s q q' (record { at = at; len = len }) step.Stop
-      → Post (out_alternatives s a) 4 2 s p q'' a step.Stop
+  pub alts_none : {q' q'' : List ℕ} → Post (out_branch s (record { at = at; len = len })) 3 2 s q q' (record { at = at; len = len }) None
+      → Post (out_alternatives s a) 4 2 s p q'' a None
   alts_none o =
       stop (λ n l. let m = g.is n l in let k = branch_steps m.0 m.1 in m.2 ∙ k.2 ∙ rw (read_none o k.0 k.1) refl)
 
   module _ {q' : List ℕ} {b : Cursor} (d : Read (out_branch s (record { at = at; len = len })) 3 2 s q q' (record { at = at; len = len }) b) where
-    pub alts_last : {t : Bool} → Is s b.at 0x7C t → t ≡ false → Post (out_alternatives s a) 4 2 s p q' a (step.Next b)
+    pub alts_last : {t : Bool} → Is s b.at 0x7C t → t ≡ false → Post (out_alternatives s a) 4 2 s p q' a (Some b)
     alts_last i e =
         let c = g.codes d.expr in
         let k = ap length c ∙ length-append g.done (flat d.expr []) in
@@ -319,16 +319,16 @@ module _ {s p : List ℕ} {a : Cursor} {q : List ℕ} {at len : ℕ} (g : Altern
 -- ---- the whole
 
 module _ (s p : List ℕ) (len : ℕ) where
-  pub whole_none : {q q' : List ℕ} → Post (out_alternatives s (record { at = 0; len = len })) 4 2 s p q (record { at = 0; len = len }) step.Stop → ReadsWhole s p q' len reading.Outside
+  pub whole_none : {q q' : List ℕ} → Post (out_alternatives s (record { at = 0; len = len })) 4 2 s p q (record { at = 0; len = len }) None → ReadsWhole s p q' len None
   unfolding read_regexp
   whole_none o = outside (rw (read_none o (4 * length s + 4) (omega arith)) refl)
 
   module _ {q : List ℕ} {b : Cursor} (d : Read (out_alternatives s (record { at = 0; len = len })) 4 2 s p q (record { at = 0; len = len }) b) where
-    pub whole_left : b.at < length s → {q' : List ℕ} → ReadsWhole s p q' len reading.Outside
+    pub whole_left : b.at < length s → {q' : List ℕ} → ReadsWhole s p q' len None
     unfolding read_regexp
     whole_left h = outside (rw (d.is (4 * length s + 4) (omega arith), drop_at s b.at h) refl)
 
-    pub whole_code : length s ≤ b.at → ReadsWhole s p q len (reading.Code b.len)
+    pub whole_code : length s ≤ b.at → ReadsWhole s p q len (Some b.len)
     unfolding read_regexp
     whole_code h =
         code b.len

@@ -1,4 +1,5 @@
 -- Words behind words, and answers handed on. Assumes nothing.
+use Rattle.std.specs.Prelude.{Option as Answer}
 use mathlib.Core.Path.{◌≡◌, refl, ap, sym, ◌∙◌}
 use mathlib.Core.List.{List, [], ◌∷◌, ◌++◌, append_assoc}
 use mathlib.Core.Option.{Option}
@@ -11,7 +12,7 @@ use Rattle.regex_definition.specs.Regexp.{Range, Regexp, empty, class, then, or,
 use Rattle.regex_code.specs.Flat.{flag, flat, flat_ranges}
 use Rattle.regex_reader.specs.Reads.{Post}
 use Rattle.regex_reader.specs.Reads.Post.{next, stop}
-use Rattle.regex_reader.specs.declared.steps.Step.{Step}
+use Rattle.regex_reader.specs.declared.steps.Cursor.{Cursor}
 use Rattle.basics.specs.Lists.{set_sets}
 
 -- the words r behind those of ranges, and behind those of an expression
@@ -47,7 +48,7 @@ third p n a b x y c =
 
 -- an answer from a later place on, where the definition goes on to it
 pub same_post :
-    {out out' : ℕ → Option (Regexp × List ℕ)} {j j' k : ℕ} {s p q : List ℕ} {at at' len : ℕ} {r : Step} → at ≤ at'
+    {out out' : ℕ → Option (Regexp × List ℕ)} {j j' k : ℕ} {s p q : List ℕ} {at at' len : ℕ} {r : Answer Cursor} → at ≤ at'
     → ((n : ℕ) → 4 * (length s - at) + j ≤ n → (4 * (length s - at') + j' ≤ n) × (out n ≡ out' n))
     → Post out' j' k s p q (record { at = at'; len = len }) r → Post out j k s p q (record { at = at; len = len }) r
 same_post {out} {out'} {j} {j'} {k} {s} {p} {q} {at} {at'} {len} {r} h f (next b d) =

@@ -1,21 +1,14 @@
 -- What the reader's parts answer, and what they are lent. `out n` is what the definition reads in n steps from a place on.
+use Rattle.std.specs.Prelude.{Option as Answer, Some, None}
 use Rattle.std.specs.Prelude.{◌≡◌, Bool, true, ◌&&◌, List, [], ◌∷◌, ◌++◌, ℕ, ◌+◌, ◌-◌, ◌*◌, ◌≤◌, ◌<◌, eqb, length, drop}
 use Rattle.std.proofs.Math.Option.{Option, none, some}
 use Rattle.basics.specs.Reads.{Wrote}
 use Rattle.regex_definition.specs.Regexp.{Range, Regexp}
 use Rattle.regex_definition.specs.Read.{begins, rest, read_items, read_class, read_ranges, read_leaf, read_atom, read_piece, read_branch, read_alternatives, read_regexp}
 use Rattle.regex_code.specs.Flat.{flat, flat_ranges}
-use Rattle.regex_leaves.specs.declared.chars.Char.{Char}
-use Rattle.regex_leaves.specs.declared.chars.Char.TheVariants as char
 use Rattle.regex_leaves.specs.declared.counts.Quant.{Quant}
 use Rattle.regex_leaves.specs.declared.counts.Quant.TheVariants as quant
 use Rattle.regex_reader.specs.declared.steps.Cursor.{Cursor}
-use Rattle.regex_reader.specs.declared.steps.Step.{Step}
-use Rattle.regex_reader.specs.declared.steps.Step.TheVariants as step
-use Rattle.regex_reader.specs.declared.classes.More.{More}
-use Rattle.regex_reader.specs.declared.classes.More.TheVariants as more
-use Rattle.regex_reader.specs.declared.nested.Reading.{Reading}
-use Rattle.regex_reader.specs.declared.nested.Reading.TheVariants as reading
 
 -- whether "-]" stands at a place
 pub record IsEnd (s : List ℕ) (at : ℕ) (r : Bool) : Type 0 where
@@ -33,9 +26,9 @@ pub record ReadItems (s p q : List ℕ) (at len b n : ℕ) : Type 0 where
   pub to : b ≤ length s
   pub buf : Wrote p len (flat_ranges found []) q
 
-pub data PostRanges (s p q : List ℕ) (at len : ℕ) : More → Type 0 where
-  next : (b n : ℕ) → ReadItems s p q at len b n → PostRanges s p q at len (more.Next b n)
-  stop : ((m : ℕ) (gs : List Range) → length s - at < m → read_items m gs (drop at s) ≡ none) → PostRanges s p q at len more.Stop
+pub data PostRanges (s p q : List ℕ) (at len : ℕ) : Answer (ℕ × ℕ) → Type 0 where
+  next : (b n : ℕ) → ReadItems s p q at len b n → PostRanges s p q at len (Some (b, n))
+  stop : ((m : ℕ) (gs : List Range) → length s - at < m → read_items m gs (drop at s) ≡ none) → PostRanges s p q at len None
 
 -- ---- a part of an expression
 
@@ -55,9 +48,9 @@ pub record Read (out : ℕ → Option (Regexp × List ℕ)) (j k : ℕ) (s p q :
   pub cost : b.len + 1 ≤ a.len + 8 * (b.at - a.at) + k
   pub buf : Wrote p a.len (flat expr []) q
 
-pub data Post (out : ℕ → Option (Regexp × List ℕ)) (j k : ℕ) (s p q : List ℕ) (a : Cursor) : Step → Type 0 where
-  next : (b : Cursor) → Read out j k s p q a b → Post out j k s p q a (step.Next b)
-  stop : ((n : ℕ) → 4 * (length s - a.at) + j ≤ n → out n ≡ none) → Post out j k s p q a step.Stop
+pub data Post (out : ℕ → Option (Regexp × List ℕ)) (j k : ℕ) (s p q : List ℕ) (a : Cursor) : Answer Cursor → Type 0 where
+  next : (b : Cursor) → Read out j k s p q a b → Post out j k s p q a (Some b)
+  stop : ((n : ℕ) → 4 * (length s - a.at) + j ≤ n → out n ≡ none) → Post out j k s p q a None
 
 -- a word as the sign of the complement
 abbrev pub is_complement : ℕ → Bool
@@ -86,13 +79,12 @@ abbrev pub out_alternatives : List ℕ → Cursor → ℕ → Option (Regexp × 
 out_alternatives s a n = read_alternatives n (λ x. x) (drop a.at s)
 
 -- the words of a repeat go in before those of an atom
-pub data Repeats (p q : List ℕ) (from : ℕ) (n : Cursor) : Quant → Step → Type 0 where
-  once : q ≡ p → Repeats p q from n quant.Once (step.Next n)
+pub data Repeats (p q : List ℕ) (from : ℕ) (n : Cursor) : Quant → Cursor → Type 0 where
+  once : q ≡ p → Repeats p q from n quant.Once n
   endless : (b lo : ℕ) → ((p₀ c : List ℕ) → Wrote p₀ from c p → length c ≡ n.len - from → Wrote p₀ from (5 ∷ lo ∷ c) q)
-      → Repeats p q from n (quant.Least b lo) (step.Next (record { at = b; len = n.len + 2 }))
+      → Repeats p q from n (quant.Least b lo) (record { at = b; len = n.len + 2 })
   bounded : (b lo hi : ℕ) → ((p₀ c : List ℕ) → Wrote p₀ from c p → length c ≡ n.len - from → Wrote p₀ from (4 ∷ lo ∷ hi ∷ c) q)
-      → Repeats p q from n (quant.Upto b lo hi) (step.Next (record { at = b; len = n.len + 3 }))
-  stop : Repeats p q from n quant.Stop step.Stop
+      → Repeats p q from n (quant.Upto b lo hi) (record { at = b; len = n.len + 3 })
 
 -- ---- the whole
 
@@ -104,11 +96,11 @@ pub record IsCode (s p q : List ℕ) (len n : ℕ) : Type 0 where
   pub few : n ≤ len + 8 * length s + 3
   pub buf : Wrote p len (flat expr []) q
 
-pub data ReadsWhole (s p q : List ℕ) (len : ℕ) : Reading → Type 0 where
-  code : (n : ℕ) → IsCode s p q len n → ReadsWhole s p q len (reading.Code n)
-  outside : read_regexp s ≡ none → ReadsWhole s p q len reading.Outside
+pub data ReadsWhole (s p q : List ℕ) (len : ℕ) : Answer ℕ → Type 0 where
+  code : (n : ℕ) → IsCode s p q len n → ReadsWhole s p q len (Some n)
+  outside : read_regexp s ≡ none → ReadsWhole s p q len None
 
 -- the code of a character that was read
-pub data PutChar (p q : List ℕ) (len : ℕ) : Char → Step → Type 0 where
-  next : (b c : ℕ) → Wrote p len (1 ∷ 0 ∷ 1 ∷ c ∷ c ∷ []) q → PutChar p q len (char.Next b c) (step.Next (record { at = b; len = len + 5 }))
-  stop : PutChar p q len char.Stop step.Stop
+pub data PutChar (p q : List ℕ) (len : ℕ) : Answer (ℕ × ℕ) → Answer Cursor → Type 0 where
+  next : (b c : ℕ) → Wrote p len (1 ∷ 0 ∷ 1 ∷ c ∷ c ∷ []) q → PutChar p q len (Some (b, c)) (Some (record { at = b; len = len + 5 }))
+  stop : PutChar p q len None None

@@ -5,8 +5,8 @@ ghost use Rattle.regex_definition.specs.Read.{stops};
 ghost use Rattle.regex_reader.specs.Reads.{Room, Post, out_leaf, Repeats, PutChar};
 
 use crate::classes::class;
-use crate::steps::{Cursor, Step};
-use regex_leaves::chars::{Char, escape, is, normal, same};
+use crate::steps::Cursor;
+use regex_leaves::chars::{escape, is, normal};
 use regex_leaves::counts::Quant;
 use regex_leaves::words::insert;
 
@@ -14,14 +14,7 @@ use regex_leaves::words::insert;
 pub fn stop_at(s: &[u32], at: usize) -> bool
     ensures { result ≡ stops (drop at s.now) }
 {
-    if s.len() <= at {
-        return true;
-    }
-    let c = s[at];
-    if same(c, 0x7C) {
-        return true;
-    }
-    same(c, 0x29)
+    s.len() <= at || s[at] == 0x7C || s[at] == 0x29
 }
 
 fn put_dot(code: &mut [u32], len: usize)
@@ -49,24 +42,20 @@ fn put_char(code: &mut [u32], len: usize, c: u32)
 }
 
 // The code of a character that was read.
-fn put_read(code: &mut [u32], len: usize, c: Char) -> Step
+fn put_read(code: &mut [u32], len: usize, c: Option<(usize, u32)>) -> Option<Cursor>
     requires { len + 5 ≤ length code.old }
     ensures { PutChar code.old code.new len c result }
 {
-    match c {
-        Char::Stop => Step::Stop,
-        Char::Next(b, x) => {
-            put_char(code, len, x);
-            Step::Next(Cursor {
-                at: b,
-                len: len + 5,
-            })
-        }
-    }
+    let (b, x) = c?;
+    put_char(code, len, x);
+    Some(Cursor {
+        at: b,
+        len: len + 5,
+    })
 }
 
 // An atom that is no group.
-pub fn leaf(s: &[u32], code: &mut [u32], st: Cursor) -> Step
+pub fn leaf(s: &[u32], code: &mut [u32], st: Cursor) -> Option<Cursor>
     requires { Room s.now code.old st 2 × (st.at < length s.now) }
     ensures { Post (out_leaf s.now st) 0 0 s.now code.old code.new st result }
 {
@@ -77,7 +66,7 @@ pub fn leaf(s: &[u32], code: &mut [u32], st: Cursor) -> Step
     }
     if is(s, at, 0x2E) {
         put_dot(code, len);
-        return Step::Next(Cursor {
+        return Some(Cursor {
             at: at + 1,
             len: len + 7,
         });
@@ -90,31 +79,30 @@ pub fn leaf(s: &[u32], code: &mut [u32], st: Cursor) -> Step
     put_read(code, len, c)
 }
 
-// The repeat q of the atom whose code stands from `from` on up to n.
-pub fn repeat(code: &mut [u32], from: usize, n: Cursor, q: Quant) -> Step
+// The repeat q of the atom whose code stands from `from` on up to n; where it ends.
+pub fn repeat(code: &mut [u32], from: usize, n: Cursor, q: Quant) -> Cursor
     requires { (from ≤ n.len) × (n.len + 3 ≤ length code.old) }
     ensures { Repeats code.old code.new from n q result }
 {
     let len = n.len;
     match q {
-        Quant::Stop => Step::Stop,
-        Quant::Once => Step::Next(n),
+        Quant::Once => n,
         Quant::Least(b, lo) => {
             insert(code, from, len, lo);
             insert(code, from, len + 1, 5);
-            Step::Next(Cursor {
+            Cursor {
                 at: b,
                 len: len + 2,
-            })
+            }
         }
         Quant::Upto(b, lo, hi) => {
             insert(code, from, len, hi);
             insert(code, from, len + 1, lo);
             insert(code, from, len + 2, 4);
-            Step::Next(Cursor {
+            Cursor {
                 at: b,
                 len: len + 3,
-            })
+            }
         }
     }
 }

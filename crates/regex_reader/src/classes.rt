@@ -4,25 +4,15 @@ ghost use Rattle.regex_code.specs.Flat.{flag};
 ghost use Rattle.basics.specs.Reads.{Wrote};
 ghost use Rattle.regex_reader.specs.Reads.{IsEnd, PostRanges, Room, Post, is_complement, out_class, out_ranges};
 
-use crate::steps::{Cursor, Step};
+use crate::steps::Cursor;
 use regex_leaves::chars::is;
-use regex_leaves::items::{Item, first, one_item};
-
-// The place behind the "]" and the number of ranges behind the first; or there is none.
-#[derive(Clone, Copy)]
-pub enum More {
-    Next(usize, usize),
-    Stop,
-}
+use regex_leaves::items::{first, one_item};
 
 // Whether "-]" stands at `at`.
 fn dash_end(s: &[u32], at: usize) -> bool
     ensures { IsEnd s.now at result }
 {
-    if !is(s, at, 0x2D) {
-        return false;
-    }
-    is(s, at + 1, 0x5D)
+    is(s, at, 0x2D) && is(s, at + 1, 0x5D)
 }
 
 fn put_range(code: &mut [u32], len: usize, lo: u32, hi: u32)
@@ -45,8 +35,8 @@ fn put_head(code: &mut [u32], len: usize, flag: u32, lo: u32, hi: u32)
     code[len + 4] = hi;
 }
 
-// The items behind the first, and the "]".
-fn items(s: &[u32], code: &mut [u32], at: usize, len: usize) -> More
+// The items behind the first, and the "]": the place behind it, and the number of these items.
+fn items(s: &[u32], code: &mut [u32], at: usize, len: usize) -> Option<(usize, usize)>
     requires { (at ≤ length s.now) × (len + 2 * (length s.now - at) ≤ length code.old) × (length s.now ≤ 1024) }
     ensures { PostRanges s.now code.old code.new at len result }
 {
@@ -54,50 +44,38 @@ fn items(s: &[u32], code: &mut [u32], at: usize, len: usize) -> More
     let mut n: usize = 0;
     loop {
         if is(s, i, 0x5D) {
-            return More::Next(i + 1, n);
+            return Some((i + 1, n));
         }
         if dash_end(s, i) {
             put_range(code, len + 2 * n, 0x2D, 0x2D);
-            return More::Next(i + 2, n + 1);
+            return Some((i + 2, n + 1));
         }
-        match one_item(s, i) {
-            Item::Stop => return More::Stop,
-            Item::Next(b, lo, hi) => {
-                put_range(code, len + 2 * n, lo, hi);
-                i = b;
-                n += 1;
-            }
-        }
+        let (b, lo, hi) = one_item(s, i)?;
+        put_range(code, len + 2 * n, lo, hi);
+        i = b;
+        n += 1;
     }
 }
 
 // Behind the "[" or the "[^".
-fn ranges(s: &[u32], code: &mut [u32], st: Cursor, sign: u32) -> Step
+fn ranges(s: &[u32], code: &mut [u32], st: Cursor, sign: u32) -> Option<Cursor>
     requires { Room s.now code.old st 2 × (flag (is_complement sign) ≡ sign) }
     ensures { Post (out_ranges sign s.now st) 4 0 s.now code.old code.new st result }
 {
     let at = st.at;
     let len = st.len;
-    match first(s, at) {
-        Item::Stop => Step::Stop,
-        Item::Next(b, lo, hi) => {
-            put_head(code, len, sign, lo, hi);
-            match items(s, code, b, len + 5) {
-                More::Stop => Step::Stop,
-                More::Next(e, n) => {
-                    code[len + 2] = (n + 1) as u32;
-                    Step::Next(Cursor {
-                        at: e,
-                        len: len + 5 + 2 * n,
-                    })
-                }
-            }
-        }
-    }
+    let (b, lo, hi) = first(s, at)?;
+    put_head(code, len, sign, lo, hi);
+    let (e, n) = items(s, code, b, len + 5)?;
+    code[len + 2] = (n + 1) as u32;
+    Some(Cursor {
+        at: e,
+        len: len + 5 + 2 * n,
+    })
 }
 
 // Behind the "[".
-pub fn class(s: &[u32], code: &mut [u32], st: Cursor) -> Step
+pub fn class(s: &[u32], code: &mut [u32], st: Cursor) -> Option<Cursor>
     requires { Room s.now code.old st 2 }
     ensures { Post (out_class s.now st) 4 0 s.now code.old code.new st result }
 {

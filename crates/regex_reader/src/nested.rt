@@ -4,62 +4,45 @@ ghost use Rattle.std.specs.Prelude.{◌+◌, ◌*◌, ◌≤◌, ◌<◌, length
 ghost use Rattle.regex_reader.specs.Reads.{Room, Post, out_atom, out_piece, out_branch, out_alternatives, ReadsWhole};
 
 use crate::atoms::{leaf, repeat, stop_at};
-use crate::steps::{Cursor, Step};
+use crate::steps::Cursor;
 use regex_leaves::chars::is;
 use regex_leaves::counts::quantifier;
 use regex_leaves::words::insert;
 
-// The place behind the code; or the characters are no expression of the part.
-#[derive(Clone, Copy)]
-pub enum Reading {
-    Code(usize),
-    Outside,
-}
-
 #[cycle(expressions)]
-fn atom(s: &[u32], code: &mut [u32], st: Cursor) -> Step
+fn atom(s: &[u32], code: &mut [u32], st: Cursor) -> Option<Cursor>
     requires { Room s.now code.old st 2 × (st.at < length s.now) }
     ensures { Post (out_atom s.now st) 1 0 s.now code.old code.new st result }
 {
-    let at = st.at;
-    let len = st.len;
-    if !is(s, at, 0x28) {
-        return leaf(s, code, Cursor { at, len });
+    if !is(s, st.at, 0x28) {
+        return leaf(s, code, st);
     }
-    match alts(s, code, Cursor { at: at + 1, len }) {
-        Step::Stop => Step::Stop,
-        Step::Next(n) => {
-            let end = n.at;
-            let out = n.len;
-            if is(s, end, 0x29) {
-                return Step::Next(Cursor {
-                    at: end + 1,
-                    len: out,
-                });
-            }
-            Step::Stop
-        }
+    let inside = Cursor {
+        at: st.at + 1,
+        len: st.len,
+    };
+    let n = alts(s, code, inside)?;
+    if is(s, n.at, 0x29) {
+        return Some(Cursor {
+            at: n.at + 1,
+            len: n.len,
+        });
     }
+    None
 }
 
 #[cycle(expressions)]
-fn piece(s: &[u32], code: &mut [u32], st: Cursor) -> Step
+fn piece(s: &[u32], code: &mut [u32], st: Cursor) -> Option<Cursor>
     requires { Room s.now code.old st 2 × (st.at < length s.now) }
     ensures { Post (out_piece s.now st) 2 0 s.now code.old code.new st result }
 {
-    let at = st.at;
-    let len = st.len;
-    match atom(s, code, Cursor { at, len }) {
-        Step::Stop => Step::Stop,
-        Step::Next(n) => {
-            let q = quantifier(s, n.at);
-            repeat(code, len, n, q)
-        }
-    }
+    let n = atom(s, code, st)?;
+    let q = quantifier(s, n.at)?;
+    Some(repeat(code, st.len, n, q))
 }
 
 #[cycle(expressions)]
-fn branch(s: &[u32], code: &mut [u32], st: Cursor) -> Step
+fn branch(s: &[u32], code: &mut [u32], st: Cursor) -> Option<Cursor>
     requires { Room s.now code.old st 3 }
     ensures { Post (out_branch s.now st) 3 2 s.now code.old code.new st result }
 {
@@ -68,57 +51,42 @@ fn branch(s: &[u32], code: &mut [u32], st: Cursor) -> Step
     loop {
         if stop_at(s, at) {
             code[len] = 0;
-            return Step::Next(Cursor { at, len: len + 1 });
+            return Some(Cursor { at, len: len + 1 });
         }
         code[len] = 2;
-        match piece(s, code, Cursor { at, len: len + 1 }) {
-            Step::Stop => return Step::Stop,
-            Step::Next(n) => {
-                at = n.at;
-                len = n.len;
-            }
-        }
+        let n = piece(s, code, Cursor { at, len: len + 1 })?;
+        at = n.at;
+        len = n.len;
     }
 }
 
 #[cycle(expressions)]
-fn alts(s: &[u32], code: &mut [u32], st: Cursor) -> Step
+fn alts(s: &[u32], code: &mut [u32], st: Cursor) -> Option<Cursor>
     requires { Room s.now code.old st 3 }
     ensures { Post (out_alternatives s.now st) 4 2 s.now code.old code.new st result }
 {
     let mut at = st.at;
     let mut len = st.len;
     loop {
-        match branch(s, code, Cursor { at, len }) {
-            Step::Stop => return Step::Stop,
-            Step::Next(n) => {
-                let end = n.at;
-                let out = n.len;
-                if !is(s, end, 0x7C) {
-                    return Step::Next(Cursor { at: end, len: out });
-                }
-                insert(code, len, out, 3);
-                at = end + 1;
-                len = out + 1;
-            }
+        let n = branch(s, code, Cursor { at, len })?;
+        if !is(s, n.at, 0x7C) {
+            return Some(n);
         }
+        insert(code, len, n.len, 3);
+        at = n.at + 1;
+        len = n.len + 1;
     }
 }
 
-// Reads the expression that the characters s are, and writes its code from `len` on.
-pub fn read(s: &[u32], code: &mut [u32], len: usize) -> Reading
+// Reads the expression that the characters s are, writes its code from `len` on, and answers the place behind it. None says that the characters are no
+// expression of the part.
+pub fn read(s: &[u32], code: &mut [u32], len: usize) -> Option<usize>
     requires { (length s.now ≤ 1024) × (len + 8 * length s.now + 3 ≤ length code.old) }
     ensures { ReadsWhole s.now code.old code.new len result }
 {
-    match alts(s, code, Cursor { at: 0, len }) {
-        Step::Stop => Reading::Outside,
-        Step::Next(n) => {
-            let end = n.at;
-            let out = n.len;
-            if end < s.len() {
-                return Reading::Outside;
-            }
-            Reading::Code(out)
-        }
+    let n = alts(s, code, Cursor { at: 0, len })?;
+    if n.at < s.len() {
+        return None;
     }
+    Some(n.len)
 }

@@ -1,15 +1,8 @@
-// Where the reader stands, and what one of its parts answers.
+// Where the reader stands.
 
-// The place of the next character, and the place of the next word.
+// The place of the next character, and the place of the next word. A part answers where it ends; None says that none stands there.
 #[derive(Clone, Copy)]
 pub struct Cursor {
     pub at: usize,
     pub len: usize,
-}
-
-// Where a part ends; or none stands there.
-#[derive(Clone, Copy)]
-pub enum Step {
-    Next(Cursor),
-    Stop,
 }

@@ -1,4 +1,5 @@
 -- Words written one behind the other are the code of an expression, and the code's answer is the definition's. Assumes nothing.
+use Rattle.std.specs.Prelude.{Option as Answer, Some, None}
 use mathlib.Core.Path.{◌≡◌, refl, ap, sym, ◌∙◌}
 use mathlib.Core.Bool.{Bool, true, false}
 use mathlib.Core.List.{List, [], ◌∷◌, ◌++◌}
@@ -18,8 +19,6 @@ use Rattle.regex_reader.proofs.Parts.{flat_behind}
 use Rattle.regex_bytes.specs.Bytes.{IsCode, ReadsBytes}
 use Rattle.regex_bytes.specs.Bytes.ReadsBytes.{code as bytes-code, outside as bytes-outside}
 use Rattle.regex_match.specs.Tested.{Tested}
-use Rattle.regex_reader.specs.declared.nested.Reading.{Reading}
-use Rattle.regex_reader.specs.declared.nested.Reading.TheVariants as reading
 use Rattle.regex_rooms.specs.Rooms.{scope_for, IsWidened, Widened}
 use Rattle.regex_rooms.specs.Rooms.Widened.{code, outside}
 use Rattle.regex_leaves.proofs.Stores.{at_front}
@@ -49,7 +48,7 @@ rooms n a b h = (omega arith, omega arith)
 
 -- ---- an expression that was read
 
-pub whole_read : {e p q : List ℕ} {r : Reading} → 8 * length e + 15 ≤ length p → ReadsBytes e p q 0 r → Widened whole e q r
+pub whole_read : {e p q : List ℕ} {r : Answer ℕ} → 8 * length e + 15 ≤ length p → ReadsBytes e p q 0 r → Widened whole e q r
 whole_read {e} {p} h (bytes-code n d) =
     let g = d.grown in
     let k : n ≡ length (flat d.expr []) = omega arith in
@@ -65,7 +64,7 @@ module _ {e p₀ p q : List ℕ} {n : ℕ} (h : 8 * length e + 15 ≤ length p�
   pub sought_fits : n + 5 ≤ length p₀
   sought_fits = let f = d.few in omega arith
 
-  pub sought_read : {q' : List ℕ} → Wrote q n anything q' → Widened part e q' (reading.Code (n + 5))
+  pub sought_read : {q' : List ℕ} → Wrote q n anything q' → Widened part e q' (Some (n + 5))
   sought_read {q'} v =
       let f = d.few in
       let g = d.grown in
@@ -79,18 +78,18 @@ module _ {e p₀ p q : List ℕ} {n : ℕ} (h : 8 * length e + 15 ≤ length p�
       let lb = length-append (before ++ flat x []) anything in
       code (n + 5) (record { expr = x; is = d.is; inside = omega arith; code = at_front (n + 5) b (omega arith) (omega arith) ∙ widened_words x })
 
-pub sought_none : {e p q : List ℕ} {n : ℕ} {q' : List ℕ} → ReadsBytes e p q n reading.Outside → Widened part e q' reading.Outside
+pub sought_none : {e p q : List ℕ} {n : ℕ} {q' : List ℕ} → ReadsBytes e p q n None → Widened part e q' None
 sought_none (bytes-outside o) = outside o
 
-pub sought_code : {e p q : List ℕ} {k n : ℕ} → ReadsBytes e p q k (reading.Code n) → IsCode e p q k n
+pub sought_code : {e p q : List ℕ} {k n : ℕ} → ReadsBytes e p q k (Some n) → IsCode e p q k n
 sought_code (bytes-code n d) = d
 
 -- ---- the kinds
 
-pub for_search : {e q : List ℕ} {r : Reading} (k : ℕ) → k ≡ 0x1D → Widened part e q r → Widened (scope_for k) e q r
+pub for_search : {e q : List ℕ} {r : Answer ℕ} (k : ℕ) → k ≡ 0x1D → Widened part e q r → Widened (scope_for k) e q r
 for_search k f w = rw f w
 
-pub for_match : {e q : List ℕ} {r : Reading} (k : ℕ) → (k ≡ 0x1D → ⊥) → Widened whole e q r → Widened (scope_for k) e q r
+pub for_match : {e q : List ℕ} {r : Answer ℕ} (k : ℕ) → (k ≡ 0x1D → ⊥) → Widened whole e q r → Widened (scope_for k) e q r
 for_match k f w = rw (ne_eqb k 0x1D f) w
 
 -- ---- answers
@@ -103,14 +102,14 @@ by_none : (scope : Scope) (t e : List ℕ) → regexp_of e ≡ none → false �
 unfolding regex_test test_by
 by_none scope t e i = ap (test_by scope (scalars_of t)) (sym i)
 
-outside_is : {scope : Scope} {e q : List ℕ} → Widened scope e q reading.Outside → regexp_of e ≡ none
+outside_is : {scope : Scope} {e q : List ℕ} → Widened scope e q None → regexp_of e ≡ none
 outside_is (outside o) = o
 
-pub code_is : {scope : Scope} {e q : List ℕ} {n : ℕ} → Widened scope e q (reading.Code n) → IsWidened scope e q n
+pub code_is : {scope : Scope} {e q : List ℕ} {n : ℕ} → Widened scope e q (Some n) → IsWidened scope e q n
 code_is (code n w) = w
 
 -- what is outside the part is false
-pub holds_none : (scope : Scope) (t : List ℕ) {e q : List ℕ} → Widened scope e q reading.Outside → false ≡ regex_test scope t e
+pub holds_none : (scope : Scope) (t : List ℕ) {e q : List ℕ} → Widened scope e q None → false ≡ regex_test scope t e
 holds_none scope t {e} w = by_none scope t e (outside_is w)
 
 pub holds_some : (scope : Scope) (t : List ℕ) {e q : List ℕ} {n : ℕ} (b : Bool) → is_utf8 t ≡ true → IsWidened scope e q n → Tested (take n q) t b → b ≡ regex_test scope t e

@@ -1,4 +1,5 @@
 -- How an expression is written for match and for search.
+use Rattle.std.specs.Prelude.{Option as Answer, Some, None}
 use Rattle.std.specs.Prelude.{◌≡◌, refl, cond, List, [], ℕ, ◌≤◌, eqb, length, take}
 use Rattle.std.proofs.Common.{sym}
 use Rattle.std.proofs.Math.Option.{none, some}
@@ -7,8 +8,6 @@ use Rattle.regex_definition.specs.Scope.{Scope, whole, part, widen}
 use Rattle.definition.specs.Plans.{scope_kind}
 use Rattle.definition.specs.Regexps.{regexp_of}
 use Rattle.regex_code.specs.Flat.{flat}
-use Rattle.regex_reader.specs.declared.nested.Reading.{Reading}
-use Rattle.regex_reader.specs.declared.nested.Reading.TheVariants as reading
 
 -- the scope of a plan kind
 abbrev pub scope_for : ℕ → Scope
@@ -26,6 +25,6 @@ pub record IsWidened (scope : Scope) (e q : List ℕ) (n : ℕ) : Type 0 where
   pub inside : n ≤ length q
   pub code : take n q ≡ flat (widen scope expr) []
 
-pub data Widened (scope : Scope) (e q : List ℕ) : Reading → Type 0 where
-  code : (n : ℕ) → IsWidened scope e q n → Widened scope e q (reading.Code n)
-  outside : regexp_of e ≡ none → Widened scope e q reading.Outside
+pub data Widened (scope : Scope) (e q : List ℕ) : Answer ℕ → Type 0 where
+  code : (n : ℕ) → IsWidened scope e q n → Widened scope e q (Some n)
+  outside : regexp_of e ≡ none → Widened scope e q None

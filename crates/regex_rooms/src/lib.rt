@@ -13,8 +13,6 @@ ghost use Rattle.definition.specs.Utf8.{is_utf8};
 ghost use Rattle.definition.specs.Regexps.{regex_test};
 ghost use Rattle.regex_rooms.specs.Rooms.{scope_for};
 
-use regex_reader::nested::Reading;
-
 // An expression of the part has at most so many bytes.
 const LONG: usize = 1024;
 
@@ -39,8 +37,8 @@ fn asked(kind: u8, text: &[u8], e: &[u8], chars: &mut [u32], code: &mut [u32]) -
     ensures { result ≡ regex_test (scope_for kind) text.now e.now }
 {
     match reads::read_widened(kind, e, chars, code) {
-        Reading::Outside => false,
-        Reading::Code(n) => marks::test_within(kind, &code[..n], text),
+        None => false,
+        Some(n) => marks::test_within(kind, &code[..n], text),
     }
 }
 

@@ -7,7 +7,6 @@ ghost use Rattle.regex_rooms.specs.Rooms.{scope_for, Widened};
 
 use plan_format::kinds::SEARCH;
 use regex_bytes::read_bytes;
-use regex_reader::nested::Reading;
 
 // The words of "any number of any characters".
 const ANYTHING: usize = 5;
@@ -38,23 +37,20 @@ fn put_before(code: &mut [u32])
 }
 
 // Reads the expression e for search.
-fn read_sought(e: &[u8], chars: &mut [u32], code: &mut [u32]) -> Reading
+fn read_sought(e: &[u8], chars: &mut [u32], code: &mut [u32]) -> Option<usize>
     requires e_value { is_utf8 e.now ≡ true }
     requires e_in_bounds { (length e.now ≤ length chars.old) × (8 * length e.now + 15 ≤ length code.old) }
     ensures { Widened part e.now code.new result }
 {
     put_before(code);
-    match read_bytes(e, chars, code, BEFORE) {
-        Reading::Outside => Reading::Outside,
-        Reading::Code(n) => {
-            put_anything(code, n);
-            Reading::Code(n + ANYTHING)
-        }
-    }
+    let n = read_bytes(e, chars, code, BEFORE)?;
+    put_anything(code, n);
+    Some(n + ANYTHING)
 }
 
-// Writes the code of the expression e, for match or search, from the beginning of `code` on, and answers its length.
-pub fn read_widened(kind: u8, e: &[u8], chars: &mut [u32], code: &mut [u32]) -> Reading
+// Writes the code of the expression e, for match or search, from the beginning of `code` on, and answers its length; None says that e is no expression
+// of the part.
+pub fn read_widened(kind: u8, e: &[u8], chars: &mut [u32], code: &mut [u32]) -> Option<usize>
     requires e_value { is_utf8 e.now ≡ true }
     requires e_in_bounds { (length e.now ≤ length chars.old) × (8 * length e.now + 15 ≤ length code.old) }
     ensures { Widened (scope_for kind) e.now code.new result }

@@ -5,13 +5,13 @@ use mathlib.Core.Path.{sym}
 use Rattle.regex_rooms.proofs.asked.Goals as goal
 
 pub slice_bounds-test_within-end : goal.slice_bounds-test_within-end
-slice_bounds-test_within-end c = (code_is (rw c.in-Code.is at c.read_widened.ensures)).inside
+slice_bounds-test_within-end c = (code_is c.in-Some.ensures).inside
 
-pub slice_bounds-test_within-end-in-Code : goal.slice_bounds-test_within-end-in-Code
-slice_bounds-test_within-end-in-Code c = sym (length-take-le _ _ (code_is (rw c.in-Code.is at c.read_widened.ensures)).inside)
+pub slice_bounds-test_within-end-in-Some : goal.slice_bounds-test_within-end-in-Some
+slice_bounds-test_within-end-in-Some c = sym (length-take-le _ _ (code_is c.in-Some.ensures).inside)
 
-pub returns-in-Outside : goal.returns-in-Outside
-returns-in-Outside c = holds_none _ _ (rw c.in-Outside.is at c.read_widened.ensures)
+pub returns-in-None : goal.returns-in-None
+returns-in-None c = holds_none _ _ c.in-None.ensures
 
-pub returns-in-Code : goal.returns-in-Code
-returns-in-Code c = holds_some _ _ _ c.requires.text_value.0 (code_is (rw c.in-Code.is at c.read_widened.ensures)) c.test_within.ensures
+pub returns-in-Some : goal.returns-in-Some
+returns-in-Some c = holds_some _ _ _ c.requires.text_value.0 (code_is c.in-Some.ensures) c.test_within.ensures

@@ -2,16 +2,14 @@
 use Rattle.regex_definition.specs.Chars.{is_normal}
 use Rattle.regex_leaves.proofs.OfChars.{bare_end, bare_next, bare_none}
 use mathlib.Core.Path.{sym, ◌∙◌}
+use native.Mathlib.Omega.{arith}
 use Rattle.regex_leaves.proofs.chars.normal.Goals as goal
 
--- src/chars.rt:146:9
-pub returns-then-s-at : goal.returns-then-s-at
-returns-then-s-at c = bare_end _ _ is_normal c.if-s-at.true
+pub returns-in_err-c : goal.returns-in_err-c
+returns-in_err-c c = rw c.from_residual.ensures (bare_end _ _ is_normal c.in_err-c.ensures.lookup.3)
 
--- src/chars.rt:150:9
 pub returns-then-is_normal : goal.returns-then-is_normal
-returns-then-is_normal c = bare_next _ _ is_normal c.if-s-at.false (sym c.is_normal.ensures ∙ c.if-is_normal.true)
+returns-then-is_normal c = let l = c.in_ok-c.ensures.lookup in bare_next _ _ is_normal l.3.0 (l.4 (omega arith) 0) (sym c.is_normal.ensures ∙ c.if-is_normal.true)
 
--- src/chars.rt:142:1
-pub returns : goal.returns
-returns c = bare_none _ _ is_normal c.if-s-at.false (sym c.is_normal.ensures ∙ c.if-is_normal.false)
+pub returns-else-is_normal : goal.returns-else-is_normal
+returns-else-is_normal c = let l = c.in_ok-c.ensures.lookup in bare_none _ _ is_normal l.3.0 (l.4 (omega arith) 0) (sym c.is_normal.ensures ∙ c.if-is_normal.false)

@@ -1,34 +1,16 @@
 -- `regex_leaves::counts::braces` meets its contract.
 use Rattle.regex_leaves.proofs.OfCounts.{braces_stop, braces_one, braces_two, braces_other}
-use native.Mathlib.Omega.{arith}
 use mathlib.Core.Path.{sym, ◌∙◌}
-use borrow.Author.Rules.{rules}
 use Rattle.regex_leaves.proofs.counts.braces.Goals as goal
 
--- src/counts.rt:99:36
-pub overflow_add-result : goal.overflow_add-result
-overflow_add-result c = let h = c.is.ensures.inside c.if-is.true in search (rules, h)
+pub returns-in_err-b : goal.returns-in_err-b
+returns-in_err-b c = rw c.from_residual.ensures (braces_stop _ _ c.in_err-b.ensures)
 
--- src/counts.rt:99:17
 pub returns-then-is : goal.returns-then-is
-returns-then-is c = braces_one _ _ (rw c.in-Next.is at c.count.ensures) (sym c.is.ensures.told ∙ c.if-is.true)
+returns-then-is c = braces_one _ _ c.in_ok-b.ensures (sym c.is.ensures.told ∙ c.if-is.true)
 
--- src/counts.rt:102:33
-pub overflow_add-b : goal.overflow_add-b
-overflow_add-b c = let h = c.is-in-Next.ensures.inside c.if-is-2.true in search (rules, h)
-
--- src/counts.rt:102:17
-pub upper-requires : goal.upper-requires
-upper-requires c = let h = c.is-in-Next.ensures.inside c.if-is-2.true in omega (arith, h)
-
--- src/counts.rt:102:17
 pub returns-then-is-2 : goal.returns-then-is-2
-returns-then-is-2 c = braces_two _ _ (rw c.in-Next.is at c.count.ensures) (sym c.is.ensures.told ∙ c.if-is.false) (sym c.is-in-Next.ensures.told ∙ c.if-is-2.true) c.upper.ensures
+returns-then-is-2 c = braces_two _ _ c.in_ok-b.ensures (sym c.is.ensures.told ∙ c.if-is.false) (sym c.is-2.ensures.told ∙ c.if-is-2.true) c.upper.ensures
 
--- src/counts.rt:91:1
-pub returns-in-Stop : goal.returns-in-Stop
-returns-in-Stop c = braces_stop _ _ (rw c.in-Stop.is at c.count.ensures)
-
--- src/counts.rt:91:1
-pub returns-else-is-2 : goal.returns-else-is-2
-returns-else-is-2 c = braces_other _ _ (rw c.in-Next.is at c.count.ensures) (sym c.is.ensures.told ∙ c.if-is.false) (sym c.is-in-Next.ensures.told ∙ c.if-is-2.false)
+pub returns : goal.returns
+returns c = braces_other _ _ c.in_ok-b.ensures (sym c.is.ensures.told ∙ c.if-is.false) (sym c.is-2.ensures.told ∙ c.if-is-2.false)

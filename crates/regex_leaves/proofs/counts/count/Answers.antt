@@ -1,15 +1,10 @@
 -- `regex_leaves::counts::count` meets its contract.
-use borrow.Author.Tests.{not-true, not-false}
 use Rattle.regex_leaves.proofs.OfCounts.{count_none, count_some}
 use mathlib.Core.Path.{sym, ◌∙◌}
-use mathlib.Core.Path.{ap}
-use mathlib.Core.Bool.{not}
 use Rattle.regex_leaves.proofs.counts.count.Goals as goal
 
--- src/counts.rt:66:9
-pub returns-then-not-digit_at : goal.returns-then-not-digit_at
-returns-then-not-digit_at c = count_none _ _ (sym c.digit_at.ensures ∙ not-true c.digit_at.result (ap not c.if-not-digit_at.true))
+pub returns-then-digit_at : goal.returns-then-digit_at
+returns-then-digit_at c = count_some _ _ (sym c.digit_at.ensures ∙ c.if-digit_at.true) c.digits.ensures
 
--- src/counts.rt:61:1
-pub returns : goal.returns
-returns c = count_some _ _ (sym c.digit_at.ensures ∙ not-false c.digit_at.result (ap not c.if-not-digit_at.false)) c.digits.ensures
+pub returns-else-digit_at : goal.returns-else-digit_at
+returns-else-digit_at c = count_none _ _ (sym c.digit_at.ensures ∙ c.if-digit_at.false)

@@ -1,11 +1,6 @@
--- `regex_leaves::counts::digits` meets its contract. The loop's invariant: the digits that were passed stand for the number so far. The measure is what is left.
+-- `regex_leaves::counts::digits` meets its contract. The loop's invariant: the digits that were passed stand for the number so far.
 use Rattle.regex_leaves.proofs.OfCounts.{Passed}
-use lib.ListN.{length}
-use Prim.Native.Nat.{◌-◌}
 use Rattle.regex_leaves.proofs.counts.digits.Given as goal
 
 abbrev pub invariant-loop-i : goal.invariant-loop-i
 invariant-loop-i l = Passed l.s l.at l.i l.v
-
-abbrev pub decreases-loop-i : goal.decreases-loop-i
-decreases-loop-i l = length l.s - l.i

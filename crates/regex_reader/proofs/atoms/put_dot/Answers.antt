@@ -4,30 +4,23 @@ use native.Mathlib.Numerals.{towards_suc}
 use native.Mathlib.Omega.{arith}
 use Rattle.regex_reader.proofs.atoms.put_dot.Goals as goal
 
--- src/atoms.rt:39:5
 pub bounds-code-len-2 : goal.bounds-code-len-2
 bounds-code-len-2 c = simp length-set (omega arith)
 
--- src/atoms.rt:40:5
 pub bounds-code-len-3 : goal.bounds-code-len-3
 bounds-code-len-3 c = simp length-set (omega arith)
 
--- src/atoms.rt:41:5
 pub bounds-code-len-4 : goal.bounds-code-len-4
 bounds-code-len-4 c = simp length-set (omega arith)
 
--- src/atoms.rt:42:5
 pub bounds-code-len-5 : goal.bounds-code-len-5
 bounds-code-len-5 c = simp length-set (omega arith)
 
--- src/atoms.rt:43:5
 pub bounds-code-len-6 : goal.bounds-code-len-6
 bounds-code-len-6 c = simp length-set (omega arith)
 
--- src/atoms.rt:44:5
 pub bounds-code-len-7 : goal.bounds-code-len-7
 bounds-code-len-7 c = simp length-set (omega arith)
 
--- src/atoms.rt:34:1
 pub returns : goal.returns
 returns c = record { is = simp towards_suc }

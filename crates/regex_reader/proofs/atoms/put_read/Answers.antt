@@ -2,10 +2,8 @@
 use Rattle.regex_reader.specs.Reads.PutChar.{next, stop}
 use Rattle.regex_reader.proofs.atoms.put_read.Goals as goal
 
--- src/atoms.rt:59:1
-pub returns-in-Stop : goal.returns-in-Stop
-returns-in-Stop c = rw c.in-Stop.is stop
+pub returns-in_err-b : goal.returns-in_err-b
+returns-in_err-b c = rw (c.in_err-b.was, c.from_residual.ensures) stop
 
--- src/atoms.rt:59:1
-pub returns-in-Next : goal.returns-in-Next
-returns-in-Next c = rw c.in-Next.is (next _ _ c.put_char.ensures)
+pub returns : goal.returns
+returns c = rw c.in_ok-b.was (next _ _ c.put_char.ensures)

@@ -4,14 +4,11 @@ use Rattle.regex_reader.proofs.OfClasses.{class_complement, class_plain}
 use mathlib.Core.Path.{refl}
 use Rattle.regex_reader.proofs.classes.class.Goals as goal
 
--- src/classes.rt:113:9
 pub ranges-requires : goal.ranges-requires
 ranges-requires c = (room_less (room_on c.requires (c.is.ensures.inside c.if-is.true)), refl)
 
--- src/classes.rt:113:9
 pub returns-then-is : goal.returns-then-is
 returns-then-is c = class_complement _ _ _ _ 0 c.is.ensures c.if-is.true c.ranges-then-is.ensures
 
--- src/classes.rt:106:1
 pub returns : goal.returns
 returns c = class_plain _ _ _ _ 0 c.is.ensures c.if-is.false c.ranges-2.ensures

@@ -4,22 +4,17 @@ use native.Mathlib.Numerals.{towards_suc}
 use native.Mathlib.Omega.{arith}
 use Rattle.regex_reader.proofs.classes.put_head.Goals as goal
 
--- src/classes.rt:48:5
 pub bounds-code-len-2 : goal.bounds-code-len-2
 bounds-code-len-2 c = simp length-set (omega arith)
 
--- src/classes.rt:49:5
 pub bounds-code-len-3 : goal.bounds-code-len-3
 bounds-code-len-3 c = simp length-set (omega arith)
 
--- src/classes.rt:50:5
 pub bounds-code-len-4 : goal.bounds-code-len-4
 bounds-code-len-4 c = simp length-set (omega arith)
 
--- src/classes.rt:51:5
 pub bounds-code-len-5 : goal.bounds-code-len-5
 bounds-code-len-5 c = simp length-set (omega arith)
 
--- src/classes.rt:43:1
 pub returns : goal.returns
 returns c = record { is = simp towards_suc }

@@ -4,10 +4,8 @@ use native.Mathlib.Numerals.{towards_suc}
 use native.Mathlib.Omega.{arith}
 use Rattle.regex_reader.proofs.classes.put_range.Goals as goal
 
--- src/classes.rt:39:5
 pub bounds-code-len-2 : goal.bounds-code-len-2
 bounds-code-len-2 c = simp length-set (omega arith)
 
--- src/classes.rt:34:1
 pub returns : goal.returns
 returns c = record { is = simp towards_suc }
