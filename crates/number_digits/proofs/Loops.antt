@@ -63,14 +63,14 @@ begin s from start h l = record { digits = []; good = refl; text = refl; value =
 
 module _ (s : List ℕ) (from start acc i : ℕ) (P : Passed s from start acc i) where
   -- A digit is passed.
-  pub pass : i < length s → 48 ≤ get_or s i 0 → get_or s i 0 ≤ 57 → Passed s from start (min limit (acc * 10 + (get_or s i 0 - 48))) (i + 1)
-  pass h l u =
+  pub pass : i < length s → is_digit_lem (get_or s i 0) ≡ true → Passed s from start (min limit (acc * 10 + (get_or s i 0 - 48))) (i + 1)
+  pass h t =
       let c = get_or s i 0 in
       let ds = P.digits in
       let n = P.count in
       record {
         digits = ds ++ c ∷ [];
-        good = every_end is_digit_lem ds c P.good (is_digit c l u);
+        good = every_end is_digit_lem ds c P.good t;
         text = P.text ∙ ap (λ (r : List ℕ). ds ++ r) (drop_at s i h) ∙ sym (append_assoc ds (c ∷ []) (drop (i + 1) s));
         value = ap (λ (a : ℕ). min limit (a * 10 + (c - 48))) P.value ∙ kept_once (decimal_from start ds) (c - 48) ∙ ap (min limit) (sym (decimal_end start ds c));
         count = omega (arith, length-append ds (c ∷ []));
@@ -85,12 +85,6 @@ module _ (s : List ℕ) (from start acc i : ℕ) (P : Passed s from start acc i)
   unfolding StartsNot
   at_end h = stop (rw (drop_of_length-le s h) tt)
 
-  here : i < length s → is_digit_lem (get_or s i 0) ≡ false → DigitRun s from start i acc
+  pub stops : i < length s → is_digit_lem (get_or s i 0) ≡ false → DigitRun s from start i acc
   unfolding StartsNot
-  here h n = stop (rw (drop_at s i h) n)
-
-  pub at_low : i < length s → get_or s i 0 < 48 → DigitRun s from start i acc
-  at_low h l = here h (below_digits (get_or s i 0) l)
-
-  pub at_high : i < length s → 57 < get_or s i 0 → DigitRun s from start i acc
-  at_high h l = here h (above_digits (get_or s i 0) l)
+  stops h n = stop (rw (drop_at s i h) n)

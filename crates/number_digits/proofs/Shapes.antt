@@ -1,10 +1,11 @@
 -- What a run of digits says of a number without a sign at its place. Assumes nothing.
 use mathlib.Core.Path.{◌≡◌, refl, sym, ap, ◌∙◌}
-use mathlib.Core.Bool.{true}
+use mathlib.Core.Bool.{Bool, true, false}
 use mathlib.Core.List.{List, [], ◌∷◌, ◌++◌}
-use Prim.Native.Nat.{ℕ, ◌+◌, ◌-◌, ◌<◌, min}
+use Prim.Native.Nat.{ℕ, suc, ◌+◌, ◌-◌, ◌<◌, min}
 use native.Mathlib.Omega.{arith}
-use borrow.Author.Tests.{le-leb}
+use borrow.Author.Tests.{le-leb, eqb-true, eqb-false}
+use lib.Dec.{eqb}
 use lib.ListN.{length, drop, get_or}
 use Rattle.number_integers.specs.Tests.{both}
 use Rattle.definition.specs.Bytes.{every}
@@ -13,8 +14,9 @@ use Rattle.definition.specs.Literals.{decimal_from}
 use Rattle.basics.specs.Lists.{drop_at}
 use Rattle.basics.specs.Reads.{StartsNot, ReadsNone}
 use Rattle.number_digits.specs.Runs.{limit, DigitRun}
-use Rattle.number_digits.specs.Unsigned.{Unsigned, zero_unsigned, natural_unsigned, spell_unsigned, UnsignedAnswer, zero_read, positive_read, nothing_read}
-use Rattle.number_digits.specs.declared.UnsignedRead.TheVariants.{Zero, Positive, Nothing}
+use Rattle.number_digits.specs.Unsigned.{Unsigned, zero_unsigned, natural_unsigned, spell_unsigned, UnsignedAnswer, unsigned_read, nothing_read}
+use Rattle.number_digits.specs.declared.Run.{Run}
+use Rattle.std.specs.Prelude.{Ok, Err}
 use Rattle.number_digits.proofs.Unique.{begins, digit1_bounds, digit1_digit, digit_bounds}
 
 -- A digit that is no 0 is one from 1 on.
@@ -42,52 +44,49 @@ leading_zero_lem d t g = record { none = go }
         let b = digit1_bounds k.first k.is_first in
         omega arith
 
-module _ (s : List ℕ) (at end v : ℕ) (R : DigitRun s at 0 end v) where
+module _ (s : List ℕ) (at : ℕ) (r : Run) (R : DigitRun s at 0 r.end r.value) where
   -- No digit: nothing stands there.
-  pub none_there : end ≡ at → UnsignedAnswer s at (Nothing at)
+  pub none_there : r.end ≡ at → UnsignedAnswer s at (Err at)
   none_there e =
       let c = R.to in
       nothing_read {place = at} (omega arith) (omega arith) (no_digit (drop at s) (rw e at R.stop))
 
   -- The first of some digits is the byte there.
-  first_is : (d : ℕ) (ds : List ℕ) → drop at s ≡ (d ∷ ds) ++ drop end s → at < length s → get_or s at 0 ≡ d
+  first_is : (d : ℕ) (ds : List ℕ) → drop at s ≡ (d ∷ ds) ++ drop r.end s → at < length s → get_or s at 0 ≡ d
   first_is d ds t h = let e = drop_at s at h in cc
 
-  -- Digits that begin with no 0 are a number.
-  pub number_there : (end ≡ at → ⊥) → (get_or s at 0 ≡ 48 → ⊥) → UnsignedAnswer s at (Positive end v)
+  -- Digits that begin with no 0 are a number, and so is a single 0.
+  by_first : (d : ℕ) (ds : List ℕ) → is_digit_lem d ≡ true → every is_digit_lem ds ≡ true → drop at s ≡ (d ∷ ds) ++ drop r.end s → r.value ≡ min limit (decimal_from 0 (d ∷ ds)) → r.end ≡ at + suc (length ds) → (d ≡ 48 → r.end - at ≡ 1)
+      → (o : Bool) → eqb d 48 ≡ o → UnsignedAnswer s at (Ok r)
+  by_first d [] i g t w c z true e =
+      let k = R.to in
+      let f : d ≡ 48 = eqb-true d 48 e in
+      unsigned_read zero_unsigned (record { from = omega arith; to = k; text = t ∙ ap (λ (x : ℕ). x ∷ drop r.end s) f; stop = R.stop }) (w ∙ ap (λ (x : ℕ). min limit (decimal_from 0 (x ∷ []))) f)
+  by_first d (x ∷ ds) i g t w c z true e = let f = z (eqb-true d 48 e) in absurd (omega arith)
+  by_first d ds i g t w c z false e =
+      let k = R.to in
+      unsigned_read (natural_unsigned (record { first = d; more = ds; is_first = not_zero d i (eqb-false d 48 e); are_more = g })) (record { from = omega arith; to = k; text = t; stop = R.stop }) w
+
+  pub number_there : (r.end ≡ at → ⊥) → (get_or s at 0 ≡ 48 → r.end - at ≡ 1) → UnsignedAnswer s at (Ok r)
   number_there h z = go R.digits R.good R.text R.value R.count
     where
-      go : (ds : List ℕ) → every is_digit_lem ds ≡ true → drop at s ≡ ds ++ drop end s → v ≡ min limit (decimal_from 0 ds) → end ≡ at + length ds → UnsignedAnswer s at (Positive end v)
+      go : (ds : List ℕ) → every is_digit_lem ds ≡ true → drop at s ≡ ds ++ drop r.end s → r.value ≡ min limit (decimal_from 0 ds) → r.end ≡ at + length ds → UnsignedAnswer s at (Ok r)
       go [] g t w c = absurd (h (omega arith))
       go (d ∷ ds) g t w c =
           let b = both (is_digit_lem d) (every is_digit_lem ds) g in
           let k = R.to in
-          let f = first_is d ds t (omega arith) in
-          positive_read {end = end} (record { first = d; more = ds; is_first = not_zero d b.0 (λ e. z (f ∙ e)); are_more = b.1 })
-          (record { from = omega arith; to = k; text = t; stop = R.stop }) w
-
-  -- A single 0 is one.
-  pub zero_there : get_or s at 0 ≡ 48 → end - at ≡ 1 → UnsignedAnswer s at (Zero end)
-  zero_there z o = go R.digits R.text R.count
-    where
-      go : (ds : List ℕ) → drop at s ≡ ds ++ drop end s → end ≡ at + length ds → UnsignedAnswer s at (Zero end)
-      go [] t c = absurd (omega arith)
-      go (d ∷ []) t c =
-          let k = R.to in
-          let f = first_is d [] t (omega arith) in
-          zero_read {end = end} (record { from = omega arith; to = k; text = t ∙ ap (λ (x : ℕ). x ∷ drop end s) (sym f ∙ z); stop = R.stop })
-      go (d ∷ x ∷ ds) t c = absurd (omega arith)
+          by_first d ds b.0 b.1 t w c (λ e. z (first_is d ds t (omega arith) ∙ e)) (eqb d 48) refl
 
   -- A 0 before other digits is none.
-  pub zero_first : (end ≡ at → ⊥) → get_or s at 0 ≡ 48 → (end - at ≡ 1 → ⊥) → UnsignedAnswer s at (Nothing (at + 1))
+  pub zero_first : (r.end ≡ at → ⊥) → get_or s at 0 ≡ 48 → (r.end - at ≡ 1 → ⊥) → UnsignedAnswer s at (Err (at + 1))
   zero_first h z o = go R.digits R.good R.text R.count
     where
-      go : (ds : List ℕ) → every is_digit_lem ds ≡ true → drop at s ≡ ds ++ drop end s → end ≡ at + length ds → UnsignedAnswer s at (Nothing (at + 1))
+      go : (ds : List ℕ) → every is_digit_lem ds ≡ true → drop at s ≡ ds ++ drop r.end s → r.end ≡ at + length ds → UnsignedAnswer s at (Err (at + 1))
       go [] g t c = absurd (h (omega arith))
       go (d ∷ []) g t c = absurd (o (omega arith))
       go (d ∷ x ∷ ds) g t c =
           let b = both (is_digit_lem x) (every is_digit_lem ds) (both (is_digit_lem d) (every is_digit_lem (x ∷ ds)) g).1 in
           let k = R.to in
           let f = first_is d (x ∷ ds) t (omega arith) in
-          let e : drop at s ≡ 0x30 ∷ x ∷ (ds ++ drop end s) = t ∙ ap (λ (y : ℕ). y ∷ x ∷ (ds ++ drop end s)) (sym f ∙ z) in
-          nothing_read {place = at + 1} (omega arith) (omega arith) (rw e (leading_zero_lem x (ds ++ drop end s) b.0))
+          let e : drop at s ≡ 0x30 ∷ x ∷ (ds ++ drop r.end s) = t ∙ ap (λ (y : ℕ). y ∷ x ∷ (ds ++ drop r.end s)) (sym f ∙ z) in
+          nothing_read {place = at + 1} (omega arith) (omega arith) (rw e (leading_zero_lem x (ds ++ drop r.end s) b.0))

@@ -2,13 +2,14 @@
 use mathlib.Core.Path.{◌≡◌, refl, sym, ◌∙◌}
 use mathlib.Core.Bool.{Bool, true, true≢false}
 use mathlib.Core.List.{List, [], ◌∷◌, ◌++◌}
-use Prim.Native.Nat.{ℕ, ◌≤◌}
+use Prim.Native.Nat.{ℕ, ◌+◌, ◌-◌, ◌*◌, ◌≤◌, ◌<◌}
 use native.Mathlib.Omega.{arith}
 use borrow.Author.Tests.{le-leb, leb-true}
 use lib.Dec.{leb}
 use Rattle.number_integers.specs.Tests.{both}
 use Rattle.definition.specs.Bytes.{every}
-use Rattle.definition.specs.Lexical.{is_digit_lem, is_digit1}
+use Rattle.definition.specs.Lexical.{Natural, is_digit_lem, is_digit1}
+use Rattle.definition.specs.Literals.{decimal, decimal_from, natural_digits}
 use Rattle.basics.specs.Reads.{StartsNot}
 use Rattle.number_digits.specs.Unsigned.{Unsigned, zero_unsigned, natural_unsigned, spell_unsigned, unsigned_digits}
 
@@ -56,3 +57,19 @@ unsigned_good (natural_unsigned n) = rw (digit1_digit n.first n.is_first) n.are_
 -- Two of them that spell one text, with no digit behind them, have the same digits and the same rest.
 pub unsigned_only : (u v : Unsigned) (r q : List ℕ) → StartsNot is_digit_lem r → StartsNot is_digit_lem q → spell_unsigned u r ≡ spell_unsigned v q → (unsigned_digits u ≡ unsigned_digits v) × (r ≡ q)
 unsigned_only u v r q m n e = same_run is_digit_lem (unsigned_digits u) (unsigned_digits v) r q (unsigned_good u) (unsigned_good v) m n (sym (unsigned_run u r) ∙ e ∙ unsigned_run v q)
+
+-- ---- numbers above 0
+
+-- More digits make a number no smaller.
+decimal_grows : (n : ℕ) (ds : List ℕ) → n ≤ decimal_from n ds
+unfolding decimal_from
+decimal_grows n [] = omega arith
+decimal_grows n (d ∷ ds) = let h = decimal_grows (n * 10 + (d - 48)) ds in omega arith
+
+-- A number that begins with a digit from 1 on is above 0.
+pub natural_above : (n : Natural) → 0 < decimal (natural_digits n)
+unfolding decimal_from
+natural_above n =
+    let b = digit1_bounds n.first n.is_first in
+    let h = decimal_grows (0 * 10 + (n.first - 48)) n.more in
+    omega arith

@@ -1,11 +1,10 @@
 -- "0" / DIGIT1 *DIGIT: what an int and the digits before a fraction have in common, without their sign.
-use Rattle.std.specs.Prelude.{◌≡◌, List, [], ◌∷◌, ℕ, ◌≤◌, ◌<◌, min, length, drop}
+use Rattle.std.specs.Prelude.{◌≡◌, List, [], ◌∷◌, ℕ, ◌≤◌, ◌<◌, min, length, drop, Result, Ok, Err}
 use Rattle.definition.specs.Lexical.{Natural, is_digit_lem, spell_natural}
 use Rattle.definition.specs.Literals.{decimal, natural_digits}
 use Rattle.basics.specs.Reads.{StartsNot, ReadsNone}
 use Rattle.number_digits.specs.Runs.{limit}
-use Rattle.number_digits.specs.declared.UnsignedRead.{UnsignedRead}
-use Rattle.number_digits.specs.declared.UnsignedRead.TheVariants.{Zero, Positive, Nothing}
+use Rattle.number_digits.specs.declared.Run.{Run}
 
 pub data Unsigned : Type 0 where
   zero_unsigned : Unsigned
@@ -26,8 +25,7 @@ pub record UnsignedAt (s : List ℕ) (at end : ℕ) (u : Unsigned) : Type 0 wher
   pub text : drop at s ≡ spell_unsigned u (drop end s)
   pub stop : StartsNot is_digit_lem (drop end s)
 
--- What `read_unsigned` answers: a zero, another number with its value kept at the limit, or that none stands there which no digit follows.
-pub data UnsignedAnswer (s : List ℕ) (at : ℕ) : UnsignedRead → Type 0 where
-  zero_read : {end : ℕ} → UnsignedAt s at end zero_unsigned → UnsignedAnswer s at (Zero end)
-  positive_read : {end v : ℕ} (n : Natural) → UnsignedAt s at end (natural_unsigned n) → v ≡ min limit (decimal (natural_digits n)) → UnsignedAnswer s at (Positive end v)
-  nothing_read : {place : ℕ} → at ≤ place → place ≤ length s → ReadsNone spell_unsigned (StartsNot is_digit_lem) (drop at s) → UnsignedAnswer s at (Nothing place)
+-- What `read_unsigned` answers: where a number ends, with its value kept at the limit, or that none stands there which no digit follows.
+pub data UnsignedAnswer (s : List ℕ) (at : ℕ) : Result Run ℕ → Type 0 where
+  unsigned_read : {r : Run} (u : Unsigned) → UnsignedAt s at r.end u → r.value ≡ min limit (decimal (unsigned_digits u)) → UnsignedAnswer s at (Ok r)
+  nothing_read : {place : ℕ} → at ≤ place → place ≤ length s → ReadsNone spell_unsigned (StartsNot is_digit_lem) (drop at s) → UnsignedAnswer s at (Err place)

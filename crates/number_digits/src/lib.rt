@@ -22,14 +22,6 @@ pub struct Run {
     pub value: u64,
 }
 
-// What stands at a place: a single 0, or a number that begins with another digit, each with its end; or neither, with the byte that is in the way.
-#[derive(Clone, Copy)]
-pub enum UnsignedRead {
-    Zero(usize),
-    Positive(usize, u64),
-    Nothing(usize),
-}
-
 // Whether the byte x stands at a place.
 pub fn is(s: &[u8], at: usize, x: u8) -> bool
     requires { at ≤ length s.now }
@@ -50,50 +42,38 @@ fn push(acc: u64, d: u64) -> u64
     }
 }
 
-fn wide(x: u8) -> u64
-    ensures { result ≡ x }
-{
-    x as u64
-}
-
 // The digits from a place on: where they end, and what they write behind the number `start`.
 pub fn digits(s: &[u8], from: usize, start: u64) -> Run
     requires { (from ≤ length s.now) × (start ≤ limit) }
     ensures { DigitRun s.now from start result.end result.value }
 {
     let mut acc = start;
-    let mut i = from;
-    while i < s.len() {
+    for i in from..s.len() {
         let b = s[i];
-        if b < b'0' {
+        if !b.is_ascii_digit() {
             return Run { end: i, value: acc };
         }
-        if b'9' < b {
-            return Run { end: i, value: acc };
-        }
-        acc = push(acc, wide(b) - 48);
-        i += 1;
+        acc = push(acc, u64::from(b - b'0'));
     }
-    Run { end: i, value: acc }
+    Run {
+        end: s.len(),
+        value: acc,
+    }
 }
 
-// The number without a sign that stands at a place and that no digit follows: no 0 stands before another digit.
-pub fn read_unsigned(s: &[u8], at: usize) -> UnsignedRead
+// The number without a sign that stands at a place and that no digit follows, where no 0 stands before another digit; or the byte that is in the way.
+pub fn read_unsigned(s: &[u8], at: usize) -> Result<Run, usize>
     requires { at ≤ length s.now }
     ensures { UnsignedAnswer s.now at result }
 {
     let r = digits(s, at, 0);
-    let end = r.end;
-    if end == at {
-        return UnsignedRead::Nothing(at);
+    if r.end == at {
+        return Err(at);
     }
-    if s[at] != b'0' {
-        return UnsignedRead::Positive(end, r.value);
+    if s[at] == b'0' && r.end - at != 1 {
+        return Err(at + 1);
     }
-    if end - at == 1 {
-        return UnsignedRead::Zero(end);
-    }
-    UnsignedRead::Nothing(at + 1)
+    Ok(r)
 }
 
 // A magnitude with its sign, as an i64 that holds it.

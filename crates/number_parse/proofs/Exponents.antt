@@ -15,7 +15,7 @@ use Rattle.number_digits.specs.Runs.{Is, DigitRun}
 use Rattle.number_digits.proofs.Unique.{begins, digit_bounds}
 use Rattle.number_parse.specs.Parts.{DigitsAt, has_exponent, is_low, exponent_digits, AfterExponent, ExponentAnswer, exponent_end, bad_exponent, PowerAnswer, power_end, bad_power, LetterAt}
 use Rattle.number_parse.specs.declared.ExponentRead.{ExponentRead}
-use Rattle.number_parse.specs.declared.ExponentRead.TheVariants.{ExponentEnd, BadExponent}
+use Rattle.std.specs.Prelude.{Result, Ok, Err}
 use Rattle.number_parse.proofs.Fractions.{digits_only, digits_there, digits_none}
 
 -- ---- signs
@@ -82,33 +82,33 @@ exponent_only (exponent c h g d) (exponent b k f w) r q m n e =
 
 module _ (s : List ℕ) (at end v : ℕ) (low : Bool) (R : DigitRun s at 0 end v) where
   -- No digits are no power, and some are one.
-  pub no_power : end ≡ at → PowerAnswer s at low (BadExponent end)
-  no_power e = bad_power {place = end} (omega arith) R.to (rw e at R.stop)
+  pub no_power : end ≡ at → PowerAnswer s at low (Err at)
+  no_power e = let t = R.to in bad_power {place = at} (omega arith) (omega arith) (rw e at R.stop)
 
-  pub power_there : (end ≡ at → ⊥) → PowerAnswer s at low (ExponentEnd end true low v)
-  power_there h = power_end (digits_there s at 0 end v R h)
+  pub power_there : (end ≡ at → ⊥) → PowerAnswer s at low (Ok (record { end = end; given = true; low = low; value = v }))
+  power_there h = power_end {r = record { end = end; given = true; low = low; value = v }} (digits_there s at 0 end v R h) refl refl
 
 -- ---- behind a letter and a sign
 
 -- The text behind the letter is the sign g and the text from a place on, whatever digits are read there.
 module _ (s : List ℕ) (at from : ℕ) (g : Sign) (L : LetterAt s at) (low : at < from) (text : drop (at + 1) s ≡ spell_sign g (drop from s))
     (only : (k : Sign) (d : Digits) (r : List ℕ) → drop (at + 1) s ≡ spell_sign k (spell_digits d r) → drop from s ≡ spell_digits d r) where
-  found : (end v : ℕ) → DigitsAt s from 0 end v → ExponentAnswer s at (ExponentEnd end true (low_sign g) v)
-  found end v D =
+  found : (r : ExponentRead) → DigitsAt s from 0 r.end r.value → r.given ≡ true → r.low ≡ low_sign g → ExponentAnswer s at (Ok r)
+  found r D h l =
       let x = exponent L.letter L.good g D.tree in
-      exponent_end {end = end} {given = true} {low = low_sign g} {exp = v}
+      exponent_end {r = r}
       (record {
         from = omega (arith, D.from);
         to = D.to;
         tree = x;
         text = L.text ∙ ap (λ (t : List ℕ). L.letter ∷ t) (text ∙ ap (spell_sign g) D.text);
         stop = D.stop;
-        has = refl;
-        sign = sym (low_is L.letter L.good g D.tree);
+        has = h;
+        sign = l ∙ sym (low_is L.letter L.good g D.tree);
         value = D.value;
       })
 
-  bad : (place : ℕ) → from ≤ place → place ≤ length s → StartsNot is_digit_lem (drop from s) → ExponentAnswer s at (BadExponent place)
+  bad : (place : ℕ) → from ≤ place → place ≤ length s → StartsNot is_digit_lem (drop from s) → ExponentAnswer s at (Err place)
   bad place f t n = bad_exponent {place = place} (omega arith) t (record { none = go })
     where
       go : (x : Exponent) (r : List ℕ) → AfterExponent x r → drop at s ≡ spell_exponent x r → ⊥
@@ -119,12 +119,12 @@ module _ (s : List ℕ) (at from : ℕ) (g : Sign) (L : LetterAt s at) (low : at
           digits_none d r (drop from s) n (only k d r j)
 
   -- What the digits say, the exponent says.
-  pub behind : (r : ExponentRead) → PowerAnswer s from (low_sign g) r → ExponentAnswer s at r
-  behind r (power_end {end = end} {exp = v} D) = found end v D
+  pub behind : (r : Result ExponentRead ℕ) → PowerAnswer s from (low_sign g) r → ExponentAnswer s at r
+  behind r (power_end {r = q} D h l) = found q D h l
   behind r (bad_power {place = place} f t n) = bad place f t n
 
 module _ (s : List ℕ) (at : ℕ) (L : LetterAt s at) where
-  pub minus_power : (r : ExponentRead) → Is s (at + 1) 0x2D true → PowerAnswer s (at + 1 + 1) true r → ExponentAnswer s at r
+  pub minus_power : (r : Result ExponentRead ℕ) → Is s (at + 1) 0x2D true → PowerAnswer s (at + 1 + 1) true r → ExponentAnswer s at r
   minus_power r M p = behind s at (at + 1 + 1) minus_sign L (omega arith) M.1 go r p
     where
       go : (k : Sign) (d : Digits) (q : List ℕ) → drop (at + 1) s ≡ spell_sign k (spell_digits d q) → drop (at + 1 + 1) s ≡ spell_digits d q
@@ -132,7 +132,7 @@ module _ (s : List ℕ) (at : ℕ) (L : LetterAt s at) where
       go plus_sign d q e = let m = M.1 in let z : ◌≡◌ {A = ℕ} 0x2D 0x2B = cc in absurd (omega arith)
       go minus_sign d q e = let m = M.1 in cc
 
-  pub plus_power : (r : ExponentRead) → Is s (at + 1) 0x2B true → PowerAnswer s (at + 1 + 1) false r → ExponentAnswer s at r
+  pub plus_power : (r : Result ExponentRead ℕ) → Is s (at + 1) 0x2B true → PowerAnswer s (at + 1 + 1) false r → ExponentAnswer s at r
   plus_power r M p = behind s at (at + 1 + 1) plus_sign L (omega arith) M.1 go r p
     where
       go : (k : Sign) (d : Digits) (q : List ℕ) → drop (at + 1) s ≡ spell_sign k (spell_digits d q) → drop (at + 1 + 1) s ≡ spell_digits d q
@@ -140,7 +140,7 @@ module _ (s : List ℕ) (at : ℕ) (L : LetterAt s at) where
       go plus_sign d q e = let m = M.1 in cc
       go minus_sign d q e = let m = M.1 in let z : ◌≡◌ {A = ℕ} 0x2B 0x2D = cc in absurd (omega arith)
 
-  pub plain_power : (r : ExponentRead) → Is s (at + 1) 0x2D false → Is s (at + 1) 0x2B false → PowerAnswer s (at + 1) false r → ExponentAnswer s at r
+  pub plain_power : (r : Result ExponentRead ℕ) → Is s (at + 1) 0x2D false → Is s (at + 1) 0x2B false → PowerAnswer s (at + 1) false r → ExponentAnswer s at r
   plain_power r N O p = behind s at (at + 1) no_sign L (omega arith) refl go r p
     where
       go : (k : Sign) (d : Digits) (q : List ℕ) → drop (at + 1) s ≡ spell_sign k (spell_digits d q) → drop (at + 1) s ≡ spell_digits d q
@@ -149,8 +149,8 @@ module _ (s : List ℕ) (at : ℕ) (L : LetterAt s at) where
       go minus_sign d q e = absurd (N (spell_digits d q) e)
 
 -- Without a letter there is no exponent.
-pub without_letter : (s : List ℕ) (at : ℕ) → at ≤ length s → StartsNot is_e (drop at s) → ExponentAnswer s at (ExponentEnd at false false 0)
+pub without_letter : (s : List ℕ) (at : ℕ) → at ≤ length s → StartsNot is_e (drop at s) → ExponentAnswer s at (Ok (record { end = at; given = false; low = false; value = 0 }))
 unfolding decimal_from
 without_letter s at t n =
-    exponent_end {end = at} {given = false} {low = false} {exp = 0}
+    exponent_end {r = record { end = at; given = false; low = false; value = 0 }}
     (record { from = omega arith; to = t; tree = no_exponent; text = refl; stop = n; has = refl; sign = refl; value = refl })

@@ -15,7 +15,7 @@ use Rattle.basics.specs.Reads.{StartsNot}
 use Rattle.number_digits.specs.Runs.{Is, limit, DigitRun}
 use Rattle.number_digits.proofs.Unique.{begins, same_run}
 use Rattle.number_parse.specs.Parts.{fraction_digits, DigitsAt, is_point, AfterFraction, FractionAnswer, fraction_end, bad_fraction}
-use Rattle.number_parse.specs.declared.FractionRead.TheVariants.{FractionEnd, BadFraction}
+use Rattle.std.specs.Prelude.{Ok, Err}
 use Rattle.number_parse.proofs.Chars.{starts_none}
 
 -- ---- one digit or more
@@ -59,8 +59,8 @@ fraction_length (fraction d) r = omega (arith, length-append d.more r)
 
 module _ (s : List ℕ) (at start : ℕ) where
   -- A point before no digit begins no fraction.
-  pub point_alone : (end v : ℕ) → Is s at 0x2E true → DigitRun s (at + 1) start end v → end ≡ at + 1 → FractionAnswer s at start (BadFraction end)
-  point_alone end v P R e = bad_fraction {place = end} (omega arith) R.to (record { none = go })
+  pub point_alone : (end v : ℕ) → Is s at 0x2E true → DigitRun s (at + 1) start end v → end ≡ at + 1 → FractionAnswer s at start (Err (at + 1))
+  point_alone end v P R e = bad_fraction {place = at + 1} (omega arith) P.0 (record { none = go })
     where
       stop : StartsNot is_digit_lem (drop (at + 1) s)
       stop = rw e at R.stop
@@ -70,11 +70,11 @@ module _ (s : List ℕ) (at start : ℕ) where
       go (fraction d) r m h = let p = P.1 in let k : drop (at + 1) s ≡ spell_digits d r = cc in digits_none d r (drop (at + 1) s) stop k
 
   -- One before some digits begins one.
-  pub point_digits : (end v : ℕ) → Is s at 0x2E true → DigitRun s (at + 1) start end v → (end ≡ at + 1 → ⊥) → FractionAnswer s at start (FractionEnd end (end - (at + 1)) v)
+  pub point_digits : (end v : ℕ) → Is s at 0x2E true → DigitRun s (at + 1) start end v → (end ≡ at + 1 → ⊥) → FractionAnswer s at start (Ok (record { end = end; places = end - (at + 1); value = v }))
   unfolding fraction_digits
   point_digits end v P R h =
       let D = digits_there s (at + 1) start end v R h in
-      fraction_end {end = end} {places = end - (at + 1)} {n = v}
+      fraction_end {r = record { end = end; places = end - (at + 1); value = v }}
       (record {
         from = omega (arith, D.from);
         to = D.to;
@@ -86,10 +86,10 @@ module _ (s : List ℕ) (at start : ℕ) where
       })
 
   -- Without a point there is none.
-  pub no_point : at ≤ length s → start ≤ limit → Is s at 0x2E false → FractionAnswer s at start (FractionEnd at 0 start)
+  pub no_point : at ≤ length s → start ≤ limit → Is s at 0x2E false → FractionAnswer s at start (Ok (record { end = at; places = 0; value = start }))
   unfolding fraction_digits decimal_from
   no_point t l N =
-      fraction_end {end = at} {places = 0} {n = start}
+      fraction_end {r = record { end = at; places = 0; value = start }}
       (record {
         from = omega arith;
         to = t;

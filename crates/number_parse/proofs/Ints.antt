@@ -1,29 +1,32 @@
--- What a number without a sign says of an int at its place, or before it where a minus stands. Assumes nothing.
+-- What the digits before a fraction, with their sign, say of an int at their place. Assumes nothing.
 use mathlib.Core.Path.{◌≡◌, refl, sym, ap, ◌∙◌}
-use mathlib.Core.Bool.{Bool, true, false, cond}
-use mathlib.Core.List.{List, ◌∷◌}
+use mathlib.Core.Bool.{Bool, true, false, cond, true≢false}
+use mathlib.Core.List.{List}
 use Prim.Native.Nat.{ℕ, ◌+◌, ◌≤◌, ◌<◌, min}
 use native.Mathlib.Omega.{arith}
 use borrow.Author.Tests.{lt-leb, leb-true, leb-false}
 use lib.Dec.{leb}
-use lib.IntN.{pos}
 use lib.ListN.{length, drop}
 use mir.Syntax.{w64}
 use mir.Val.{SFits}
+use Rattle.std.specs.Prelude.{Result, Ok, Err, MatchResult, IsErrAnd}
 use Rattle.definition.specs.Limits.{max_int}
-use Rattle.definition.specs.Lexical.{Natural, Int, is_digit_lem, spell_int}
+use Rattle.definition.specs.Lexical.{Int, Whole, is_digit_lem, spell_int, spell_whole}
 use Rattle.definition.specs.Lexical.Int.{zero_int, plain_int, minus_int}
-use Rattle.definition.specs.Literals.{decimal, natural_digits, int_value, in_range}
+use Rattle.definition.specs.Lexical.Whole.{int_whole, minus_zero}
+use Rattle.definition.specs.Literals.{decimal, decimal_from, natural_digits, int_value, in_range, whole_digits, is_minus}
 use Rattle.basics.specs.Reads.{StartsNot}
 use Rattle.number_integers.specs.Signed.{signed, size_of}
-use Rattle.number_digits.specs.Runs.{Is, limit}
-use Rattle.number_digits.specs.Unsigned.{zero_unsigned, natural_unsigned, spell_unsigned, UnsignedAnswer, zero_read, positive_read, nothing_read}
-use Rattle.number_digits.specs.declared.UnsignedRead.TheVariants.{Zero, Positive, Nothing as NoUnsigned}
-use Rattle.number_digits.proofs.Unique.{digit1_bounds}
+use Rattle.number_digits.specs.Runs.{limit}
+use Rattle.number_digits.specs.Unsigned.{unsigned_digits}
+use Rattle.number_digits.proofs.Unique.{natural_above}
 use Rattle.number_literals.proofs.Ranges.{minus_fits, plus_fits}
 use Rattle.number_parse.specs.Ints.{IntAt, IntAnswer, next_int, out_int, no_int, ranged}
-use Rattle.number_parse.specs.declared.IntRead.TheVariants.{Next, OutOfRange, Nothing}
-use Rattle.number_parse.proofs.Signed.{no_minus, int_only}
+use Rattle.number_parse.specs.Parts.{WholeAt, WholeAnswer, whole_end, bad_whole}
+use Rattle.number_parse.specs.declared.IntError.{IntError}
+use Rattle.number_parse.specs.declared.IntError.TheVariants.{OutOfRange, Nothing}
+use Rattle.number_parse.specs.declared.WholeRead.{WholeRead}
+use Rattle.number_parse.proofs.Signed.{int_sign, int_unsigned, int_only, int_value_lem, whole_digits_lem, whole_only}
 
 -- A magnitude in range fits an i64, with either sign.
 pub small_fits : (t : Bool) (n : ℕ) → n ≤ max_int → SFits w64 (signed t n)
@@ -41,60 +44,69 @@ module _ (s : List ℕ) (at end : ℕ) (i : Int) (from : at < end) (to : end ≤
   by_range : (t : Bool) (n v : ℕ) → int_value i ≡ signed t n → v ≡ min limit n → IntAnswer s at (ranged end t v)
   by_range t n v e k = go (leb v max_int) refl
     where
-      go : (b : Bool) → leb v max_int ≡ b → IntAnswer s at (cond b (Next end (signed t v)) (OutOfRange end))
+      go : (b : Bool) → leb v max_int ≡ b → IntAnswer s at (cond b (Ok (record { end = end; value = signed t v })) (Err (OutOfRange end)))
       go true h =
           let l = leb-true v max_int h in
           let f : n ≡ v = omega arith in
-          next_int i there (ap (signed t) (sym f) ∙ sym e) (ap (λ (z : ℕ). leb z max_int) (size_of t v) ∙ h)
+          next_int {r = record { end = end; value = signed t v }} i there (ap (signed t) (sym f) ∙ sym e) (ap (λ (z : ℕ). leb z max_int) (size_of t v) ∙ h)
       go false h =
           let l = leb-false v max_int h in
           out_int i there (ap in_range e ∙ ap (λ (z : ℕ). leb z max_int) (size_of t n) ∙ lt-leb n max_int (omega arith))
 
--- ---- without a minus
+-- ---- the digits before a fraction
 
-module _ (s : List ℕ) (at : ℕ) (N : Is s at 0x2D false) where
-  pub plus_zero : (end : ℕ) → UnsignedAnswer s at (Zero end) → IntAnswer s at (Next end (pos 0))
-  unfolding int_value
-  plus_zero end (zero_read u) = next_int zero_int (there s at end zero_int u.from u.to u.text u.stop) refl refl
+-- The sign of an int, and its value.
+minus_is : (i : Int) → is_minus (int_whole i) ≡ int_sign i
+unfolding is_minus
+minus_is zero_int = refl
+minus_is (plain_int n) = refl
+minus_is (minus_int n) = refl
 
-  pub plus_positive : (end v : ℕ) → UnsignedAnswer s at (Positive end v) → IntAnswer s at (ranged end false v)
-  unfolding int_value
-  plus_positive end v (positive_read n u e) = by_range s at end (plain_int n) u.from u.to u.text u.stop false (decimal (natural_digits n)) v refl e
+value_is : (i : Int) → int_value i ≡ signed (is_minus (int_whole i)) (decimal (whole_digits (int_whole i)))
+value_is i = int_value_lem i ∙ ap (λ (t : Bool). signed t (decimal (unsigned_digits (int_unsigned i)))) (sym (minus_is i)) ∙ ap (λ (ds : List ℕ). signed (is_minus (int_whole i)) (decimal ds)) (sym (whole_digits_lem (int_whole i)))
 
-  pub plus_nothing : (place : ℕ) → UnsignedAnswer s at (NoUnsigned place) → IntAnswer s at (Nothing place)
-  plus_nothing place (nothing_read f t u) = no_int f t (record { none = go })
-    where
-      go : (j : Int) (r : List ℕ) → StartsNot is_digit_lem r → drop at s ≡ spell_int j r → ⊥
-      go zero_int r m e = u.none zero_unsigned r m e
-      go (plain_int n) r m e = u.none (natural_unsigned n) r m e
-      go (minus_int n) r m e = N (spell_unsigned (natural_unsigned n) r) e
+module _ (s : List ℕ) (at : ℕ) where
+  -- Where they are none, there is no int.
+  pub no_whole_int : (place : ℕ) → WholeAnswer s at (Err place) → IntAnswer s at (Err (Nothing place))
+  no_whole_int place (bad_whole f t k) = no_int f t (record { none = λ j r m e. k.none (int_whole j) r m e })
 
--- ---- behind a minus
+  module _ (w : WholeRead) (W : WholeAt s at w.end w.negative w.value) where
+    -- They are an int, unless they are a 0 with a minus.
+    pub whole_int : (w.negative ≡ true → w.value ≡ 0 → ⊥) → IntAnswer s at (ranged w.end w.negative w.value)
+    unfolding is_minus whole_digits decimal_from
+    whole_int z = go W.tree W.text W.sign W.value
+      where
+        go : (t : Whole) → drop at s ≡ spell_whole t (drop w.end s) → w.negative ≡ is_minus t → w.value ≡ min limit (decimal (whole_digits t)) → IntAnswer s at (ranged w.end w.negative w.value)
+        go (int_whole i) e g v = by_range s at w.end i W.from W.to e W.stop w.negative (decimal (whole_digits (int_whole i))) w.value (value_is i ∙ ap (λ (t : Bool). signed t (decimal (whole_digits (int_whole i)))) (sym g)) v
+        go minus_zero e g v = absurd (z g v)
 
-module _ (s : List ℕ) (at : ℕ) (M : Is s at 0x2D true) where
-  -- Behind the minus there has to be a number that is no 0.
-  minus_none : (place : ℕ) → at ≤ place → place ≤ length s → ((n : Natural) (r : List ℕ) → StartsNot is_digit_lem r → drop (at + 1) s ≡ spell_unsigned (natural_unsigned n) r → ⊥) → IntAnswer s at (Nothing place)
-  minus_none place f t k = no_int f t (record { none = go })
-    where
-      go : (j : Int) (r : List ℕ) → StartsNot is_digit_lem r → drop at s ≡ spell_int j r → ⊥
-      go zero_int r m e = no_minus zero_unsigned r (drop (at + 1) s) (sym e ∙ M.1)
-      go (plain_int n) r m e = no_minus (natural_unsigned n) r (drop (at + 1) s) (sym e ∙ M.1)
-      go (minus_int n) r m e = let d = M.1 in let g : drop (at + 1) s ≡ spell_unsigned (natural_unsigned n) r = cc in k n r m g
+    -- That is none.
+    pub minus_zero_int : w.negative ≡ true → w.value ≡ 0 → IntAnswer s at (Err (Nothing (at + 1)))
+    unfolding is_minus whole_digits
+    minus_zero_int n z =
+        let f = W.from in
+        let t = W.to in
+        no_int {place = at + 1} (omega arith) (omega arith) (record { none = go })
+      where
+        at_zero : (j : Int) → is_minus W.tree ≡ is_minus (int_whole j) → whole_digits W.tree ≡ whole_digits (int_whole j) → ⊥
+        at_zero zero_int a b = true≢false (sym n ∙ W.sign ∙ a)
+        at_zero (plain_int k) a b = true≢false (sym n ∙ W.sign ∙ a)
+        at_zero (minus_int k) a b =
+            let l = natural_above k in
+            let e : 0 ≡ min limit (decimal (natural_digits k)) = sym z ∙ W.value ∙ ap (λ (ds : List ℕ). min limit (decimal ds)) b in
+            omega arith
 
-  pub minus_zero_lem : (end : ℕ) → UnsignedAnswer s (at + 1) (Zero end) → IntAnswer s at (Nothing (at + 1))
-  minus_zero_lem end (zero_read u) = minus_none (at + 1) (omega arith) (omega (arith, u.from, u.to)) go
-    where
-      go : (n : Natural) (r : List ℕ) → StartsNot is_digit_lem r → drop (at + 1) s ≡ spell_unsigned (natural_unsigned n) r → ⊥
-      go n r m e =
-          let t = u.text in
-          let f : n.first ≡ 0x30 = cc in
-          let b = digit1_bounds n.first n.is_first in
-          omega arith
+        go : (j : Int) (r : List ℕ) → StartsNot is_digit_lem r → drop at s ≡ spell_int j r → ⊥
+        go j r m e =
+            let k = whole_only W.tree (int_whole j) (drop w.end s) r W.stop m (sym W.text ∙ e) in
+            at_zero j k.0 k.1
 
-  pub minus_positive : (end v : ℕ) → UnsignedAnswer s (at + 1) (Positive end v) → IntAnswer s at (ranged end true v)
-  unfolding int_value
-  minus_positive end v (positive_read n u e) =
-      by_range s at end (minus_int n) (omega (arith, u.from)) u.to (M.1 ∙ ap (λ (t : List ℕ). 0x2D ∷ t) u.text) u.stop true (decimal (natural_digits n)) v refl e
+-- ---- what the reader of these digits answered, behind its `map_err`
 
-  pub minus_nothing : (place : ℕ) → UnsignedAnswer s (at + 1) (NoUnsigned place) → IntAnswer s at (Nothing place)
-  minus_nothing place (nothing_read f t u) = minus_none place (omega arith) t (λ n r m e. u.none (natural_unsigned n) r m e)
+pub whole_read : {s : List ℕ} {at : ℕ} (r : Result WholeRead ℕ) (w : WholeRead) → WholeAnswer s at r → MatchResult r (λ x. ◌≡◌ {A = Result WholeRead IntError} (Ok w) (Ok x)) (λ p. ⊥) → WholeAt s at w.end w.negative w.value
+whole_read (Ok x) w (whole_end W) e = let f : w ≡ x = cc in rw f W
+whole_read (Err p) w W e = absurd e
+
+pub whole_unread : {s : List ℕ} {at : ℕ} (r : Result WholeRead ℕ) (e : IntError) → WholeAnswer s at r → MatchResult r (λ x. ◌≡◌ {A = Result WholeRead IntError} (Err e) (Ok x)) (λ p. IsErrAnd {T = WholeRead} (Err e) (λ y. y ≡ Nothing p)) → IntAnswer s at (Err e)
+whole_unread (Ok x) e W m = let z : ⊥ = cc in absurd z
+whole_unread {s} {at} (Err p) e W m = rw m (no_whole_int s at p W)

@@ -5,6 +5,7 @@ use mathlib.Core.List.{List, ◌++◌}
 use Prim.Native.Nat.{ℕ, ◌^◌, ◌<◌}
 use native.Mathlib.Omega.{arith}
 use lib.ListN.{length, drop, length-drop}
+use Rattle.std.specs.Prelude.{Ok, Err}
 use Rattle.definition.specs.Lexical.{Number, Fraction, Exponent, is_digit_lem, spell_whole, spell_fraction, spell_exponent, spell_number}
 use Rattle.definition.specs.Lexical.Fraction.{no_fraction_lem, fraction}
 use Rattle.definition.specs.Lexical.Exponent.{no_exponent, exponent}
@@ -15,10 +16,9 @@ use Rattle.number_literals.specs.Values.{meaning, numeral_by}
 use Rattle.number_literals.specs.declared.Literal.{Literal}
 use Rattle.number_parse.specs.Parts.{fraction_digits, is_point, WholeAt, WholeAnswer, bad_whole, whole_end, AfterFraction, FractionAt, FractionAnswer, fraction_end, bad_fraction, has_exponent, is_low, exponent_digits, AfterExponent, ExponentAt, ExponentAnswer, exponent_end, bad_exponent}
 use Rattle.number_parse.specs.Numbers.{is_number_char, Ends, NumberAnswer, next_number, no_number_lem}
-use Rattle.number_parse.specs.declared.WholeRead.TheVariants.{WholeEnd, BadWhole}
-use Rattle.number_parse.specs.declared.FractionRead.TheVariants.{FractionEnd, BadFraction}
-use Rattle.number_parse.specs.declared.ExponentRead.TheVariants.{ExponentEnd, BadExponent}
-use Rattle.number_parse.specs.declared.NumberRead.TheVariants.{Next, Nothing}
+use Rattle.number_parse.specs.declared.WholeRead.{WholeRead}
+use Rattle.number_parse.specs.declared.FractionRead.{FractionRead}
+use Rattle.number_parse.specs.declared.ExponentRead.{ExponentRead}
 use Rattle.number_parse.proofs.Signed.{whole_only}
 use Rattle.number_parse.proofs.Chars.{no_digit, no_point, no_letter, letter_digit, letter_point}
 use Rattle.number_parse.proofs.Fractions.{fraction_only, fraction_length}
@@ -27,13 +27,13 @@ use Rattle.number_parse.proofs.Values.{numeral_parts, kept_parts}
 
 -- ---- the parts that the readers found
 
-pub whole_at : {s : List ℕ} {at end : ℕ} {negative : Bool} {n : ℕ} → WholeAnswer s at (WholeEnd end negative n) → WholeAt s at end negative n
+pub whole_at : {s : List ℕ} {at : ℕ} {r : WholeRead} → WholeAnswer s at (Ok r) → WholeAt s at r.end r.negative r.value
 whole_at (whole_end w) = w
 
-pub fraction_at : {s : List ℕ} {at start end places n : ℕ} → FractionAnswer s at start (FractionEnd end places n) → FractionAt s at start end places n
+pub fraction_at : {s : List ℕ} {at start : ℕ} {r : FractionRead} → FractionAnswer s at start (Ok r) → FractionAt s at start r.end r.places r.value
 fraction_at (fraction_end f) = f
 
-pub exponent_at : {s : List ℕ} {at end : ℕ} {given low : Bool} {exp : ℕ} → ExponentAnswer s at (ExponentEnd end given low exp) → ExponentAt s at end given low exp
+pub exponent_at : {s : List ℕ} {at : ℕ} {r : ExponentRead} → ExponentAnswer s at (Ok r) → ExponentAt s at r.end r.given r.low r.value
 exponent_at (exponent_end x) = x
 
 -- ---- what follows each part of a number
@@ -107,24 +107,24 @@ module _ (s : List ℕ) (at a : ℕ) (negative : Bool) (n : ℕ) (W : WholeAt s 
 
 module _ (s : List ℕ) (at : ℕ) where
   -- Without digits before a fraction there is no number.
-  pub no_whole : (place : ℕ) → WholeAnswer s at (BadWhole place) → NumberAnswer s at (Nothing place)
+  pub no_whole : (place : ℕ) → WholeAnswer s at (Err place) → NumberAnswer s at (Err place)
   no_whole place (bad_whole f t k) = no_number_lem f t (record { none = λ u r m e. k.none u.whole (spell_fraction u.frac (spell_exponent u.exp r)) (after_whole u.frac u.exp r m) e })
 
   module _ (a : ℕ) (negative : Bool) (n : ℕ) (W : WholeAt s at a negative n) where
     -- Nor is there one where a fraction goes wrong,
-    pub no_fraction : (place : ℕ) → FractionAnswer s a n (BadFraction place) → NumberAnswer s at (Nothing place)
+    pub no_fraction : (place : ℕ) → FractionAnswer s a n (Err place) → NumberAnswer s at (Err place)
     no_fraction place (bad_fraction f t k) =
         no_number_lem {place = place} (omega (arith, W.from)) t (record { none = λ u r m e. k.none u.frac (spell_exponent u.exp r) (after_fraction u.frac u.exp r m) (whole_same s at a negative n W u r m e).2 })
 
     module _ (b places k : ℕ) (F : FractionAt s a n b places k) where
       -- or an exponent,
-      pub no_exponent_lem : (place : ℕ) → ExponentAnswer s b (BadExponent place) → NumberAnswer s at (Nothing place)
+      pub no_exponent_lem : (place : ℕ) → ExponentAnswer s b (Err place) → NumberAnswer s at (Err place)
       no_exponent_lem place (bad_exponent f t l) =
           no_number_lem {place = place} (omega (arith, W.from, F.from)) t (record { none = λ u r m e. l.none u.exp r (after_exponent u.exp r m) (fraction_same s at a negative n W u r m e b places k F).1 })
 
       module _ (end : ℕ) (given low : Bool) (exp : ℕ) (X : ExponentAt s b end given low exp) where
         -- or a character follows that could go on with it.
-        pub no_end : Ends s end false → NumberAnswer s at (Nothing end)
+        pub no_end : Ends s end false → NumberAnswer s at (Err end)
         no_end N = no_number_lem {place = end} (omega (arith, W.from, F.from, X.from)) X.to (record { none = go })
           where
             go : (u : Number) (r : List ℕ) → StartsNot is_number_char r → drop at s ≡ spell_number u r → ⊥
@@ -146,10 +146,10 @@ module _ (s : List ℕ) (at : ℕ) where
             let x = exponent_same s at a negative n W u r m e b places k F end given low exp X in
             (sym (same_numeral tree u (record { sign = w.0; whole = w.1; frac = f.0; has = x.has; low = x.low; exp = x.digits })), sym x.rest)
 
-        pub number_there : (v : Literal) → length s < 2 ^ 63 → Ends s end true → meaning v ≡ numeral_by negative k places given (signed low exp) → NumberAnswer s at (Next end v)
+        pub number_there : (v : Literal) → length s < 2 ^ 63 → Ends s end true → meaning v ≡ numeral_by negative k places given (signed low exp) → NumberAnswer s at (Ok (record { end = end; value = v }))
         unfolding tree
         number_there v l E h =
-            next_number {end = end} {v = v}
+            next_number {r = record { end = end; value = v }}
             (record {
               from = omega (arith, W.from, F.from, X.from);
               to = X.to;

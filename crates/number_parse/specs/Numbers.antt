@@ -1,13 +1,11 @@
 -- What `parse_number` promises: a `number` of the grammar that no digit, "." or "e" follows, with what it stands for; or that none stands there.
-use Rattle.std.specs.Prelude.{◌≡◌, Bool, true, false, ◌||◌, List, ℕ, ◌≤◌, ◌<◌, length, drop}
+use Rattle.std.specs.Prelude.{◌≡◌, Bool, true, false, ◌||◌, List, ℕ, ◌≤◌, ◌<◌, length, drop, Result, Ok, Err}
 use Rattle.definition.specs.Lexical.{Number, is_digit_lem, is_e, spell_number}
 use Rattle.definition.specs.Literals.{Numeral, numeral}
 use Rattle.basics.specs.Reads.{Reads, ReadsNone, StartsNot}
 use Rattle.number_literals.specs.Values.{meaning}
-use Rattle.number_literals.specs.declared.Literal.{Literal}
 use Rattle.number_parse.specs.Parts.{is_point}
 use Rattle.number_parse.specs.declared.NumberRead.{NumberRead}
-use Rattle.number_parse.specs.declared.NumberRead.TheVariants.{Next, Nothing}
 
 -- the characters that could go on with a number: a digit, "." and "e" in either case
 abbrev pub is_number_char : ℕ → Bool
@@ -27,7 +25,7 @@ pub record NumberAt (s : List ℕ) (at end : ℕ) (v : Numeral) : Type 0 where
   pub may : StartsNot is_number_char (drop end s)
   pub value : v ≡ numeral tree
 
--- The place of `Nothing` is the byte that is in the way; of it no more is promised than that it lies in the text.
-pub data NumberAnswer (s : List ℕ) (at : ℕ) : NumberRead → Type 0 where
-  next_number : {end : ℕ} {v : Literal} → NumberAt s at end (meaning v) → NumberAnswer s at (Next end v)
-  no_number_lem : {place : ℕ} → at ≤ place → place ≤ length s → ReadsNone spell_number (StartsNot is_number_char) (drop at s) → NumberAnswer s at (Nothing place)
+-- The place of an `Err` is the byte that is in the way; of it no more is promised than that it lies in the text.
+pub data NumberAnswer (s : List ℕ) (at : ℕ) : Result NumberRead ℕ → Type 0 where
+  next_number : {r : NumberRead} → NumberAt s at r.end (meaning r.value) → NumberAnswer s at (Ok r)
+  no_number_lem : {place : ℕ} → at ≤ place → place ≤ length s → ReadsNone spell_number (StartsNot is_number_char) (drop at s) → NumberAnswer s at (Err place)

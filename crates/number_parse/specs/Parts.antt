@@ -1,6 +1,6 @@
 -- The three parts of a number literal, ( int / "-0" ), [ frac ] and [ exp ]: what may follow each, and what its reader answers.
 -- The place of an answer that finds no such part is the byte that is in the way; of it no more is promised than that it lies in the text.
-use Rattle.std.specs.Prelude.{◌≡◌, Bool, true, false, List, [], ◌∷◌, ℕ, ◌+◌, ◌≤◌, ◌<◌, min, eqb, length, drop}
+use Rattle.std.specs.Prelude.{◌≡◌, Bool, true, false, List, [], ◌∷◌, ℕ, ◌+◌, ◌≤◌, ◌<◌, min, eqb, length, drop, Result, Ok, Err}
 use Rattle.definition.specs.Lexical.{Whole, Fraction, Exponent, Digits, is_digit_lem, is_e, spell_whole, spell_fraction, spell_exponent, spell_digits}
 use Rattle.definition.specs.Lexical.Fraction.{no_fraction_lem, fraction}
 use Rattle.definition.specs.Lexical.Sign.{no_sign, plus_sign, minus_sign}
@@ -9,11 +9,8 @@ use Rattle.definition.specs.Literals.{decimal, decimal_from, digits_of, whole_di
 use Rattle.basics.specs.Reads.{ReadsNone, StartsNot}
 use Rattle.number_digits.specs.Runs.{limit}
 use Rattle.number_parse.specs.declared.WholeRead.{WholeRead}
-use Rattle.number_parse.specs.declared.WholeRead.TheVariants.{WholeEnd, BadWhole}
 use Rattle.number_parse.specs.declared.FractionRead.{FractionRead}
-use Rattle.number_parse.specs.declared.FractionRead.TheVariants.{FractionEnd, BadFraction}
 use Rattle.number_parse.specs.declared.ExponentRead.{ExponentRead}
-use Rattle.number_parse.specs.declared.ExponentRead.TheVariants.{ExponentEnd, BadExponent}
 
 -- the digits behind the point, none where there is no fraction
 unfoldable pub fraction_digits : Fraction → List ℕ
@@ -31,9 +28,9 @@ pub record WholeAt (s : List ℕ) (at end : ℕ) (negative : Bool) (n : ℕ) : T
   pub sign : negative ≡ is_minus tree
   pub value : n ≡ min limit (decimal (whole_digits tree))
 
-pub data WholeAnswer (s : List ℕ) (at : ℕ) : WholeRead → Type 0 where
-  whole_end : {end : ℕ} {negative : Bool} {n : ℕ} → WholeAt s at end negative n → WholeAnswer s at (WholeEnd end negative n)
-  bad_whole : {place : ℕ} → at ≤ place → place ≤ length s → ReadsNone spell_whole (StartsNot is_digit_lem) (drop at s) → WholeAnswer s at (BadWhole place)
+pub data WholeAnswer (s : List ℕ) (at : ℕ) : Result WholeRead ℕ → Type 0 where
+  whole_end : {r : WholeRead} → WholeAt s at r.end r.negative r.value → WholeAnswer s at (Ok r)
+  bad_whole : {place : ℕ} → at ≤ place → place ≤ length s → ReadsNone spell_whole (StartsNot is_digit_lem) (drop at s) → WholeAnswer s at (Err place)
 
 -- ---- 1*DIGIT, which no digit follows, behind a number `start`
 
@@ -69,9 +66,9 @@ pub record FractionAt (s : List ℕ) (at start end places n : ℕ) : Type 0 wher
 pub record FractionNone (t : List ℕ) : Type 0 where
   pub none : (f : Fraction) (r : List ℕ) → AfterFraction f r → t ≡ spell_fraction f r → ⊥
 
-pub data FractionAnswer (s : List ℕ) (at start : ℕ) : FractionRead → Type 0 where
-  fraction_end : {end places n : ℕ} → FractionAt s at start end places n → FractionAnswer s at start (FractionEnd end places n)
-  bad_fraction : {place : ℕ} → at ≤ place → place ≤ length s → FractionNone (drop at s) → FractionAnswer s at start (BadFraction place)
+pub data FractionAnswer (s : List ℕ) (at start : ℕ) : Result FractionRead ℕ → Type 0 where
+  fraction_end : {r : FractionRead} → FractionAt s at start r.end r.places r.value → FractionAnswer s at start (Ok r)
+  bad_fraction : {place : ℕ} → at ≤ place → place ≤ length s → FractionNone (drop at s) → FractionAnswer s at start (Err place)
 
 -- ---- [ exp ]
 
@@ -107,14 +104,14 @@ pub record ExponentAt (s : List ℕ) (at end : ℕ) (given low : Bool) (exp : �
 pub record ExponentNone (t : List ℕ) : Type 0 where
   pub none : (x : Exponent) (r : List ℕ) → AfterExponent x r → t ≡ spell_exponent x r → ⊥
 
-pub data ExponentAnswer (s : List ℕ) (at : ℕ) : ExponentRead → Type 0 where
-  exponent_end : {end : ℕ} {given low : Bool} {exp : ℕ} → ExponentAt s at end given low exp → ExponentAnswer s at (ExponentEnd end given low exp)
-  bad_exponent : {place : ℕ} → at ≤ place → place ≤ length s → ExponentNone (drop at s) → ExponentAnswer s at (BadExponent place)
+pub data ExponentAnswer (s : List ℕ) (at : ℕ) : Result ExponentRead ℕ → Type 0 where
+  exponent_end : {r : ExponentRead} → ExponentAt s at r.end r.given r.low r.value → ExponentAnswer s at (Ok r)
+  bad_exponent : {place : ℕ} → at ≤ place → place ≤ length s → ExponentNone (drop at s) → ExponentAnswer s at (Err place)
 
 -- the digits of an exponent, behind its sign
-pub data PowerAnswer (s : List ℕ) (at : ℕ) (low : Bool) : ExponentRead → Type 0 where
-  power_end : {end exp : ℕ} → DigitsAt s at 0 end exp → PowerAnswer s at low (ExponentEnd end true low exp)
-  bad_power : {place : ℕ} → at ≤ place → place ≤ length s → StartsNot is_digit_lem (drop at s) → PowerAnswer s at low (BadExponent place)
+pub data PowerAnswer (s : List ℕ) (at : ℕ) (low : Bool) : Result ExponentRead ℕ → Type 0 where
+  power_end : {r : ExponentRead} → DigitsAt s at 0 r.end r.value → r.given ≡ true → r.low ≡ low → PowerAnswer s at low (Ok r)
+  bad_power : {place : ℕ} → at ≤ place → place ≤ length s → StartsNot is_digit_lem (drop at s) → PowerAnswer s at low (Err place)
 
 -- whether an "e", in either case, stands at a place
 pub record LetterAt (s : List ℕ) (at : ℕ) : Type 0 where

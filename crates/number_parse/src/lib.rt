@@ -9,108 +9,115 @@ ghost use Rattle.number_parse.specs.Parts.{WholeAnswer, FractionAnswer, Exponent
 ghost use Rattle.number_parse.specs.Numbers.{NumberAnswer, is_number_char, Ends};
 
 use limits::MAX_INT;
-use number_digits::UnsignedRead;
 use number_literals::Literal;
 
-// An int with its end and its value, one with its end that is out of range, or none, with the byte that is in the way.
+// An int that was read: its end and its value.
 #[derive(Clone, Copy)]
-pub enum IntRead {
-    Next(usize, i64),
+pub struct IntRead {
+    pub end: usize,
+    pub value: i64,
+}
+
+// Why no int was read: one with this end is out of range, or none stands there, with the byte that is in the way.
+#[derive(Clone, Copy)]
+pub enum IntError {
     OutOfRange(usize),
     Nothing(usize),
 }
 
-// A number literal with its end and what it stands for, or none, with the byte that is in the way.
+// A number literal that was read: its end and what it stands for.
 #[derive(Clone, Copy)]
-pub enum NumberRead {
-    Next(usize, Literal),
-    Nothing(usize),
+pub struct NumberRead {
+    pub end: usize,
+    pub value: Literal,
 }
 
 // The digits before a fraction: their end, whether a minus stands before them, and their number, kept at the limit.
 #[derive(Clone, Copy)]
-pub enum WholeRead {
-    WholeEnd(usize, bool, u64),
-    BadWhole(usize),
+pub struct WholeRead {
+    pub end: usize,
+    pub negative: bool,
+    pub value: u64,
 }
 
 // A fraction or none: its end, the count of its digits, and the number of all digits so far, kept at the limit.
 #[derive(Clone, Copy)]
-pub enum FractionRead {
-    FractionEnd(usize, usize, u64),
-    BadFraction(usize),
+pub struct FractionRead {
+    pub end: usize,
+    pub places: usize,
+    pub value: u64,
 }
 
 // An exponent or none: its end, whether one is written, whether it has a minus, and its number, kept at the limit.
 #[derive(Clone, Copy)]
-pub enum ExponentRead {
-    ExponentEnd(usize, bool, bool, u64),
-    BadExponent(usize),
+pub struct ExponentRead {
+    pub end: usize,
+    pub given: bool,
+    pub low: bool,
+    pub value: u64,
 }
 
 // The answer for a magnitude and its sign: an index, a slice bound or a step is at most 2^53-1.
-fn range(end: usize, negative: bool, n: u64) -> IntRead
+fn range(end: usize, negative: bool, n: u64) -> Result<IntRead, IntError>
     ensures { result ≡ ranged end negative n }
 {
     if n > MAX_INT {
-        return IntRead::OutOfRange(end);
+        return Err(IntError::OutOfRange(end));
     }
-    IntRead::Next(end, number_digits::signed(negative, n))
+    Ok(IntRead {
+        end,
+        value: number_digits::signed(negative, n),
+    })
 }
 
-// The int that stands at a place and that no digit follows: an index, a slice bound or a step.
-pub fn parse_i_json_int(s: &[u8], at: usize) -> IntRead
-    requires { at ≤ length s.now }
-    ensures { IntAnswer s.now at result }
-{
-    if number_digits::is(s, at, b'-') {
-        return match number_digits::read_unsigned(s, at + 1) {
-            UnsignedRead::Zero(_) => IntRead::Nothing(at + 1),
-            UnsignedRead::Positive(end, n) => range(end, true, n),
-            UnsignedRead::Nothing(place) => IntRead::Nothing(place),
-        };
-    }
-    match number_digits::read_unsigned(s, at) {
-        UnsignedRead::Zero(end) => IntRead::Next(end, 0),
-        UnsignedRead::Positive(end, n) => range(end, false, n),
-        UnsignedRead::Nothing(place) => IntRead::Nothing(place),
-    }
-}
-
-// The digits before a fraction, with their sign.
-fn read_whole(s: &[u8], at: usize) -> WholeRead
+// The digits before a fraction, with their sign; or the byte that is in the way.
+fn read_whole(s: &[u8], at: usize) -> Result<WholeRead, usize>
     requires { at ≤ length s.now }
     ensures { WholeAnswer s.now at result }
 {
-    if number_digits::is(s, at, b'-') {
-        return match number_digits::read_unsigned(s, at + 1) {
-            UnsignedRead::Zero(end) => WholeRead::WholeEnd(end, true, 0),
-            UnsignedRead::Positive(end, n) => WholeRead::WholeEnd(end, true, n),
-            UnsignedRead::Nothing(place) => WholeRead::BadWhole(place),
-        };
-    }
-    match number_digits::read_unsigned(s, at) {
-        UnsignedRead::Zero(end) => WholeRead::WholeEnd(end, false, 0),
-        UnsignedRead::Positive(end, n) => WholeRead::WholeEnd(end, false, n),
-        UnsignedRead::Nothing(place) => WholeRead::BadWhole(place),
-    }
+    let negative = number_digits::is(s, at, b'-');
+    let digits = number_digits::read_unsigned(s, at + usize::from(negative))?;
+    Ok(WholeRead {
+        end: digits.end,
+        negative,
+        value: digits.value,
+    })
 }
 
-// The fraction behind digits that write the number `start`.
-fn read_fraction(s: &[u8], at: usize, start: u64) -> FractionRead
+// The int that stands at a place and that no digit follows: an index, a slice bound or a step. A 0 with a minus is none.
+pub fn parse_i_json_int(s: &[u8], at: usize) -> Result<IntRead, IntError>
+    requires { at ≤ length s.now }
+    ensures { IntAnswer s.now at result }
+{
+    let whole = read_whole(s, at).map_err(IntError::Nothing)?;
+    if whole.negative && whole.value == 0 {
+        return Err(IntError::Nothing(at + 1));
+    }
+    range(whole.end, whole.negative, whole.value)
+}
+
+// The fraction behind digits that write the number `start`; or the byte that is in the way.
+fn read_fraction(s: &[u8], at: usize, start: u64) -> Result<FractionRead, usize>
     requires { (at ≤ length s.now) × (start ≤ limit) }
     ensures { FractionAnswer s.now at start result }
 {
-    if number_digits::is(s, at, b'.') {
-        let from = at + 1;
-        let r = number_digits::digits(s, from, start);
-        let end = r.end;
-        if end == from {
-            return FractionRead::BadFraction(end);
-        }
-        return FractionRead::FractionEnd(end, end - from, r.value);
+    if !number_digits::is(s, at, b'.') {
+        return Ok(FractionRead {
+            end: at,
+            places: 0,
+            value: start,
+        });
     }
-    FractionRead::FractionEnd(at, 0, start)
+    let from = at + 1;
+    let r = number_digits::digits(s, from, start);
+    if r.end == from {
+        return Err(from);
+    }
+    Ok(FractionRead {
+        end: r.end,
+        places: r.end - from,
+        value: r.value,
+    })
 }
 
 // Whether an "e", in either case, stands at a place.
@@ -124,35 +131,44 @@ fn is_letter(s: &[u8], at: usize) -> bool
     number_digits::is(s, at, b'E')
 }
 
-// The digits of an exponent, behind its sign.
-fn read_power(s: &[u8], at: usize, low: bool) -> ExponentRead
+// The digits of an exponent, behind its sign; or the byte that is in the way.
+fn read_power(s: &[u8], at: usize, low: bool) -> Result<ExponentRead, usize>
     requires { at ≤ length s.now }
     ensures { PowerAnswer s.now at low result }
 {
     let r = number_digits::digits(s, at, 0);
-    let end = r.end;
-    if end == at {
-        return ExponentRead::BadExponent(end);
+    if r.end == at {
+        return Err(at);
     }
-    ExponentRead::ExponentEnd(end, true, low, r.value)
+    Ok(ExponentRead {
+        end: r.end,
+        given: true,
+        low,
+        value: r.value,
+    })
 }
 
-// The exponent.
-fn read_exponent(s: &[u8], at: usize) -> ExponentRead
+// The exponent; or the byte that is in the way.
+fn read_exponent(s: &[u8], at: usize) -> Result<ExponentRead, usize>
     requires { at ≤ length s.now }
     ensures { ExponentAnswer s.now at result }
 {
-    if is_letter(s, at) {
-        let from = at + 1;
-        if number_digits::is(s, from, b'-') {
-            return read_power(s, from + 1, true);
-        }
-        if number_digits::is(s, from, b'+') {
-            return read_power(s, from + 1, false);
-        }
-        return read_power(s, from, false);
+    if !is_letter(s, at) {
+        return Ok(ExponentRead {
+            end: at,
+            given: false,
+            low: false,
+            value: 0,
+        });
     }
-    ExponentRead::ExponentEnd(at, false, false, 0)
+    let from = at + 1;
+    if number_digits::is(s, from, b'-') {
+        return read_power(s, from + 1, true);
+    }
+    if number_digits::is(s, from, b'+') {
+        return read_power(s, from + 1, false);
+    }
+    read_power(s, from, false)
 }
 
 fn is_number_char(c: u8) -> bool
@@ -180,27 +196,27 @@ fn ends(s: &[u8], at: usize) -> bool
     true
 }
 
-// The number literal that stands at a place and that no digit, "." or "e" follows.
-pub fn parse_number(s: &[u8], at: usize) -> NumberRead
+// The number literal that stands at a place and that no digit, "." or "e" follows; or the byte that is in the way.
+pub fn parse_number(s: &[u8], at: usize) -> Result<NumberRead, usize>
     requires { at ≤ length s.now }
     ensures { NumberAnswer s.now at result }
 {
-    match read_whole(s, at) {
-        WholeRead::BadWhole(place) => NumberRead::Nothing(place),
-        WholeRead::WholeEnd(a, negative, n) => match read_fraction(s, a, n) {
-            FractionRead::BadFraction(place) => NumberRead::Nothing(place),
-            FractionRead::FractionEnd(b, places, m) => match read_exponent(s, b) {
-                ExponentRead::BadExponent(place) => NumberRead::Nothing(place),
-                ExponentRead::ExponentEnd(end, given, low, exp) => {
-                    if ends(s, end) {
-                        return NumberRead::Next(
-                            end,
-                            number_literals::numeral(negative, m, places, given, low, exp),
-                        );
-                    }
-                    NumberRead::Nothing(end)
-                }
-            },
-        },
+    let whole = read_whole(s, at)?;
+    let fraction = read_fraction(s, whole.end, whole.value)?;
+    let exponent = read_exponent(s, fraction.end)?;
+    if !ends(s, exponent.end) {
+        return Err(exponent.end);
     }
+    let value = number_literals::numeral(
+        whole.negative,
+        fraction.value,
+        fraction.places,
+        exponent.given,
+        exponent.low,
+        exponent.value,
+    );
+    Ok(NumberRead {
+        end: exponent.end,
+        value,
+    })
 }

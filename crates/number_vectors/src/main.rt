@@ -12,7 +12,7 @@
 ghost use Rattle.std.specs.Prelude.{◌≤◌, length};
 
 use number_literals::Literal;
-use number_parse::{IntRead, NumberRead};
+use number_parse::{IntError, IntRead, NumberRead};
 use program_console::{input, output, rooms};
 use std::cmp::Ordering;
 use std::io;
@@ -27,7 +27,6 @@ const INFINITY: u64 = 9218868437227405312;
 enum Operand {
     Int(i64),
     Float(u64),
-    Bad,
 }
 
 fn print(rt: &impl Print, text: &[u8]) -> io::Result<()> {
@@ -53,17 +52,17 @@ fn show_int(rt: &impl Print, s: &[u8]) -> io::Result<()>
     requires { 2 ≤ length s.now }
 {
     match number_parse::parse_i_json_int(s, 2) {
-        IntRead::Next(end, v) => {
+        Ok(IntRead { end, value }) => {
             print(rt, b"next ")?;
             print_end(rt, end)?;
             print(rt, b" ")?;
-            print_signed(rt, v)
+            print_signed(rt, value)
         }
-        IntRead::OutOfRange(end) => {
+        Err(IntError::OutOfRange(end)) => {
             print(rt, b"out ")?;
             print_end(rt, end)
         }
-        IntRead::Nothing(_) => print(rt, b"nothing"),
+        Err(IntError::Nothing(_)) => print(rt, b"nothing"),
     }
 }
 
@@ -91,8 +90,8 @@ fn show_number(rt: &impl Print, s: &[u8]) -> io::Result<()>
     requires { 2 ≤ length s.now }
 {
     match number_parse::parse_number(s, 2) {
-        NumberRead::Next(end, v) => show_literal(rt, end, v),
-        NumberRead::Nothing(_) => print(rt, b"nothing"),
+        Ok(read) => show_literal(rt, read.end, read.value),
+        Err(_) => print(rt, b"nothing"),
     }
 }
 
@@ -113,28 +112,26 @@ fn hex_digit(c: u8) -> u64 {
     wide(c - 87)
 }
 
-// The number that the hexadecimal digits from a place on write.
-fn hex_value(s: &[u8], from: usize) -> u64 {
-    let mut acc: u64 = 0;
-    let mut i = from;
-    while i < s.len() {
-        acc = (acc << 4) | hex_digit(s[i]);
-        i += 1;
-    }
-    acc
+// The number that hexadecimal digits write.
+fn hex_value(digits: &[u8]) -> u64 {
+    digits
+        .iter()
+        .fold(0, |acc, &digit| (acc << 4) | hex_digit(digit))
 }
 
-fn read_operand(s: &[u8]) -> Operand {
+// None where no integer stands there.
+fn read_operand(s: &[u8]) -> Option<Operand> {
     if number_digits::is(s, 0, b'x') {
-        return Operand::Float(hex_value(s, 1));
+        return Some(Operand::Float(hex_value(&s[1..])));
     }
     match number_parse::parse_number(s, 0) {
-        NumberRead::Next(_, v) => match v {
-            Literal::Int(i) => Operand::Int(i),
-            Literal::Float(_) => Operand::Bad,
-            Literal::Beyond => Operand::Bad,
-        },
-        NumberRead::Nothing(_) => Operand::Bad,
+        Ok(
+            NumberRead {
+                value: Literal::Int(i),
+                ..
+            },
+        ) => Some(Operand::Int(i)),
+        _ => None,
     }
 }
 
@@ -179,46 +176,28 @@ fn compare_floats(rt: &impl Print, a: u64, b: u64) -> io::Result<()> {
 }
 
 fn compare_operands(rt: &impl Print, a: Operand, b: Operand) -> io::Result<()> {
-    match a {
-        Operand::Int(i) => match b {
-            Operand::Int(j) => show_order(rt, number_order::compare_i64(i, j)),
-            Operand::Float(q) => compare_int_float(rt, i, q),
-            Operand::Bad => print(rt, b"bad"),
-        },
-        Operand::Float(p) => match b {
-            Operand::Int(j) => compare_float_int(rt, p, j),
-            Operand::Float(q) => compare_floats(rt, p, q),
-            Operand::Bad => print(rt, b"bad"),
-        },
-        Operand::Bad => print(rt, b"bad"),
+    match (a, b) {
+        (Operand::Int(i), Operand::Int(j)) => show_order(rt, number_order::compare_i64(i, j)),
+        (Operand::Int(i), Operand::Float(q)) => compare_int_float(rt, i, q),
+        (Operand::Float(p), Operand::Int(j)) => compare_float_int(rt, p, j),
+        (Operand::Float(p), Operand::Float(q)) => compare_floats(rt, p, q),
     }
-}
-
-// The place of the first byte x from a place on, or the end of the text.
-fn find(s: &[u8], from: usize, x: u8) -> usize
-    requires { from ≤ length s.now }
-    ensures { (from ≤ result) × (result ≤ length s.now) }
-{
-    let mut i = from;
-    while i < s.len() {
-        if s[i] == x {
-            return i;
-        }
-        i += 1;
-    }
-    i
 }
 
 fn show_comparison(rt: &impl Print, s: &[u8]) -> io::Result<()>
     requires { 2 ≤ length s.now }
 {
-    let start = 2;
-    let end = find(s, start, b' ');
-    if end < s.len() {
-        let next = end + 1;
-        compare_operands(rt, read_operand(&s[start..end]), read_operand(&s[next..]))?;
+    let pair = &s[2..];
+    let Some(blank) = pair.iter().position(|&b| b == b' ') else {
+        return Ok(());
+    };
+    match (
+        read_operand(&pair[..blank]),
+        read_operand(&pair[blank + 1..]),
+    ) {
+        (Some(a), Some(b)) => compare_operands(rt, a, b),
+        _ => print(rt, b"bad"),
     }
-    Ok(())
 }
 
 fn show_line(rt: &impl Print, s: &[u8]) -> io::Result<()> {
@@ -238,11 +217,8 @@ fn show_line(rt: &impl Print, s: &[u8]) -> io::Result<()> {
 }
 
 fn run(rt: &impl Print, s: &[u8]) -> io::Result<()> {
-    let mut at = 0;
-    while at < s.len() {
-        let end = find(s, at, b'\n');
-        show_line(rt, &s[at..end])?;
-        at = end + 1;
+    for line in s.split(|&b| b == b'\n') {
+        show_line(rt, line)?;
     }
     Ok(())
 }

@@ -2,45 +2,36 @@
 use Prim.Native.Nat.{◌^◌, ◌<◌}
 use native.Mathlib.Omega.{arith}
 use lib.ListN.{length}
-use Rattle.number_parse.specs.Parts.{WholeAt, FractionAt, ExponentAt}
+use Rattle.std.proofs.lemmas.Result.{err_from_is_err_and}
 use Rattle.number_parse.proofs.Together.{whole_at, fraction_at, exponent_at, no_whole, no_fraction, no_exponent_lem, no_end, number_there}
 use Rattle.number_parse.proofs.parse_number.Goals as goal
 
+pub returns-in_err-whole : goal.returns-in_err-whole
+returns-in_err-whole c =
+    let p = err_from_is_err_and c.from_residual.result c.from_residual.ensures.1 in
+    rw (p.1, p.2) (no_whole _ _ _ c.in_err-whole.ensures)
+
 pub read_fraction-requires : goal.read_fraction-requires
-read_fraction-requires c =
-    let whole : WholeAt c.args.s.now c.args.at c.in-WholeEnd.a c.in-WholeEnd.negative c.in-WholeEnd.n = whole_at (rw c.in-WholeEnd.is at c.read_whole.ensures) in
-    let w = whole in (w.to, omega (arith, w.value))
+read_fraction-requires c = let w = whole_at c.in_ok-whole.ensures in (w.to, omega (arith, w.value))
+
+pub returns-in_err-fraction : goal.returns-in_err-fraction
+returns-in_err-fraction c =
+    let p = err_from_is_err_and c.from_residual-in_err-fraction.result c.from_residual-in_err-fraction.ensures.1 in
+    rw (p.1, p.2) (no_fraction _ _ _ _ _ (whole_at c.in_ok-whole.ensures) _ c.in_err-fraction.ensures)
 
 pub read_exponent-requires : goal.read_exponent-requires
-read_exponent-requires c =
-    let frac : FractionAt c.args.s.now c.in-WholeEnd.a c.in-WholeEnd.n c.in-FractionEnd.b c.in-FractionEnd.places c.in-FractionEnd.m = fraction_at (rw c.in-FractionEnd.is at c.read_fraction.ensures) in
-    frac.to
+read_exponent-requires c = (fraction_at c.in_ok-fraction.ensures).to
 
-pub returns-then-ends : goal.returns-then-ends
-returns-then-ends c =
-    let exp : ExponentAt c.args.s.now c.in-FractionEnd.b c.in-ExponentEnd.end c.in-ExponentEnd.given c.in-ExponentEnd.low c.in-ExponentEnd.exp = exponent_at (rw c.in-ExponentEnd.is at c.read_exponent.ensures) in
-    let frac : FractionAt c.args.s.now c.in-WholeEnd.a c.in-WholeEnd.n c.in-FractionEnd.b c.in-FractionEnd.places c.in-FractionEnd.m = fraction_at (rw c.in-FractionEnd.is at c.read_fraction.ensures) in
-    let whole : WholeAt c.args.s.now c.args.at c.in-WholeEnd.a c.in-WholeEnd.negative c.in-WholeEnd.n = whole_at (rw c.in-WholeEnd.is at c.read_whole.ensures) in
+pub returns-in_err-exponent : goal.returns-in_err-exponent
+returns-in_err-exponent c =
+    let p = err_from_is_err_and c.from_residual-in_err-exponent.result c.from_residual-in_err-exponent.ensures.1 in
+    rw (p.1, p.2) (no_exponent_lem _ _ _ _ _ (whole_at c.in_ok-whole.ensures) _ _ _ (fraction_at c.in_ok-fraction.ensures) _ c.in_err-exponent.ensures)
+
+pub returns-then-not-ends : goal.returns-then-not-ends
+returns-then-not-ends c =
+    no_end _ _ _ _ _ (whole_at c.in_ok-whole.ensures) _ _ _ (fraction_at c.in_ok-fraction.ensures) _ _ _ _ (exponent_at c.in_ok-exponent.ensures) (rw c.if-not-ends.true at c.ends.ensures)
+
+pub returns : goal.returns
+returns c =
     let l : length c.args.s.now < 2 ^ 63 = omega (arith, c.well_formed.0.1) in
-    number_there _ _ _ _ _ whole _ _ _ frac _ _ _ _ exp _ l (rw c.if-ends.true at c.ends.ensures) c.numeral.ensures
-
-pub returns-in-BadWhole : goal.returns-in-BadWhole
-returns-in-BadWhole c = no_whole _ _ _ (rw c.in-BadWhole.is at c.read_whole.ensures)
-
-pub returns-in-BadFraction : goal.returns-in-BadFraction
-returns-in-BadFraction c =
-    let whole : WholeAt c.args.s.now c.args.at c.in-WholeEnd.a c.in-WholeEnd.negative c.in-WholeEnd.n = whole_at (rw c.in-WholeEnd.is at c.read_whole.ensures) in
-    no_fraction _ _ _ _ _ whole _ (rw c.in-BadFraction.is at c.read_fraction.ensures)
-
-pub returns-in-BadExponent : goal.returns-in-BadExponent
-returns-in-BadExponent c =
-    let frac : FractionAt c.args.s.now c.in-WholeEnd.a c.in-WholeEnd.n c.in-FractionEnd.b c.in-FractionEnd.places c.in-FractionEnd.m = fraction_at (rw c.in-FractionEnd.is at c.read_fraction.ensures) in
-    let whole : WholeAt c.args.s.now c.args.at c.in-WholeEnd.a c.in-WholeEnd.negative c.in-WholeEnd.n = whole_at (rw c.in-WholeEnd.is at c.read_whole.ensures) in
-    no_exponent_lem _ _ _ _ _ whole _ _ _ frac _ (rw c.in-BadExponent.is at c.read_exponent.ensures)
-
-pub returns-else-ends : goal.returns-else-ends
-returns-else-ends c =
-    let exp : ExponentAt c.args.s.now c.in-FractionEnd.b c.in-ExponentEnd.end c.in-ExponentEnd.given c.in-ExponentEnd.low c.in-ExponentEnd.exp = exponent_at (rw c.in-ExponentEnd.is at c.read_exponent.ensures) in
-    let frac : FractionAt c.args.s.now c.in-WholeEnd.a c.in-WholeEnd.n c.in-FractionEnd.b c.in-FractionEnd.places c.in-FractionEnd.m = fraction_at (rw c.in-FractionEnd.is at c.read_fraction.ensures) in
-    let whole : WholeAt c.args.s.now c.args.at c.in-WholeEnd.a c.in-WholeEnd.negative c.in-WholeEnd.n = whole_at (rw c.in-WholeEnd.is at c.read_whole.ensures) in
-    no_end _ _ _ _ _ whole _ _ _ frac _ _ _ _ exp (rw c.if-ends.false at c.ends.ensures)
+    number_there _ _ _ _ _ (whole_at c.in_ok-whole.ensures) _ _ _ (fraction_at c.in_ok-fraction.ensures) _ _ _ _ (exponent_at c.in_ok-exponent.ensures) _ l (rw c.if-not-ends.false at c.ends.ensures) c.numeral-value.ensures

@@ -1,24 +1,15 @@
 -- `number_parse::read_whole` meets its contract: the sign and what stands behind it say which law of proofs/Wholes.antt answers.
-use Rattle.number_parse.proofs.Wholes.{plus_zero, plus_positive, plus_nothing, minus_zero_lem, minus_positive, minus_nothing}
+use Rattle.std.proofs.lemmas.Result.{err_from_is_err_and}
+use Rattle.number_parse.proofs.Wholes.{behind_in, whole_there, whole_none}
 use Rattle.number_parse.proofs.read_whole.Goals as goal
 
 pub read_unsigned-requires : goal.read_unsigned-requires
-read_unsigned-requires c = (rw c.if-is.true at c.is.ensures).0
+read_unsigned-requires c = rw c.from.ensures (behind_in c.args.s.now c.args.at c.is-negative.result c.requires c.is-negative.ensures)
 
-pub returns-in-Zero : goal.returns-in-Zero
-returns-in-Zero c = minus_zero_lem _ _ (rw c.if-is.true at c.is.ensures) _ (rw c.in-Zero.is at c.read_unsigned.ensures)
+pub returns-in_err-digits : goal.returns-in_err-digits
+returns-in_err-digits c =
+    let p = err_from_is_err_and c.from_residual.result c.from_residual.ensures.1 in
+    rw (p.1, p.2) (whole_none c.args.s.now c.args.at c.is-negative.result c.is-negative.ensures _ (rw c.from.ensures at c.in_err-digits.ensures))
 
-pub returns-in-Positive : goal.returns-in-Positive
-returns-in-Positive c = minus_positive _ _ (rw c.if-is.true at c.is.ensures) _ _ (rw c.in-Positive.is at c.read_unsigned.ensures)
-
-pub returns-in-Nothing : goal.returns-in-Nothing
-returns-in-Nothing c = minus_nothing _ _ (rw c.if-is.true at c.is.ensures) _ (rw c.in-Nothing.is at c.read_unsigned.ensures)
-
-pub returns-in-Zero-read_unsigned : goal.returns-in-Zero-read_unsigned
-returns-in-Zero-read_unsigned c = plus_zero _ _ (rw c.if-is.false at c.is.ensures) _ (rw c.in-Zero-read_unsigned.is at c.read_unsigned-2.ensures)
-
-pub returns-in-Positive-read_unsigned : goal.returns-in-Positive-read_unsigned
-returns-in-Positive-read_unsigned c = plus_positive _ _ (rw c.if-is.false at c.is.ensures) _ _ (rw c.in-Positive-read_unsigned.is at c.read_unsigned-2.ensures)
-
-pub returns-in-Nothing-read_unsigned : goal.returns-in-Nothing-read_unsigned
-returns-in-Nothing-read_unsigned c = plus_nothing _ _ (rw c.if-is.false at c.is.ensures) _ (rw c.in-Nothing-read_unsigned.is at c.read_unsigned-2.ensures)
+pub returns : goal.returns
+returns c = whole_there c.args.s.now c.args.at c.is-negative.result c.is-negative.ensures c.in_ok-digits.digits (rw c.from.ensures at c.in_ok-digits.ensures)
