@@ -18,19 +18,13 @@ pub struct Char {
     pub next: usize,
 }
 
-fn wide(b: u8) -> u32
-    ensures { result ≡ b }
-{
-    b as u32
-}
-
 // The character at `at`, of the bytes up to `to`.
 pub fn char_at(text: &[u8], at: usize, to: usize) -> Char
     requires fact_1 { at < to }
     requires fact_2 { to ≤ length text.now }
     ensures { Stands text.now at to result.next result.value }
 {
-    let b = wide(text[at]);
+    let b = u32::from(text[at]);
     if b < 0x80 {
         return Char {
             value: b,
@@ -40,7 +34,7 @@ pub fn char_at(text: &[u8], at: usize, to: usize) -> Char
     if to - at < 2 {
         return Char { value: 0, next: to };
     }
-    let c = wide(text[at + 1]) % 64;
+    let c = u32::from(text[at + 1]) % 64;
     if b < 0xE0 {
         return Char {
             value: b % 32 * 64 + c,
@@ -50,7 +44,7 @@ pub fn char_at(text: &[u8], at: usize, to: usize) -> Char
     if to - at < 3 {
         return Char { value: 0, next: to };
     }
-    let d = wide(text[at + 2]) % 64;
+    let d = u32::from(text[at + 2]) % 64;
     if b < 0xF0 {
         return Char {
             value: b % 16 * 4096 + c * 64 + d,
@@ -60,7 +54,7 @@ pub fn char_at(text: &[u8], at: usize, to: usize) -> Char
     if to - at < 4 {
         return Char { value: 0, next: to };
     }
-    let e = wide(text[at + 3]) % 64;
+    let e = u32::from(text[at + 3]) % 64;
     Char {
         value: b % 16 * 262144 + c * 4096 + d * 64 + e,
         next: at + 4,
@@ -70,13 +64,13 @@ pub fn char_at(text: &[u8], at: usize, to: usize) -> Char
 fn between(low: u32, high: u32, c: u32) -> bool
     ensures { result ≡ within low high c }
 {
-    if low <= c { c <= high } else { false }
+    low <= c && c <= high
 }
 
 fn flip(comp: bool, hit: bool) -> bool
     ensures { result ≡ flip_of comp hit }
 {
-    if comp { !hit } else { hit }
+    comp != hit
 }
 
 // Whether one of the n ranges whose words stand from `at` on has c.
@@ -84,17 +78,14 @@ fn ranges_have(code: &[u32], at: usize, n: usize, c: u32) -> bool
     requires { at ≤ length code.now }
     ensures { Holds code.now at n c result }
 {
-    let mut i = at;
-    let mut left = n;
-    while 0 < left {
+    for k in 0..n {
+        let i = at + 2 * k;
         if code.len() - i < 2 {
             return false;
         }
         if between(code[i], code[i + 1], c) {
             return true;
         }
-        i += 2;
-        left -= 1;
     }
     false
 }

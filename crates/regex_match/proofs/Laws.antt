@@ -1,6 +1,6 @@
 -- From the matchers' answers to the definition's. Assumes nothing.
 use mathlib.Core.Path.{◌≡◌, ap, sym, ◌∙◌}
-use mathlib.Core.Bool.{Bool, true, false}
+use mathlib.Core.Bool.{Bool, false}
 use mathlib.Core.List.{List, []}
 use Prim.Native.Nat.{ℕ, ◌-◌, ◌≤◌, ◌<◌, ◌^◌, min}
 use native.Mathlib.Omega.{arith}
@@ -41,8 +41,8 @@ by s t b f =
           told_same (f (widen k x) d.0 e (sym d.2)) (agree (widen k x) d.0) ∙ ap (described (widen k x)) (sym q);
     }
 
-pub by_plain : (s t : List ℕ) {ok b : Bool} → Known s t ok b → ok ≡ true → Tested s t b
-by_plain s t {ok} {b} k e = by s t b (λ x cs q u. k.of e x cs q u)
+pub by_plain : (s t : List ℕ) {b : Bool} → Known s t b → Tested s t b
+by_plain s t {b} k = by s t b (λ x cs q u. k.of x cs q u)
 
 -- by the number of bytes
 pub missed_short : (s : List ℕ) (n : ℕ) {next lo hi : ℕ} → Widths s 0 next lo hi → n < lo → Missed s n

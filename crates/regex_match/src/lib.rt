@@ -75,9 +75,8 @@ fn unmarked(code: &[u32], text: &[u8]) -> bool
 pub fn test(code: &[u32], text: &[u8], marks: &mut [u8]) -> bool
     ensures { Tested code.now text.now result }
 {
-    let p = ask(code, text);
-    if p.known {
-        return p.value;
+    if let Some(told) = ask(code, text) {
+        return told;
     }
     if missed(code, text.len()) {
         return false;

@@ -8,7 +8,7 @@
 
 #![tactic(auto)]
 
-ghost use Rattle.std.specs.Prelude.{◌≡◌, true, [], ◌∷◌, ◌+◌, ◌*◌, ◌≤◌, ◌<◌, ◌^◌, min, length};
+ghost use Rattle.std.specs.Prelude.{◌≡◌, true, [], ◌∷◌, ◌+◌, ◌*◌, ◌≤◌, ◌<◌, ◌^◌, min, length, IfSome};
 ghost use Rattle.std.proofs.Math.Seq.{slice};
 ghost use Rattle.regex_needed.specs.Needed.{WroteInRoom, Lessened, once, repeated, Asks, Closes, Misses, Needed, Joins, Endless, Headed};
 ghost use Rattle.regex_code.specs.Flat.{Word};
@@ -23,18 +23,11 @@ pub struct Part {
     pub end: usize,
 }
 
-// The counts of a repeat, if there are any.
+// The counts of a repeat.
 #[derive(Clone, Copy)]
 struct Counts {
-    known: bool,
     lo: u32,
     hi: u32,
-}
-
-fn lesser(a: usize, b: usize) -> usize
-    ensures { result ≡ min a b }
-{
-    if a <= b { a } else { b }
 }
 
 // Writes a word, and answers the place behind it.
@@ -54,11 +47,9 @@ fn copy(code: &[u32], from: usize, end: usize, out: &mut [u32], to: usize) -> us
     requires { (from ≤ end) × (end ≤ length code.now) × (to ≤ length out.old + 1) }
     ensures { WroteInRoom out.old to (slice from end code.now) out.new result }
 {
-    let mut i = from;
     let mut e = to;
-    while i < end {
+    for i in from..end {
         e = put(out, e, code[i]);
-        i += 1;
     }
     e
 }
@@ -70,7 +61,7 @@ fn same(code: &[u32], at: usize, text: &[u8], out: &mut [u32], to: usize) -> Par
     ensures { Lessened code.now at once (length text.now) out.old to out.new result.next result.end }
 {
     let n = skip(code, at);
-    let m = lesser(n, code.len());
+    let m = n.min(code.len());
     let e = copy(code, at, m, out, to);
     Part { next: n, end: e }
 }
@@ -93,18 +84,14 @@ fn closes(code: &[u32], at: usize) -> bool
     ensures { result ≡ true → Closes code.now at }
 {
     let n = skip(code, at);
-    if code.len() <= n {
-        return false;
-    }
-    code[n] == 0
+    n < code.len() && code[n] == 0
 }
 
 // Whether all texts of what stands at `at` have more than n bytes.
 fn misses(code: &[u32], at: usize, n: usize) -> bool
     ensures { result ≡ true → Misses code.now at n }
 {
-    let w = measure(code, at);
-    n < w.least
+    n < measure(code, at).least
 }
 
 // The lower end that a repeat needs: 0 where its part at `at` describes the empty text, which fills up the rest.
@@ -127,54 +114,38 @@ fn product(a: u32, b: u32, n: usize) -> u32
 {
     let h = small(a);
     let k = small(b);
-    let m = lesser(h * k, n);
+    let m = (h * k).min(n);
     m as u32
 }
 
 // The counts of lo to hi times the repeat at `at`, as one repeat of its part.
-fn joins(code: &[u32], at: usize, lo: u32, hi: u32, text: &[u8]) -> Counts
+fn joins(code: &[u32], at: usize, lo: u32, hi: u32, text: &[u8]) -> Option<Counts>
     requires fact_1 { Word code.now at 4 }
     requires fact_2 { length text.now ≤ 2 ^ 31 }
-    ensures { result.known ≡ true → Joins code.now at lo hi (length text.now) result.lo result.hi }
+    ensures { IfSome result (λ r. Joins code.now at lo hi (length text.now) r.lo r.hi) }
 {
-    let none = Counts {
-        known: false,
-        lo: 0,
-        hi: 0,
-    };
-    if code.len() - at < 3 {
-        return none;
-    }
-    if misses(code, at, text.len()) {
-        return none;
+    if code.len() - at < 3 || misses(code, at, text.len()) {
+        return None;
     }
     let h = code[at + 2];
     let l = needed(code, at + 3, code[at + 1], h, text);
     if single(lo, hi) {
-        return Counts {
-            known: true,
-            lo: l,
-            hi: h,
-        };
+        return Some(Counts { lo: l, hi: h });
     }
-    if hi < lo {
-        return none;
+    if hi < lo || 0 < l {
+        return None;
     }
-    if 0 < l {
-        return none;
-    }
-    Counts {
-        known: true,
+    Some(Counts {
         lo: 0,
         hi: product(hi, h, text.len()),
-    }
+    })
 }
 
 // Once.
 fn single(lo: u32, hi: u32) -> bool
     ensures { result ≡ true → (lo ≡ 1) × (hi ≡ 1) }
 {
-    if lo == 1 { hi == 1 } else { false }
+    lo == 1 && hi == 1
 }
 
 // Whether no text of n bytes has hi words of at least m bytes, but for empty ones that need not be there.
@@ -183,15 +154,10 @@ fn endless(lo: u32, hi: u32, m: usize, n: usize) -> bool
     ensures { result ≡ true → Endless lo hi m n }
 {
     let h = small(hi);
-    if lo == 0 {
-        if n <= h {
-            return true;
-        }
+    if lo == 0 && n <= h {
+        return true;
     }
-    if m == 0 {
-        return false;
-    }
-    n <= m * h
+    m != 0 && n <= m * h
 }
 
 // Writes the words of a repeat of what stands at `at`.
@@ -217,7 +183,7 @@ fn behind(code: &[u32], p: Part) -> Part
     ensures { (result.next ≡ min p.next (length code.now) + 1) × (result.end ≡ p.end) }
 {
     Part {
-        next: lesser(p.next, code.len()) + 1,
+        next: p.next.min(code.len()) + 1,
         end: p.end,
     }
 }
@@ -240,15 +206,12 @@ pub fn lessen(
         return Part { next: at, end: to };
     }
     let k = code[at];
-    if k == 2 {
-        if closes(code, at + 1) {
-            let p = lessen(code, at + 1, lo, hi, text, out, to);
-            return behind(code, p);
-        }
+    if k == 2 && closes(code, at + 1) {
+        let p = lessen(code, at + 1, lo, hi, text, out, to);
+        return behind(code, p);
     }
     if k == 4 {
-        let c = joins(code, at, lo, hi, text);
-        if c.known {
+        if let Some(c) = joins(code, at, lo, hi, text) {
             return lessen(code, at + 3, c.lo, c.hi, text, out, to);
         }
     }
@@ -291,9 +254,7 @@ fn pair(code: &[u32], at: usize, k: u32, text: &[u8], out: &mut [u32], to: usize
 {
     let e = put(out, to, k);
     let p = lessen(code, at + 1, 1, 1, text, out, e);
-    let n = p.next;
-    let f = p.end;
-    lessen(code, n, 1, 1, text, out, f)
+    lessen(code, p.next, 1, 1, text, out, p.end)
 }
 
 // A part that is repeated from one number on.

@@ -31,10 +31,8 @@ fn step(code: &[u32], at: usize, text: &[u32], set: &mut [u8])
     requires fact_3 { Fits text.now set.old }
     ensures { Reached code.now at text.now once set.old set.new }
 {
-    let mut i = text.len();
-    while 0 < i {
-        set[i] = moved(code, at, text[i - 1], set[i - 1]);
-        i -= 1;
+    for i in (0..text.len()).rev() {
+        set[i + 1] = moved(code, at, text[i], set[i]);
     }
     set[0] = 0;
 }
@@ -44,10 +42,8 @@ fn copy(from: &[u8], n: usize, to: &mut [u8])
     requires { (n ≤ length from.now) × (n ≤ length to.old) }
     ensures { Same n from.now to.old to.new }
 {
-    let mut i = 0;
-    while i < n {
+    for i in 0..n {
         to[i] = from[i];
-        i += 1;
     }
 }
 
@@ -56,10 +52,7 @@ fn add(set: &mut [u8], i: usize, v: u8, more: bool) -> bool
     requires { i < length set.old }
     ensures { Adds set.old i v more set.new result }
 {
-    if v != 1 {
-        return more;
-    }
-    if set[i] == 1 {
+    if v != 1 || set[i] == 1 {
         return more;
     }
     set[i] = 1;
@@ -72,10 +65,8 @@ fn join(set: &mut [u8], other: &[u8], n: usize) -> bool
     ensures { Both n set.old other.now set.new result }
 {
     let mut more = false;
-    let mut i = 0;
-    while i < n {
+    for i in 0..n {
         more = add(set, i, other[i], more);
-        i += 1;
     }
     more
 }
@@ -85,12 +76,10 @@ fn none(set: &[u8], n: usize) -> bool
     requires { n ≤ length set.now }
     ensures { result ≡ true → None n set.now }
 {
-    let mut i = 0;
-    while i < n {
+    for i in 0..n {
         if set[i] == 1 {
             return false;
         }
-        i += 1;
     }
     true
 }
@@ -100,10 +89,8 @@ fn clear(set: &mut [u8], n: usize)
     requires { n ≤ length set.old }
     ensures { (length set.new ≡ length set.old) × None n set.new }
 {
-    let mut i = 0;
-    while i < n {
+    for i in 0..n {
         set[i] = 0;
-        i += 1;
     }
 }
 
@@ -111,10 +98,7 @@ fn clear(set: &mut [u8], n: usize)
 fn is_row(code: &[u32], at: usize) -> bool
     ensures { IsRow code.now at result }
 {
-    if code.len() <= at {
-        return false;
-    }
-    code[at] == 2
+    at < code.len() && code[at] == 2
 }
 
 // The places to which the part at `at` leads. Parts in a row are a loop, so that the depth is that of groups, alternatives and repeats.
@@ -124,11 +108,10 @@ pub fn reach(code: &[u32], at: usize, text: &[u32], set: &mut [u8])
     ensures { Reached code.now at text.now once set.old set.new }
 {
     let mut p = at;
-    let mut row = is_row(code, at);
-    while row {
+    // A loop over p: a step is as long as the code of a part.
+    while is_row(code, p) {
         reach(code, p + 1, text, set);
         p = skip(code, p + 1);
-        row = is_row(code, p);
     }
     part(code, p, text, set);
 }
@@ -214,13 +197,11 @@ fn again(code: &[u32], at: usize, n: usize, text: &[u32], set: &mut [u8])
     requires { Fits text.now set.old }
     ensures { Reached code.now at text.now (rows n) set.old set.new }
 {
-    let mut left = n;
-    while 0 < left {
+    for _ in 0..n {
         if none(&set[..], text.len() + 1) {
             return;
         }
         reach(code, at, text, set);
-        left -= 1;
     }
 }
 
@@ -230,12 +211,10 @@ fn grow(code: &[u32], at: usize, n: usize, text: &[u32], set: &mut [u8])
     requires { Fits text.now set.old }
     ensures { Reached code.now at text.now (most n) set.old set.new }
 {
-    let mut left = n;
-    while 0 < left {
+    for _ in 0..n {
         if !wider(code, at, text, set) {
             return;
         }
-        left -= 1;
     }
 }
 

@@ -1,12 +1,12 @@
 -- What the words of a row of characters, and of a search for one, say of the expression. Assumes nothing.
 use Prim.Native.Nat.{ℕ, zero, suc, ◌+◌, ◌-◌, ◌*◌, ◌≤◌, ◌<◌}
 use mathlib.Core.Path.{◌≡◌, refl, ap, sym, ◌∙◌, subst}
-use mathlib.Core.Bool.{Bool, true, false, and-eq-true_iff, or-false, false≢true}
+use mathlib.Core.Bool.{Bool, true, false, and-eq-true_iff, or-false}
 use mathlib.Core.List.{List, [], ◌∷◌, ◌++◌, append-nil, append_assoc}
 use native.Mathlib.Numerals.{add-one}
 use native.Mathlib.Omega.{arith}
-use borrow.Author.Tests.{eqb-true, leb-true, le-leb}
-use lib.Dec.{eqb, leb}
+use borrow.Author.Tests.{leb-true, le-leb}
+use lib.Dec.{leb}
 use lib.ListN.{length, drop, get_or}
 use Rattle.regex_definition.specs.Chars.{within}
 use Rattle.regex_definition.specs.Words.{Join, Times, any}
@@ -152,15 +152,12 @@ module _ (s : List ℕ) where
             (sym (word s i (omega (arith, l.fits))) ∙ q.is) q.forth q.back
 
   -- the row ends where the empty expression stands
-  pub row_none : {at n i : ℕ} → Spelt s at n i → Plainly s at false n i
-  row_none p = record { place = omega (arith, p.place, p.fits); fits = p.fits; of = λ e. absurd (false≢true e) }
-
-  pub row_end : {at n i : ℕ} → Spelt s at n i → i < length s → Plainly s at (eqb (get_or s i 0) 0) n (i + 1)
-  row_end {at} {n} {i} p h =
+  pub row_end : {at n i : ℕ} → Spelt s at n i → i < length s → get_or s i 0 ≡ 0 → Plainly s at n (i + 1)
+  row_end {at} {n} {i} p h z =
       record {
         place = omega (arith, p.place, p.fits);
         fits = omega arith;
-        of = λ e x r d. go x r (eqb-true (get_or s i 0) 0 e) (p.of x r d);
+        of = λ x r d. go x r z (p.of x r d);
       }
     where
       go : (x : Regexp) (r : List ℕ) → get_or s i 0 ≡ 0 → Past s at n i x r → Row s at n (i + 1) x r
@@ -224,14 +221,11 @@ module _ (s : List ℕ) where
           (sym (word s (at + 1 + 1) (omega arith)) ∙ a.2))
 
   -- a search
-  pub sought_none : {n : ℕ} → Sought s false n
-  sought_none = record { place = λ e. absurd (false≢true e); of = λ e. absurd (false≢true e) }
-
   pub sought_row :
-      {ok : Bool} {n i : ℕ} → 12 ≤ length s → get_or s 0 0 ≡ 2 → Free s 1 → get_or s 6 0 ≡ 2 → Plainly s 7 ok n i → length s - i ≡ 5
-      → Free s i → Sought s ok n
-  sought_row {ok} {n} {i} h z f k p m g =
-      record { place = λ e. p.place; of = λ e x q. first e x [] (sym (word s 0 (omega arith)) ∙ q) }
+      {n i : ℕ} → 12 ≤ length s → get_or s 0 0 ≡ 2 → Free s 1 → get_or s 6 0 ≡ 2 → Plainly s 7 n i → length s - i ≡ 5
+      → Free s i → Sought s n
+  sought_row {n} {i} h z f k p m g =
+      record { place = p.place; of = λ x q. first x [] (sym (word s 0 (omega arith)) ∙ q) }
     where
       says :
           (a b c : Regexp) (r r' : List ℕ) → ((w : List ℕ) → Describes a w) → Row s 7 n i b r' → ((w : List ℕ) → Describes c w)
@@ -245,18 +239,18 @@ module _ (s : List ℕ) where
       )
 
       second :
-          ok ≡ true → (a y : Regexp) (r : List ℕ) → ((w : List ℕ) → Describes a w) → drop 6 s ≡ flat y r → Says s n (then a y)
-      second e a y r all q =
+          (a y : Regexp) (r : List ℕ) → ((w : List ℕ) → Describes a w) → drop 6 s ≡ flat y r → Says s n (then a y)
+      second a y r all q =
           of_then (λ y r. Says s n (then a y)) _ _ k
           (λ b c r d.
-          let row = p.of e b (flat c r) d in
+          let row = p.of b (flat c r) d in
           says a b c r (flat c r) all row (free_any i (omega arith) g c r row.behind).1)
           y r (sym (word s 6 (omega arith)) ∙ q)
 
-      first : ok ≡ true → (x : Regexp) (r : List ℕ) → get_or s 0 0 ∷ drop 1 s ≡ flat x r → Says s n x
-      first e x r q =
+      first : (x : Regexp) (r : List ℕ) → get_or s 0 0 ∷ drop 1 s ≡ flat x r → Says s n x
+      first x r q =
           of_then (λ x r. Says s n x) _ _ z
-          (λ a y r d. let b = free_any 1 (omega arith) f a (flat y r) d in second e a y r b.1 b.0) x r q
+          (λ a y r d. let b = free_any 1 (omega arith) f a (flat y r) d in second a y r b.1 b.0) x r q
 
   -- an expression that ends in any text
   pub open_end_lem :

@@ -1,7 +1,7 @@
 -- A row of characters at the front of a text, and somewhere in it. Assumes nothing.
 use Prim.Native.Nat.{ℕ, zero, suc, ◌+◌, ◌-◌, ◌*◌, ◌≤◌, ◌<◌}
 use mathlib.Core.Path.{◌≡◌, refl, ap, sym, ◌∙◌, subst}
-use mathlib.Core.Bool.{Bool, true, false, false≢true, true≢false}
+use mathlib.Core.Bool.{Bool, true, false}
 use mathlib.Core.List.{List, [], ◌∷◌, ◌++◌, append-nil, append_assoc}
 use mathlib.Core.Logic.{⊎_elim}
 use native.Mathlib.Omega.{arith}
@@ -16,7 +16,7 @@ use Rattle.regex_definition.specs.Laws.{join_cons, cons_join, nil_join, join_nil
 use Rattle.regex_definition.specs.Agree.{told}
 use Rattle.regex_chars.specs.Chars.{Stands}
 use Rattle.regex_chars.specs.Laws.{slice_end, slice_nil, nil_slice, encode_all_none, encode_all_cons, encode_all_nil, Spells}
-use Rattle.regex_plain.specs.Rows.{letters, Every, Front, Begins, Whole, Found, Sought, Plainly, Known}
+use Rattle.regex_plain.specs.Rows.{letters, Every, Front, Begins, Differs, Whole, Found, Sought, Plainly, Known}
 use Rattle.regex_code.specs.Tests.{eqb_told}
 
 -- lists with one front that are equal go on alike
@@ -54,12 +54,12 @@ module _ (s : List ℕ) (at n : ℕ) (t : List ℕ) (from to : ℕ) (fits : to �
       record { place = h; within = o; of = λ w k. record { done = []; rest = w; eq = refl; all = refl; spelt = k } }
 
   module _ (p left i : ℕ) (q : Passing s at n t from to p left i) where
-    pub pass_all : left ≤ 0 → Begins s at n t from to true i
+    pub pass_all : left ≤ 0 → Begins s at n t from to i
     pass_all h =
         record {
           within = q.within;
           yes =
-              λ e w k.
+              λ w k.
               let a = q.of w k in
               let z : left ≡ 0 = omega arith in
               record {
@@ -69,7 +69,6 @@ module _ (s : List ℕ) (at n : ℕ) (t : List ℕ) (from to : ℕ) (fits : to �
                 is_fore = sym (a.all ∙ ap (λ m. a.done ++ letters s p m) z ∙ append-nil a.done);
                 is_back = a.spelt;
               };
-          not_so = λ e. absurd (true≢false e);
         }
 
     -- what is left of the characters would have to stand in front of what is left of the text
@@ -91,13 +90,11 @@ module _ (s : List ℕ) (at n : ℕ) (t : List ℕ) (from to : ℕ) (fits : to �
           let z : left ≡ suc (left - 1) = omega arith in
           subst (λ m. Front (letters s p m) a.rest) z (ahead w a j)
 
-      pub pass_short : i ≡ to → Begins s at n t from to false i
+      pub pass_short : i ≡ to → Differs s at n t from to
       pass_short h =
           record {
-            within = q.within;
-            yes = λ e. absurd (false≢true e);
             not_so =
-                λ e w k j.
+                λ w k j.
                 let a = q.of w k in
                 let z : a.rest ≡ [] = encode_all_nil a.rest (sym a.spelt ∙ nil_slice t i to h) in
                 front_nil _ _ (subst (Front (get_or s (p + 4) 0 ∷ letters s (p + 6) (left - 1))) z (ahead_first w a j));
@@ -111,13 +108,11 @@ module _ (s : List ℕ) (at n : ℕ) (t : List ℕ) (from to : ℕ) (fits : to �
             let o = k.of d (encode_all v) (e ∙ encode_all_cons d v) in
             (v, ap (λ m. m ∷ v) (sym o.0), o.1)
 
-        pub pass_differ : (c ≡ get_or s (p + 4) 0 → ⊥) → Begins s at n t from to false i
+        pub pass_differ : (c ≡ get_or s (p + 4) 0 → ⊥) → Differs s at n t from to
         pass_differ f =
             record {
-              within = q.within;
-              yes = λ e. absurd (false≢true e);
               not_so =
-                  λ e w y j.
+                  λ w y j.
                   let a = q.of w y in
                   let b = next_char a.rest a.spelt in
                   f (front_cons _ _ _ _ (subst (Front (get_or s (p + 4) 0 ∷ letters s (p + 6) (left - 1))) b.1 (ahead_first w a j)));
@@ -143,19 +138,19 @@ module _ (s : List ℕ) (at n : ℕ) (t : List ℕ) (from to : ℕ) (fits : to �
 
 -- ---- the whole text
 
-module _ (s : List ℕ) (at n : ℕ) (t : List ℕ) {ok : Bool} {next : ℕ} (b : Begins s at n t 0 (length t) ok next) where
-  pub whole_no : ok ≡ false → Whole s at n t false
-  whole_no e =
+module _ (s : List ℕ) (at n : ℕ) (t : List ℕ) where
+  pub whole_no : Differs s at n t 0 (length t) → Whole s at n t false
+  whole_no b =
       record {
         of =
             λ w k. fails
             (λ h.
-            b.not_so e w (slice_end t 0 ∙ k)
+            b.not_so w (slice_end t 0 ∙ k)
             (record { fore = w; back = []; eq = sym (append-nil w); is_fore = h; is_back = tt }));
       }
 
-  pub whole_yes : ok ≡ true → Whole s at n t (eqb next (length t))
-  whole_yes e = record { of = λ w k. go w (b.yes e w (slice_end t 0 ∙ k)) }
+  pub whole_yes : {next : ℕ} → Begins s at n t 0 (length t) next → Whole s at n t (eqb next (length t))
+  whole_yes {next} b = record { of = λ w k. go w (b.yes w (slice_end t 0 ∙ k)) }
     where
       go : (w : List ℕ) → Join (λ u. u ≡ letters s at n) (Spells t next (length t)) w → Told (w ≡ letters s at n) (eqb next (length t))
       go w j =
@@ -187,21 +182,21 @@ hunt_start l t =
     record { within = omega arith; of = λ w k. record { rest = w; spelt = slice_end t 0 ∙ k; forth = λ j. j; back = λ j. j } }
 
 module _ (s : List ℕ) (at n : ℕ) (t : List ℕ) (i : ℕ) (q : Hunting (letters s at n) t i) where
-  module _ {ok : Bool} {end : ℕ} (b : Begins s at n t i (length t) ok end) where
-    pub hunt_found : ok ≡ true → Found s at n t true
-    hunt_found e =
-        record {
-          of =
-              λ w k.
-              let a = q.of w k in
-              holds
-              (a.back
-              (nil_join a.rest tt
-              (join_map (λ u. u ≡ letters s at n) Every (λ u v. v) (λ u v. tt) a.rest (b.yes e a.rest a.spelt))));
-        }
+  pub hunt_found : {end : ℕ} → Begins s at n t i (length t) end → Found s at n t true
+  hunt_found b =
+      record {
+        of =
+            λ w k.
+            let a = q.of w k in
+            holds
+            (a.back
+            (nil_join a.rest tt
+            (join_map (λ u. u ≡ letters s at n) Every (λ u v. v) (λ u v. tt) a.rest (b.yes a.rest a.spelt))));
+      }
 
-    pub hunt_more : i < length t → ok ≡ false → {next c : ℕ} → Stands t i (length t) next c → Hunting (letters s at n) t next
-    hunt_more h e {next} {c} k = record { within = k.within; of = λ w y. go w (q.of w y) }
+  module _ (b : Differs s at n t i (length t)) where
+    pub hunt_more : i < length t → {next c : ℕ} → Stands t i (length t) next c → Hunting (letters s at n) t next
+    hunt_more h {next} {c} k = record { within = k.within; of = λ w y. go w (q.of w y) }
       where
         go : (w : List ℕ) → Left (letters s at n) t i w → Left (letters s at n) t next w
         go w a = by a.rest a.spelt a.forth a.back
@@ -216,7 +211,7 @@ module _ (s : List ℕ) (at n : ℕ) (t : List ℕ) (i : ℕ) (q : Hunting (lett
                   spelt = (k.of d (encode_all r) (y ∙ encode_all_cons d r)).1;
                   forth =
                       λ j.
-                      ⊎_elim (λ p. absurd (b.not_so e (d ∷ r) y p.1)) (λ p. p) (join_cons d r (f j));
+                      ⊎_elim (λ p. absurd (b.not_so (d ∷ r) y p.1)) (λ p. p) (join_cons d r (f j));
                   back = λ j. g (cons_join d r j);
                 }
 
@@ -242,25 +237,22 @@ module _ (s : List ℕ) (at n : ℕ) (t : List ℕ) (i : ℕ) (q : Hunting (lett
 
 -- ---- the answers
 
-pub known_none : {s t : List ℕ} {b : Bool} → Known s t false b
-known_none = record { of = λ e. absurd (false≢true e) }
-
 pub known_search :
-    (s t : List ℕ) {ok : Bool} {n : ℕ} {b : Bool} → Sought s ok n → ok ≡ true → Found s 7 n t b → Known s t true b
-known_search s t p e f =
+    (s t : List ℕ) {n : ℕ} {b : Bool} → Sought s n → Found s 7 n t b → Known s t b
+known_search s t p f =
     record {
       of =
-          λ z x w q k.
-          let a = p.of e x q w in
+          λ x w q k.
+          let a = p.of x q w in
           told a.1 a.0 (f.of w k);
     }
 
 pub known_whole :
-    (s t : List ℕ) {ok : Bool} {n next : ℕ} {b : Bool} → Plainly s 0 ok n next → ok ≡ true → Whole s 0 n t b → Known s t true b
-known_whole s t p e f =
+    (s t : List ℕ) {n next : ℕ} {b : Bool} → Plainly s 0 n next → Whole s 0 n t b → Known s t b
+known_whole s t p f =
     record {
       of =
-          λ z x w q k.
-          let a = p.of e x [] q in
+          λ x w q k.
+          let a = p.of x [] q in
           told (λ h. subst (Describes x) (sym h) a.back) (a.forth w) (f.of w k);
     }

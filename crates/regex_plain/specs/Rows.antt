@@ -1,6 +1,6 @@
 -- A row of single characters in the code of an expression: for each the words 2 1 0 1 C C, and 0 behind the last; and what the
 -- functions answer of it. Assumes nothing: these are definitions.
-use Rattle.std.specs.Prelude.{ℕ, zero, suc, ◌+◌, ◌*◌, ◌≤◌, ◌≡◌, Bool, true, false, List, [], ◌∷◌, ◌++◌, length, drop, get_or}
+use Rattle.std.specs.Prelude.{ℕ, zero, suc, ◌+◌, ◌*◌, ◌≤◌, ◌≡◌, Bool, List, [], ◌∷◌, ◌++◌, length, drop, get_or}
 use Rattle.definition.specs.Utf8.{encode_all}
 use Rattle.regex_definition.specs.Words.{Join, Told}
 use Rattle.regex_definition.specs.Regexp.{Regexp, Describes}
@@ -61,16 +61,20 @@ pub record Row (s : List ℕ) (at n next : ℕ) (x : Regexp) (r : List ℕ) : Ty
   pub forth : (w : List ℕ) → Describes x w → w ≡ letters s at n
   pub back : Describes x (letters s at n)
 
-pub record Plainly (s : List ℕ) (at : ℕ) (ok : Bool) (n next : ℕ) : Type 0 where
+-- the expression at `at` is a row of n characters, and next is behind it
+pub record Plainly (s : List ℕ) (at n next : ℕ) : Type 0 where
   pub place : at + 6 * n ≤ length s
   pub fits : next ≤ length s
-  pub of : ok ≡ true → (x : Regexp) (r : List ℕ) → drop at s ≡ flat x r → Row s at n next x r
+  pub of : (x : Regexp) (r : List ℕ) → drop at s ≡ flat x r → Row s at n next x r
 
 -- the text of from..to begins with the characters, which end at next
-pub record Begins (s : List ℕ) (at n : ℕ) (t : List ℕ) (from to : ℕ) (ok : Bool) (next : ℕ) : Type 0 where
+pub record Begins (s : List ℕ) (at n : ℕ) (t : List ℕ) (from to next : ℕ) : Type 0 where
   pub within : next ≤ to
-  pub yes : ok ≡ true → (w : List ℕ) → Spells t from to w → Join (λ u. u ≡ letters s at n) (Spells t next to) w
-  pub not_so : ok ≡ false → (w : List ℕ) → Spells t from to w → Front (letters s at n) w → ⊥
+  pub yes : (w : List ℕ) → Spells t from to w → Join (λ u. u ≡ letters s at n) (Spells t next to) w
+
+-- it does not
+pub record Differs (s : List ℕ) (at n : ℕ) (t : List ℕ) (from to : ℕ) : Type 0 where
+  pub not_so : (w : List ℕ) → Spells t from to w → Front (letters s at n) w → ⊥
 
 -- the text is the characters
 pub record Whole (s : List ℕ) (at n : ℕ) (t : List ℕ) (b : Bool) : Type 0 where
@@ -81,15 +85,15 @@ pub record Found (s : List ℕ) (at n : ℕ) (t : List ℕ) (b : Bool) : Type 0 
   pub of : (w : List ℕ) → t ≡ encode_all w → Told (Join Every (Front (letters s at n)) w) b
 
 -- the code is that of a search for n characters
-pub record Sought (s : List ℕ) (ok : Bool) (n : ℕ) : Type 0 where
-  pub place : ok ≡ true → 7 + 6 * n ≤ length s
+pub record Sought (s : List ℕ) (n : ℕ) : Type 0 where
+  pub place : 7 + 6 * n ≤ length s
   pub of :
-      ok ≡ true → (x : Regexp) → s ≡ flat x [] → (w : List ℕ)
+      (x : Regexp) → s ≡ flat x [] → (w : List ℕ)
       → (Describes x w → Join Every (Front (letters s 7 n)) w) × (Join Every (Front (letters s 7 n)) w → Describes x w)
 
--- the answer, where it is known
-pub record Known (s t : List ℕ) (ok b : Bool) : Type 0 where
-  pub of : ok ≡ true → (x : Regexp) (w : List ℕ) → s ≡ flat x [] → t ≡ encode_all w → Told (Describes x w) b
+-- the answer is b
+pub record Known (s t : List ℕ) (b : Bool) : Type 0 where
+  pub of : (x : Regexp) (w : List ℕ) → s ≡ flat x [] → t ≡ encode_all w → Told (Describes x w) b
 
 -- a text that is described is described with any end
 pub record Open (s : List ℕ) : Type 0 where

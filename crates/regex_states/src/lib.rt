@@ -39,22 +39,10 @@ const MAX_CODE: usize = 65535;
 // The number of a state is a byte.
 const MAX_STATES: usize = 255;
 
-fn wide(b: u8) -> usize
-    ensures { result ≡ b }
-{
-    b as usize
-}
-
 fn bit(b: bool) -> u8
     ensures { eqb result 1 ≡ b }
 {
     if b { 1 } else { 0 }
-}
-
-fn both(a: bool, b: bool) -> bool
-    ensures { result ≡ (a && b) }
-{
-    if a { b } else { false }
 }
 
 // A place of a text, and the state in which it is reached.
@@ -69,22 +57,22 @@ fn follow(text: &[u8], edges: &[u8], from: usize, state: usize) -> Spot
     requires { (from ≤ length text.now) × Inside edges.now state }
     ensures { Followed edges.now text.now from state result.place result.state }
 {
-    let end = text.len();
-    let mut i = from;
     let mut k = state;
-    while i < end {
-        let b = wide(text[i]);
+    for i in from..text.len() {
+        let b = usize::from(text[i]);
         if ROW <= b {
             return Spot { place: i, state: k };
         }
-        let t = wide(edges[k * ROW + b]);
+        let t = usize::from(edges[k * ROW + b]);
         if t == 0 {
             return Spot { place: i, state: k };
         }
         k = t;
-        i += 1;
     }
-    Spot { place: i, state: k }
+    Spot {
+        place: text.len(),
+        state: k,
+    }
 }
 
 // Sets the marks of state k.
@@ -93,10 +81,8 @@ fn load(sets: &[u8], k: usize, marks: &mut [u8])
     ensures { marks.new ≡ cells sets.now (k * 128) (length marks.old) }
 {
     let from = k * ROW;
-    let mut i = 0;
-    while i < marks.len() {
+    for i in 0..marks.len() {
         marks[i] = sets[from + i];
-        i += 1;
     }
 }
 
@@ -106,12 +92,10 @@ fn same(sets: &[u8], k: usize, marks: &[u8]) -> bool
     ensures { result ≡ true → cells sets.now (k * 128) (length marks.now) ≡ marks.now }
 {
     let from = k * ROW;
-    let mut i = 0;
-    while i < marks.len() {
+    for i in 0..marks.len() {
         if marks[i] != sets[from + i] {
             return false;
         }
-        i += 1;
     }
     true
 }
@@ -121,12 +105,10 @@ fn find(sets: &[u8], marks: &[u8], count: usize) -> usize
     requires { (count * 128 ≤ length sets.now) × (length marks.now ≤ 128) }
     ensures { Found sets.now marks.now count result }
 {
-    let mut k = 2;
-    while k < count {
+    for k in 2..count {
         if same(sets, k, marks) {
             return k;
         }
-        k += 1;
     }
     0
 }
@@ -135,14 +117,7 @@ fn find(sets: &[u8], marks: &[u8], count: usize) -> usize
 fn dead(marks: &[u8]) -> bool
     ensures { result ≡ true → Clear marks.now }
 {
-    let mut i = 0;
-    while i < marks.len() {
-        if marks[i] != 0 {
-            return false;
-        }
-        i += 1;
-    }
-    true
+    marks.iter().all(|&m| m == 0)
 }
 
 // Writes the marks into row k.
@@ -151,10 +126,8 @@ fn store(sets: &mut [u8], k: usize, marks: &[u8])
     ensures { Put sets.old k marks.now sets.new }
 {
     let from = k * ROW;
-    let mut i = 0;
-    while i < marks.len() {
+    for i in 0..marks.len() {
         sets[from + i] = marks[i];
-        i += 1;
     }
 }
 
@@ -164,10 +137,8 @@ fn blank(rows: &mut [u8], k: usize)
     ensures { Blank rows.old k rows.new }
 {
     let from = k * ROW;
-    let mut i = 0;
-    while i < ROW {
+    for i in 0..ROW {
         rows[from + i] = 0;
-        i += 1;
     }
 }
 
@@ -192,16 +163,7 @@ fn settles(marks: &[u8], told: bool, grows: bool) -> bool
 fn has_room(count: usize, edges: usize, sets: usize) -> bool
     ensures { result ≡ true → Room count edges sets }
 {
-    if MAX_STATES <= count {
-        return false;
-    }
-    if edges / ROW <= count {
-        return false;
-    }
-    if sets / ROW <= count {
-        return false;
-    }
-    true
+    count < MAX_STATES && count < edges / ROW && count < sets / ROW
 }
 
 // Makes a state of the marks, and answers its number, or 0 where there is no room.
@@ -209,7 +171,7 @@ fn add(edges: &mut [u8], sets: &mut [u8], marks: &[u8], told: bool) -> usize
     requires { (length marks.now ≤ 120) × (2 ≤ count sets.old) × (3 ≤ length sets.old) }
     ensures { Placed edges.old sets.old marks.now told edges.new sets.new result }
 {
-    let k = wide(sets[1]);
+    let k = usize::from(sets[1]);
     if !has_room(k, edges.len(), sets.len()) {
         return 0;
     }
@@ -227,7 +189,7 @@ fn state_of(edges: &mut [u8], sets: &mut [u8], marks: &[u8], told: bool) -> usiz
     requires { (length marks.now ≤ 120) × (2 ≤ count sets.old) × (count sets.old * 128 ≤ length sets.old) }
     ensures { Placed edges.old sets.old marks.now told edges.new sets.new result }
 {
-    let count = wide(sets[1]);
+    let count = usize::from(sets[1]);
     let t = find(sets, marks, count);
     if 0 < t {
         return t;
@@ -240,10 +202,7 @@ fn note(edges: &mut [u8], k: usize, c: u32, t: usize)
     requires { (k * 128 + 128 ≤ length edges.old) × (t ≤ 255) }
     ensures { Noted edges.old k c t edges.new }
 {
-    if t == 0 {
-        return;
-    }
-    if c < 128 {
+    if t != 0 && c < 128 {
         edges[k * ROW + c as usize] = t as u8;
     }
 }
@@ -260,13 +219,7 @@ fn note_other(sets: &mut [u8], k: usize, c: u32, t: usize)
     requires { (k * 128 + 128 ≤ length sets.old) × (4 ≤ length sets.old) × (t ≤ 255) }
     ensures { Beyond sets.old k c t sets.new }
 {
-    if t == 0 {
-        return;
-    }
-    if c < 128 {
-        return;
-    }
-    if sets[3] == 1 {
+    if t != 0 && 128 <= c && sets[3] == 1 {
         sets[k * ROW + OTHER] = t as u8;
     }
 }
@@ -303,7 +256,7 @@ fn step(code: &[u32], k: usize, c: u32, edges: &mut [u8], sets: &mut [u8], marks
     ensures { Stepped code.now edges.old sets.old k c edges.new sets.new marks.new result.state result.told }
 {
     if 128 <= c {
-        let t = wide(sets[k * ROW + OTHER]);
+        let t = usize::from(sets[k * ROW + OTHER]);
         if 0 < t {
             return Next {
                 state: t,
@@ -323,6 +276,7 @@ fn trace(code: &[u32], text: &[u8], edges: &mut [u8], sets: &mut [u8], marks: &m
     let end = text.len();
     let mut i = 0;
     let mut k = 1;
+    // A loop over i: a step is as long as the way that is known, and the character behind it.
     while i < end {
         let s = follow(text, edges, i, k);
         i = s.place;
@@ -348,18 +302,11 @@ fn trace(code: &[u32], text: &[u8], edges: &mut [u8], sets: &mut [u8], marks: &m
 fn has_states(code: &[u32], n: usize) -> bool
     ensures { result ≡ true → Suits code.now n }
 {
-    if n == 0 {
-        return false;
-    }
-    if MAX_MARKS < n {
-        return false;
-    }
-    if MAX_CODE < code.len() {
+    if n == 0 || MAX_MARKS < n || MAX_CODE < code.len() {
         return false;
     }
     let none = [0u8; 1];
-    let p = ask(code, &none);
-    !p.known
+    ask(code, &none).is_none()
 }
 
 // Whether the expression, which has n marks, describes the empty text: a step that enters nothing tells.
@@ -387,14 +334,7 @@ fn head(sets: &mut [u8], n: usize, grows: bool, alike: bool)
 fn all_low(code: &[u32]) -> bool
     ensures { result ≡ true → AllLow code.now }
 {
-    let mut i = 0;
-    while i < code.len() {
-        if 128 <= code[i] {
-            return false;
-        }
-        i += 1;
-    }
-    true
+    code.iter().all(|&w| w < 128)
 }
 
 // The start: nothing is read, and no edge is known.
@@ -408,7 +348,7 @@ fn begin(code: &[u32], edges: &mut [u8], sets: &mut [u8], n: usize)
     let grows = open_ended(code);
     blank(edges, 1);
     blank(sets, 1);
-    seal(sets, 1, told, both(told, grows));
+    seal(sets, 1, told, told && grows);
     let alike = all_low(code);
     head(sets, n, grows, alike);
 }
@@ -439,7 +379,7 @@ pub fn test_with(
     ensures fact_1 { Tested code.now text.now result }
     ensures fact_2 { Ready code.now edges.new sets.new }
 {
-    let n = wide(sets[0]);
+    let n = usize::from(sets[0]);
     if n == 0 {
         return test(code, text, marks);
     }

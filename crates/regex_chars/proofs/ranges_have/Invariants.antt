@@ -1,9 +1,7 @@
 -- `regex_chars::ranges_have` meets its contract.
+use Prim.Native.Nat.{◌+◌, ◌-◌, ◌*◌}
 use Rattle.regex_chars.specs.Classes.{Scanning}
 use Rattle.regex_chars.proofs.ranges_have.Given as goal
 
-abbrev pub invariant-loop-left : goal.invariant-loop-left
-invariant-loop-left l = Scanning l.code l.at l.n l.c l.i l.left
-
-abbrev pub decreases-loop-left : goal.decreases-loop-left
-decreases-loop-left l = l.left
+abbrev pub invariant-loop-k : goal.invariant-loop-k
+invariant-loop-k l = Scanning l.code l.at l.n l.c (l.at + 2 * l.k) (l.n - l.k)

@@ -3,8 +3,8 @@ use native.Mathlib.Omega.{arith}
 use Rattle.regex_match.proofs.Laws.{by_plain, by_length, by_marks, taken, grows, fits}
 use Rattle.regex_match.proofs.test.Goals as goal
 
-pub returns-then-p : goal.returns-then-p
-returns-then-p c = by_plain _ _ c.ask-p.ensures c.if-p.true
+pub returns-in-Some : goal.returns-in-Some
+returns-in-Some c = by_plain _ _ c.in-Some.ensures
 
 pub returns-then-missed : goal.returns-then-missed
 returns-then-missed c = by_length _ _ (c.missed.ensures c.if-missed.true)

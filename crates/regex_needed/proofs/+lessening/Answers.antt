@@ -77,24 +77,24 @@ pub lessen-returns-then-closes : goal.lessen-returns-then-closes
 lessen-returns-then-closes t c = less_ended c.behind.ensures.1 (less_closed (record { here = c.if-code-at.false; is = c.if-k-eq2.true }) (c.closes.ensures c.if-closes.true) c.lessen-p.ensures c.behind.ensures.0)
 
 -- lessen
-pub lessen-joins-c-requires : goal.lessen-joins-c-requires
-lessen-joins-c-requires t c = record { fact_1 = record { here = c.if-code-at.false; is = c.if-k-eq4.true }; fact_2 = c.requires.short }
+pub lessen-joins-requires : goal.lessen-joins-requires
+lessen-joins-requires t c = record { fact_1 = record { here = c.if-code-at.false; is = c.if-k-eq4.true }; fact_2 = c.requires.short }
 
 -- lessen
-pub lessen-overflow_add-at-then-c : goal.lessen-overflow_add-at-then-c
-lessen-overflow_add-at-then-c t c = omega (arith, c.if-code-at.false, c.well_formed.0)
+pub lessen-overflow_add-at-in-Some : goal.lessen-overflow_add-at-in-Some
+lessen-overflow_add-at-in-Some t c = omega (arith, c.if-code-at.false, c.well_formed.0)
 
 -- lessen
 pub lessen-lessen-requires : goal.lessen-lessen-requires
 lessen-lessen-requires t c = (omega (arith, c.decreases, c.if-code-at.false), c.requires)
 
 -- lessen
-pub lessen-shape_of-out-then-c : goal.lessen-shape_of-out-then-c
-lessen-shape_of-out-then-c t c = c.lessen.ensures.goes.long
+pub lessen-shape_of-out-in-Some : goal.lessen-shape_of-out-in-Some
+lessen-shape_of-out-in-Some t c = c.lessen.ensures.goes.long
 
 -- lessen
-pub lessen-returns-then-c : goal.lessen-returns-then-c
-lessen-returns-then-c t c = less_joined (c.joins-c.ensures c.if-c.true) c.lessen.ensures
+pub lessen-returns-in-Some : goal.lessen-returns-in-Some
+lessen-returns-in-Some t c = less_joined c.in-Some.ensures c.lessen.ensures
 
 -- lessen
 pub lessen-head-e-requires : goal.lessen-head-e-requires

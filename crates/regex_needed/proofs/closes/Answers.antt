@@ -1,11 +1,7 @@
 -- `regex_needed::closes` meets its contract.
 use borrow.Author.Tests.{eqb-true}
-use mathlib.Core.Bool.{false≢true}
 use Rattle.regex_needed.proofs.Writing.{closed}
 use Rattle.regex_needed.proofs.closes.Goals as goal
 
-pub returns-then-code-n : goal.returns-then-code-n
-returns-then-code-n c = λ e. absurd (false≢true e)
-
-pub returns : goal.returns
-returns c = λ e. closed c.skip-n.ensures c.if-code-n.false (eqb-true _ _ e)
+pub returns-then-n-code : goal.returns-then-n-code
+returns-then-n-code c = λ e. closed c.skip-n.ensures c.if-n-code.true (eqb-true _ _ e)

@@ -4,4 +4,4 @@ use Rattle.regex_needed.proofs.Writing.{missed}
 use Rattle.regex_needed.proofs.misses.Goals as goal
 
 pub returns : goal.returns
-returns c = λ e. missed c.measure-w.ensures (ltb-true _ _ e)
+returns c = λ e. missed c.measure.ensures (ltb-true _ _ e)

@@ -8,4 +8,4 @@ pub overflow_mul-h : goal.overflow_mul-h
 overflow_mul-h c = record { fits = words_product _ _ c.small-h.ensures.1 c.small-k.ensures.1 }
 
 pub returns : goal.returns
-returns c = c.lesser-m.ensures ∙ ap (λ h. min (h * c.small-k.result) c.args.n) c.small-h.ensures.0 ∙ ap (λ h. min (c.args.a * h) c.args.n) c.small-k.ensures.0
+returns c = c.min-m.ensures ∙ ap (λ h. min (h * c.small-k.result) c.args.n) c.small-h.ensures.0 ∙ ap (λ h. min (c.args.a * h) c.args.n) c.small-k.ensures.0

@@ -1,14 +1,15 @@
 -- The answers of the cycle of calls {again, counted, either, grow, least, part, reach, wider}.
 use Rattle.regex_places.proofs.Leads.{rows_start, rows_on, rows_none, rows_end, fits_on, by_counts, by_none, by_either, fits_all, most_start, most_on, most_still, most_end, by_least_lem, nowhere, of_none, too_short, no_word, row_start, row_on, row_end, row_off, by_wider}
 use native.Mathlib.Omega.{arith}
-use mathlib.Core.Path.{refl, ◌∙◌, sym, ap}
+use mathlib.Core.Path.{◌≡◌, refl, ◌∙◌, sym, ap}
+use Prim.Native.Nat.{◌+◌, ◌-◌}
 use borrow.Author.Tests.{not-true}
 use mathlib.Core.Bool.{not}
 use Rattle.regex_places.proofs.+growing.Goals as goal
 
 -- again
-pub again-loop-left-init : goal.again-loop-left-init
-again-loop-left-init t c = rows_start c.args.n
+pub again-loop-init : goal.again-loop-init
+again-loop-init t c = let z : c.args.n - 0 ≡ c.args.n = omega arith in rw z (rows_start c.args.n)
 
 -- again
 pub again-overflow_add-text : goal.again-overflow_add-text
@@ -16,39 +17,31 @@ again-overflow_add-text t c = omega (arith, c.requires.short)
 
 -- again
 pub again-none-requires : goal.again-none-requires
-again-none-requires t c = omega (arith, c.requires.room, c.loop-left.invariant.long)
+again-none-requires t c = omega (arith, c.requires.room, c.loop.invariant.long)
 
 -- again
 pub again-shape_of-set-then-none : goal.again-shape_of-set-then-none
-again-shape_of-set-then-none t c = c.loop-left.invariant.long
+again-shape_of-set-then-none t c = c.loop.invariant.long
 
 -- again
 pub again-returns-then-none : goal.again-returns-then-none
-again-returns-then-none t c = rows_none c.args.n c.loop-left.left c.loop-left.invariant (c.none.ensures c.if-none.true)
+again-returns-then-none t c = rows_none c.args.n (c.args.n - c.loop.counter) c.loop.invariant (c.none.ensures c.if-none.true)
 
 -- again
 pub again-reach-requires : goal.again-reach-requires
-again-reach-requires t c = (omega (arith, c.decreases), fits_on c.requires c.loop-left.invariant.long)
+again-reach-requires t c = (omega (arith, c.decreases), fits_on c.requires c.loop.invariant.long)
 
 -- again
-pub again-overflow_sub-left : goal.again-overflow_sub-left
-again-overflow_sub-left t c = omega (arith, c.loop-left-test.true)
-
--- again
-pub again-loop-left-smaller : goal.again-loop-left-smaller
-again-loop-left-smaller t c = omega (arith, c.loop-left-test.true)
-
--- again
-pub again-loop-left-preserved : goal.again-loop-left-preserved
-again-loop-left-preserved t c = rows_on c.args.n c.loop-left.left c.loop-left-test.true c.loop-left.invariant c.reach.ensures
+pub again-loop-preserved : goal.again-loop-preserved
+again-loop-preserved t c = let z : c.args.n - (c.loop.counter + 1) ≡ c.args.n - c.loop.counter - 1 = omega arith in rw z (rows_on c.args.n (c.args.n - c.loop.counter) (omega arith) c.loop.invariant c.reach.ensures)
 
 -- again
 pub again-shape_of-set : goal.again-shape_of-set
-again-shape_of-set t c = c.loop-left.invariant.long
+again-shape_of-set t c = c.loop.invariant.long
 
 -- again
 pub again-returns : goal.again-returns
-again-returns t c = rows_end c.args.n c.loop-left.left c.loop-left-test.false c.loop-left.invariant
+again-returns t c = rows_end c.args.n (c.args.n - c.loop.counter) (omega arith) c.loop.invariant
 
 -- counted
 pub counted-overflow_add-at : goal.counted-overflow_add-at
@@ -159,40 +152,32 @@ pub either-returns : goal.either-returns
 either-returns t c = by_either c.requires.0 refl c.copy.ensures c.reach.ensures c.skip-b.ensures c.reach-2.ensures c.join.ensures
 
 -- grow
-pub grow-loop-left-init : goal.grow-loop-left-init
-grow-loop-left-init t c = most_start c.args.n
+pub grow-loop-init : goal.grow-loop-init
+grow-loop-init t c = let z : c.args.n - 0 ≡ c.args.n = omega arith in rw z (most_start c.args.n)
 
 -- grow
 pub grow-wider-requires : goal.grow-wider-requires
-grow-wider-requires t c = (omega (arith, c.decreases), fits_on c.requires c.loop-left.invariant.long)
+grow-wider-requires t c = (omega (arith, c.decreases), fits_on c.requires c.loop.invariant.long)
 
 -- grow
 pub grow-shape_of-set-then-not-wider : goal.grow-shape_of-set-then-not-wider
-grow-shape_of-set-then-not-wider t c = c.wider.ensures.long ∙ c.loop-left.invariant.long
+grow-shape_of-set-then-not-wider t c = c.wider.ensures.long ∙ c.loop.invariant.long
 
 -- grow
 pub grow-returns-then-not-wider : goal.grow-returns-then-not-wider
-grow-returns-then-not-wider t c = most_still c.args.n c.loop-left.invariant c.wider.ensures (not-true _ (ap not c.if-not-wider.true))
+grow-returns-then-not-wider t c = most_still c.args.n c.loop.invariant c.wider.ensures (not-true _ (ap not c.if-not-wider.true))
 
 -- grow
-pub grow-overflow_sub-left : goal.grow-overflow_sub-left
-grow-overflow_sub-left t c = omega (arith, c.loop-left-test.true)
-
--- grow
-pub grow-loop-left-smaller : goal.grow-loop-left-smaller
-grow-loop-left-smaller t c = omega (arith, c.loop-left-test.true)
-
--- grow
-pub grow-loop-left-preserved : goal.grow-loop-left-preserved
-grow-loop-left-preserved t c = most_on c.args.n c.loop-left-test.true c.loop-left.invariant c.wider.ensures
+pub grow-loop-preserved : goal.grow-loop-preserved
+grow-loop-preserved t c = let z : c.args.n - (c.loop.counter + 1) ≡ c.args.n - c.loop.counter - 1 = omega arith in rw z (most_on c.args.n (omega arith) c.loop.invariant c.wider.ensures)
 
 -- grow
 pub grow-shape_of-set : goal.grow-shape_of-set
-grow-shape_of-set t c = c.loop-left.invariant.long
+grow-shape_of-set t c = c.loop.invariant.long
 
 -- grow
 pub grow-returns : goal.grow-returns
-grow-returns t c = most_end c.args.n c.loop-left-test.false c.loop-left.invariant
+grow-returns t c = most_end c.args.n (omega arith) c.loop.invariant
 
 -- least
 pub least-overflow_add-at : goal.least-overflow_add-at
@@ -307,40 +292,40 @@ pub part-returns-else-k-eq5 : goal.part-returns-else-k-eq5
 part-returns-else-k-eq5 t c = no_word c.if-code-at.false c.if-k-eq0.false c.if-k-eq1.false (c.requires.0.no' refl c.if-code-at.false) c.if-k-eq3.false c.if-k-eq4.false c.if-k-eq5.false
 
 -- reach
-pub reach-loop-row-init : goal.reach-loop-row-init
-reach-loop-row-init t c = (row_start, c.is_row-row.ensures)
+pub reach-loop-set-init : goal.reach-loop-set-init
+reach-loop-set-init t c = row_start
 
 -- reach
 pub reach-overflow_add-p : goal.reach-overflow_add-p
-reach-overflow_add-p t c = omega (arith, (c.loop-row.invariant.1.yes c.loop-row-test.true).here, c.well_formed.0)
+reach-overflow_add-p t c = omega (arith, (c.is_row.ensures.yes c.loop-set-test.true).here, c.well_formed.0)
 
 -- reach
 pub reach-reach-requires : goal.reach-reach-requires
-reach-reach-requires t c = (omega (arith, c.decreases, c.loop-row.invariant.0.from, (c.loop-row.invariant.1.yes c.loop-row-test.true).here), fits_on c.requires c.loop-row.invariant.0.long)
+reach-reach-requires t c = (omega (arith, c.decreases, c.loop-set.invariant.from, (c.is_row.ensures.yes c.loop-set-test.true).here), fits_on c.requires c.loop-set.invariant.long)
 
 -- reach
-pub reach-overflow_add-p-in-loop-row : goal.reach-overflow_add-p-in-loop-row
-reach-overflow_add-p-in-loop-row t c = omega (arith, (c.loop-row.invariant.1.yes c.loop-row-test.true).here, c.well_formed.0)
+pub reach-overflow_add-p-in-loop-set : goal.reach-overflow_add-p-in-loop-set
+reach-overflow_add-p-in-loop-set t c = omega (arith, (c.is_row.ensures.yes c.loop-set-test.true).here, c.well_formed.0)
 
 -- reach
-pub reach-loop-row-smaller : goal.reach-loop-row-smaller
-reach-loop-row-smaller t c = omega (arith, c.skip-p.ensures.from, (c.loop-row.invariant.1.yes c.loop-row-test.true).here)
+pub reach-loop-set-smaller : goal.reach-loop-set-smaller
+reach-loop-set-smaller t c = omega (arith, c.skip-p.ensures.from, (c.is_row.ensures.yes c.loop-set-test.true).here)
 
 -- reach
-pub reach-loop-row-preserved : goal.reach-loop-row-preserved
-reach-loop-row-preserved t c = (row_on c.loop-row.invariant.0 (c.loop-row.invariant.1.yes c.loop-row-test.true) c.reach.ensures c.skip-p.ensures, c.is_row-row-in-loop-row.ensures)
+pub reach-loop-set-preserved : goal.reach-loop-set-preserved
+reach-loop-set-preserved t c = row_on c.loop-set.invariant (c.is_row.ensures.yes c.loop-set-test.true) c.reach.ensures c.skip-p.ensures
 
 -- reach
 pub reach-part-requires : goal.reach-part-requires
-reach-part-requires t c = (omega (arith, c.decreases, c.loop-row.invariant.0.from), (row_off c.loop-row.invariant.1 c.loop-row-test.false, fits_on c.requires c.loop-row.invariant.0.long))
+reach-part-requires t c = (omega (arith, c.decreases, c.loop-set.invariant.from), (row_off c.is_row.ensures c.loop-set-test.false, fits_on c.requires c.loop-set.invariant.long))
 
 -- reach
 pub reach-shape_of-set : goal.reach-shape_of-set
-reach-shape_of-set t c = c.part.ensures.long ∙ c.loop-row.invariant.0.long
+reach-shape_of-set t c = c.part.ensures.long ∙ c.loop-set.invariant.long
 
 -- reach
 pub reach-returns : goal.reach-returns
-reach-returns t c = row_end c.loop-row.invariant.0 c.part.ensures
+reach-returns t c = row_end c.loop-set.invariant c.part.ensures
 
 -- wider
 pub wider-overflow_add-n : goal.wider-overflow_add-n

@@ -1,7 +1,7 @@
 -- The measures and invariants of the cycle of calls {again, counted, either, grow, least, part, reach, wider}.
 use Prim.Native.Nat.{◌+◌, ◌-◌, ◌*◌}
 use lib.ListN.{length}
-use Rattle.regex_places.specs.Places.{Left, rows, most, Row-left, IsRow}
+use Rattle.regex_places.specs.Places.{Left, rows, most, Row-left}
 use Rattle.regex_places.proofs.+growing.Given as goal
 
 abbrev pub decreases-again : goal.decreases-again
@@ -28,20 +28,14 @@ decreases-reach l = 4 * (length l.code.now - l.at) + 3
 abbrev pub decreases-wider : goal.decreases-wider
 decreases-wider l = 4 * (length l.code.now - l.at) + 4
 
-abbrev pub invariant-again-loop-left : goal.invariant-again-loop-left
-invariant-again-loop-left l = Left l.code l.at l.text (rows l.left) (rows l.n) l.initial.set l.set
+abbrev pub invariant-again-loop : goal.invariant-again-loop
+invariant-again-loop l = Left l.code l.at l.text (rows (l.n - l.counter)) (rows l.n) l.initial.set l.set
 
-abbrev pub decreases-again-loop-left : goal.decreases-again-loop-left
-decreases-again-loop-left l = l.left
+abbrev pub invariant-grow-loop : goal.invariant-grow-loop
+invariant-grow-loop l = Left l.code l.at l.text (most (l.n - l.counter)) (most l.n) l.initial.set l.set
 
-abbrev pub invariant-grow-loop-left : goal.invariant-grow-loop-left
-invariant-grow-loop-left l = Left l.code l.at l.text (most l.left) (most l.n) l.initial.set l.set
+abbrev pub invariant-reach-loop-set : goal.invariant-reach-loop-set
+invariant-reach-loop-set l = Row-left l.code l.at l.p l.text l.initial.set l.set
 
-abbrev pub decreases-grow-loop-left : goal.decreases-grow-loop-left
-decreases-grow-loop-left l = l.left
-
-abbrev pub invariant-reach-loop-row : goal.invariant-reach-loop-row
-invariant-reach-loop-row l = Row-left l.code l.at l.p l.text l.initial.set l.set × IsRow l.code l.p l.row
-
-abbrev pub decreases-reach-loop-row : goal.decreases-reach-loop-row
-decreases-reach-loop-row l = length l.code - l.p
+abbrev pub decreases-reach-loop-set : goal.decreases-reach-loop-set
+decreases-reach-loop-set l = length l.code - l.p

@@ -6,22 +6,16 @@ use native.Mathlib.Omega.{arith}
 use Rattle.regex_places.proofs.clear.Goals as goal
 
 pub loop-i-init : goal.loop-i-init
-loop-i-init c = (omega arith, refl, none_start)
+loop-i-init c = (refl, none_start)
 
 pub bounds-set-i : goal.bounds-set-i
-bounds-set-i c = omega (arith, c.loop-i-test.true, c.requires, c.loop-i.invariant.1)
-
-pub overflow_add-i : goal.overflow_add-i
-overflow_add-i c = omega (arith, c.loop-i-test.true, c.ranges.n)
-
-pub loop-i-smaller : goal.loop-i-smaller
-loop-i-smaller c = omega (arith, c.loop-i-test.true)
+bounds-set-i c = omega (arith, c.requires, c.loop-i.invariant.0)
 
 pub loop-i-preserved : goal.loop-i-preserved
-loop-i-preserved c = (omega (arith, c.loop-i-test.true), length-set c.loop-i.set c.loop-i.i 0 ∙ c.loop-i.invariant.1, cleared_on c.loop-i.i (omega (arith, c.loop-i-test.true, c.requires, c.loop-i.invariant.1)) c.loop-i.invariant.2)
+loop-i-preserved c = (length-set c.loop-i.set c.loop-i.i 0 ∙ c.loop-i.invariant.0, cleared_on c.loop-i.i (omega (arith, c.requires, c.loop-i.invariant.0)) c.loop-i.invariant.1)
 
 pub shape_of-set : goal.shape_of-set
-shape_of-set c = c.loop-i.invariant.1
+shape_of-set c = c.loop-i.invariant.0
 
 pub returns : goal.returns
-returns c = (c.loop-i.invariant.1, none_all c.loop-i-test.false c.loop-i.invariant.2)
+returns c = (c.loop-i.invariant.0, none_all (omega arith) c.loop-i.invariant.1)

@@ -5,22 +5,16 @@ use native.Mathlib.Omega.{arith}
 use Rattle.regex_places.proofs.none.Goals as goal
 
 pub loop-i-init : goal.loop-i-init
-loop-i-init c = (omega arith, none_start)
+loop-i-init c = none_start
 
 pub bounds-set-i : goal.bounds-set-i
-bounds-set-i c = omega (arith, c.loop-i-test.true, c.requires)
+bounds-set-i c = omega (arith, c.requires)
 
 pub returns-then-set-i-eq1 : goal.returns-then-set-i-eq1
 returns-then-set-i-eq1 c = λ e. absurd (false≢true e)
 
-pub overflow_add-i : goal.overflow_add-i
-overflow_add-i c = omega (arith, c.loop-i-test.true, c.ranges.n)
-
-pub loop-i-smaller : goal.loop-i-smaller
-loop-i-smaller c = omega (arith, c.loop-i-test.true)
-
 pub loop-i-preserved : goal.loop-i-preserved
-loop-i-preserved c = (omega (arith, c.loop-i-test.true), none_on c.loop-i.i c.if-set-i-eq1.false c.loop-i.invariant.1)
+loop-i-preserved c = none_on c.loop-i.i c.if-set-i-eq1.false c.loop-i.invariant
 
 pub returns : goal.returns
-returns c = λ e. none_all c.loop-i-test.false c.loop-i.invariant.1
+returns c = λ e. none_all (omega arith) c.loop-i.invariant

@@ -1,37 +1,27 @@
 -- `regex_plain::begins` meets its contract.
 use Rattle.regex_plain.proofs.Texts.{pass_start, pass_all, pass_short, pass_differ, pass_more}
+use Prim.Native.Nat.{◌+◌, ◌-◌, ◌*◌}
+use mathlib.Core.Path.{◌≡◌}
 use native.Mathlib.Omega.{arith}
 use Rattle.regex_plain.proofs.begins.Goals as goal
 
-pub loop-left-init : goal.loop-left-init
-loop-left-init c = pass_start _ _ _ _ _ _ c.requires.fact_3 c.requires.fact_1 c.requires.fact_2
+pub loop-k-init : goal.loop-k-init
+loop-k-init c = let e : c.args.at + 6 * 0 ≡ c.args.at = omega arith in let f : c.args.n - 0 ≡ c.args.n = omega arith in rw (e, f) (pass_start _ _ _ _ _ _ c.requires.fact_3 c.requires.fact_1 c.requires.fact_2)
 
 pub returns-then-i-to : goal.returns-then-i-to
-returns-then-i-to c = pass_short _ _ _ _ _ _ c.requires.fact_3 _ _ _ c.loop-left.invariant c.loop-left-test.true c.if-i-to.true
+returns-then-i-to c = pass_short _ _ _ _ _ _ c.requires.fact_3 _ _ _ c.loop-k.invariant (omega arith) c.if-i-to.true
 
 pub char_at-c-requires : goal.char_at-c-requires
-char_at-c-requires c = record { fact_1 = omega (arith, c.loop-left.invariant.within, c.if-i-to.false); fact_2 = c.requires.fact_3 }
+char_at-c-requires c = record { fact_1 = omega (arith, c.loop-k.invariant.within, c.if-i-to.false); fact_2 = c.requires.fact_3 }
 
-pub overflow_add-p : goal.overflow_add-p
-overflow_add-p c = omega (arith, c.loop-left.invariant.place, c.loop-left-test.true)
-
-pub bounds-code-p : goal.bounds-code-p
-bounds-code-p c = omega (arith, c.loop-left.invariant.place, c.loop-left-test.true)
+pub bounds-code-at : goal.bounds-code-at
+bounds-code-at c = omega (arith, c.loop-k.invariant.place)
 
 pub returns-then-c-code : goal.returns-then-c-code
-returns-then-c-code c = pass_differ _ _ _ _ _ _ c.requires.fact_3 _ _ _ c.loop-left.invariant c.loop-left-test.true c.if-i-to.false c.char_at-c.ensures c.if-c-code.true
+returns-then-c-code c = pass_differ _ _ _ _ _ _ c.requires.fact_3 _ _ _ c.loop-k.invariant (omega arith) c.if-i-to.false c.char_at-c.ensures c.if-c-code.true
 
-pub overflow_add-p-in-loop-left : goal.overflow_add-p-in-loop-left
-overflow_add-p-in-loop-left c = omega (arith, c.loop-left.invariant.place, c.loop-left-test.true)
-
-pub overflow_sub-left : goal.overflow_sub-left
-overflow_sub-left c = omega (arith, c.loop-left-test.true)
-
-pub loop-left-smaller : goal.loop-left-smaller
-loop-left-smaller c = omega (arith, c.loop-left-test.true)
-
-pub loop-left-preserved : goal.loop-left-preserved
-loop-left-preserved c = pass_more _ _ _ _ _ _ c.requires.fact_3 _ _ _ c.loop-left.invariant c.loop-left-test.true c.if-i-to.false c.char_at-c.ensures c.if-c-code.false
+pub loop-k-preserved : goal.loop-k-preserved
+loop-k-preserved c = let e : c.args.at + 6 * (c.loop-k.k + 1) ≡ c.args.at + 6 * c.loop-k.k + 6 = omega arith in let f : c.args.n - (c.loop-k.k + 1) ≡ c.args.n - c.loop-k.k - 1 = omega arith in rw (e, f) (pass_more _ _ _ _ _ _ c.requires.fact_3 _ _ _ c.loop-k.invariant (omega arith) c.if-i-to.false c.char_at-c.ensures c.if-c-code.false)
 
 pub returns : goal.returns
-returns c = pass_all _ _ _ _ _ _ c.requires.fact_3 _ _ _ c.loop-left.invariant c.loop-left-test.false
+returns c = pass_all _ _ _ _ _ _ c.requires.fact_3 _ _ _ c.loop-k.invariant (omega arith)

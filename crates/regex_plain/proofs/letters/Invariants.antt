@@ -1,13 +1,11 @@
 -- `regex_plain::letters` meets its contract.
-use Rattle.regex_plain.specs.Rows.{Letter, Spelt}
+use Rattle.regex_plain.specs.Rows.{Spelt}
 use lib.ListN.{length}
-use mathlib.Core.Bool.{true}
-use mathlib.Core.Path.{◌≡◌}
 use Prim.Native.Nat.{◌-◌}
 use Rattle.regex_plain.proofs.letters.Given as goal
 
-abbrev pub invariant-loop-more : goal.invariant-loop-more
-invariant-loop-more l = Spelt l.code l.at l.n l.i × (l.more ≡ true → Letter l.code l.i)
+abbrev pub invariant-loop-n : goal.invariant-loop-n
+invariant-loop-n l = Spelt l.code l.at l.n l.i
 
-abbrev pub decreases-loop-more : goal.decreases-loop-more
-decreases-loop-more l = length l.code - l.i
+abbrev pub decreases-loop-n : goal.decreases-loop-n
+decreases-loop-n l = length l.code - l.i

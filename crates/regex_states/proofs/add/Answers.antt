@@ -29,7 +29,7 @@ pub overflow_cast-sets : goal.overflow_cast-sets
 overflow_cast-sets c = let r = c.has_room.ensures (not-false _ (ap not c.if-not-has_room.false)) in omega (arith, r.byte)
 
 pub shape_of-sets : goal.shape_of-sets
-shape_of-sets c = length-set c.seal.new.sets 1 (c.wide-k.result + 1) ∙ c.seal.ensures.long ∙ c.store.ensures.long
+shape_of-sets c = length-set c.seal.new.sets 1 (c.from-k.result + 1) ∙ c.seal.ensures.long ∙ c.store.ensures.long
 
 pub returns : goal.returns
-returns c = let r = c.has_room.ensures (not-false _ (ap not c.if-not-has_room.false)) in fresh (added _ c.wide-k.ensures (omega (arith, c.requires.1, c.wide-k.ensures)) c.requires.0 r c.settles-end.ensures c.store.ensures c.seal.ensures c.blank.ensures)
+returns c = let r = c.has_room.ensures (not-false _ (ap not c.if-not-has_room.false)) in fresh (added _ c.from-k.ensures (omega (arith, c.requires.1, c.from-k.ensures)) c.requires.0 r c.settles-end.ensures c.store.ensures c.seal.ensures c.blank.ensures)

@@ -9,13 +9,13 @@ use Rattle.regex_states.proofs.Cells.{cells_is}
 use Rattle.regex_states.proofs.same.Goals as goal
 
 pub loop-i-init : goal.loop-i-init
-loop-i-init c = (omega arith, λ j h. absurd (omega arith))
+loop-i-init c = λ j h. absurd (omega arith)
 
 pub returns-then-marks-i : goal.returns-then-marks-i
 returns-then-marks-i c = λ e. absurd (false≢true e)
 
 pub loop-i-preserved : goal.loop-i-preserved
-loop-i-preserved c = (omega (arith, c.loop-i-test.true), one_more (λ j. get_or c.args.sets.now (c.args.k * 128 + j) 0 ≡ get_or c.args.marks.now j 0) _ c.loop-i.invariant.1 (sym c.if-marks-i.false))
+loop-i-preserved c = one_more (λ j. get_or c.args.sets.now (c.args.k * 128 + j) 0 ≡ get_or c.args.marks.now j 0) _ c.loop-i.invariant (sym c.if-marks-i.false)
 
 pub returns : goal.returns
-returns c = λ e. cells_is _ _ _ (λ j h. c.loop-i.invariant.1 j (omega (arith, c.loop-i-test.false)))
+returns c = λ e. cells_is _ _ _ (λ j h. c.loop-i.invariant j (omega arith))
