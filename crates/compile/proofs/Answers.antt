@@ -3,7 +3,7 @@ use mathlib.Core.Path.{◌≡◌, refl, sym, ap, subst, ◌∙◌}
 use mathlib.Core.Bool.{Bool, true, false, cond, not, ◌&&◌}
 use mathlib.Core.List.{List, [], ◌∷◌, ◌++◌}
 use mathlib.Core.Logic.{◌≢◌}
-use Rattle.std.specs.Prelude.{Ok, Err}
+use Rattle.std.specs.Prelude.{Result, Ok, Err}
 use Prim.Native.Nat.{ℕ, zero, suc, ◌+◌, ◌%◌, ◌≤◌, ◌<◌}
 use native.Mathlib.Nat.{zero-add}
 use native.Mathlib.Omega.{arith}
@@ -38,8 +38,6 @@ use Rattle.parser_scan.specs.Text.{Is}
 use Rattle.parser_items.specs.Reads.{marks_at, marks_of, Asks, Read}
 use Rattle.parser_items.specs.Laws.{after_end, join_none}
 use Rattle.parser_items.specs.declared.Cursor.{Cursor}
-use Rattle.parser_items.specs.declared.Step.{Step}
-use Rattle.parser_items.specs.declared.Step.TheVariants as step
 use Rattle.compile_unique.specs.Readings.{OneReading, OneCompile, none_only, tree_only, early_only, compiles_only}
 use Rattle.compile.specs.Outcomes.{outcome, number_of, QueryNumber}
 use Rattle.compile.specs.Steps.{Enough, Sizes, Rooms, Parsed, ParsePost, whole, none, refusal_of, verdict_of}
@@ -146,16 +144,16 @@ module _ {s P L : List ℕ} (h : Rooms s P L) where
       go x = cc
 
   -- no `$`
-  pub no_root : {P' L' : List ℕ} {i : ℕ} → Is s 0 0x24 false → ParsePost s P P' L L' (step.Stop i)
+  pub no_root : {P' L' : List ℕ} {i : ℕ} → Is s 0 0x24 false → ParsePost s P P' L L' (Err i)
   no_root n = none (λ t e. n (spell_segments t.segments []) (sym e))
 
   -- no segments behind it
-  pub no_segments : {P' L' : List ℕ} {i : ℕ} → Is s 0 0x24 true → ReadsNone spell_segments (After 1) (drop 1 s) → ParsePost s P P' L L' (step.Stop i)
+  pub no_segments : {P' L' : List ℕ} {i : ℕ} → Is s 0 0x24 true → ReadsNone spell_segments (After 1) (drop 1 s) → ParsePost s P P' L L' (Err i)
   no_segments i n = none (λ t e. n.none t.segments [] (after_end (lit< tt)) (same_segments i t e))
 
   module _ {P' L' : List ℕ} {b : Cursor} {f : ℕ} (i : Is s 0 0x24 true) (rd : Read spell_segments (λ t. write_from 1 (write_segments t)) query_flag 1 s P P' L L' first b f) where
     -- something is left behind the segments
-    pub some_left : {j : ℕ} → b.at < length s → ParsePost s P P' L L' (step.Stop j)
+    pub some_left : {j : ℕ} → b.at < length s → ParsePost s P P' L L' (Err j)
     some_left l = none (λ t e.
         let o = rd.reads.only t.segments [] (after_end (lit< tt)) (same_segments i t e) in
         let m = ap length o.1 in
@@ -163,7 +161,7 @@ module _ {s P L : List ℕ} (h : Rooms s P L) where
         omega arith)
 
     -- nothing is left
-    pub all_read : length s ≤ b.at → ParsePost s P P' L L' (step.Next b f)
+    pub all_read : length s ≤ b.at → ParsePost s P P' L L' (Ok b)
     unfolding write_query marks_at
     all_read l =
         let t : G.Query = record { segments = rd.tree } in
@@ -174,7 +172,7 @@ module _ {s P L : List ℕ} (h : Rooms s P L) where
         let m : length x.pool ≤ length L = omega (arith, query_pool_fits t 0, ap length g, h.enough.pool) in
         let q = length-sets P 0 x.plan in
         let r = length-sets L 0 x.pool in
-        whole {b = b} {f = f} (record {
+        whole {b = b} (record {
           tree = t;
           spells = g;
           only = λ t' e'. ap (λ (y : Effect × ℕ). y.0) (rd.reads.only t'.segments [] (after_end (lit< tt)) (same_segments i t' e')).0;
@@ -266,16 +264,16 @@ outcome_early {s} {P} {L} w e = compiles_only (early_only (λ z. number_positive
 
 -- ---- from the answer of parse
 
-pub whole_of_lem : {s P P' L L' : List ℕ} {r : Step} {b : Cursor} {f : ℕ} → ParsePost s P P' L L' r → r ≡ step.Next b f → Parsed s P' L' b
+pub whole_of_lem : {s P P' L L' : List ℕ} {r : Result Cursor ℕ} {b : Cursor} → ParsePost s P P' L L' r → r ≡ Ok b → Parsed s P' L' b
 whole_of_lem {s} {P} {P'} {L} {L'} h e = go (rw e at h)
   where
-    go : {b : Cursor} {f : ℕ} → ParsePost s P P' L L' (step.Next b f) → Parsed s P' L' b
+    go : {b : Cursor} → ParsePost s P P' L L' (Ok b) → Parsed s P' L' b
     go (whole p) = p
 
-pub none_of : {s P P' L L' : List ℕ} {r : Step} → ParsePost s P P' L L' r → (i : ℕ) → r ≡ step.Stop i → (t : G.Query) → spell t ≡ s → ⊥
+pub none_of : {s P P' L L' : List ℕ} {r : Result Cursor ℕ} → ParsePost s P P' L L' r → (i : ℕ) → r ≡ Err i → (t : G.Query) → spell t ≡ s → ⊥
 none_of {s} {P} {P'} {L} {L'} h i e = go (rw e at h)
   where
-    go : {i : ℕ} → ParsePost s P P' L L' (step.Stop i) → (t : G.Query) → spell t ≡ s → ⊥
+    go : {i : ℕ} → ParsePost s P P' L L' (Err i) → (t : G.Query) → spell t ≡ s → ⊥
     go (none f) = f
 
 -- ---- delivery
@@ -304,7 +302,7 @@ module _ (A B P L : List ℕ) {n m : ℕ} (h : n ≤ length A) (k : m ≤ length
 pub rooms_whole : {s s' P L : List ℕ} → s' ≡ s → Rooms s P L → Rooms s' P L
 rooms_whole {P = P} {L = L} e h = subst (λ (z : List ℕ). Rooms z P L) (sym e) h
 
-pub parse_whole : {s s' P P' L L' : List ℕ} {r : Step} → s' ≡ s → ParsePost s' P P' L L' r → ParsePost s P P' L L' r
+pub parse_whole : {s s' P P' L L' : List ℕ} {r : Result Cursor ℕ} → s' ≡ s → ParsePost s' P P' L L' r → ParsePost s P P' L L' r
 parse_whole {P = P} {P' = P'} {L = L} {L' = L'} {r = r} e h = subst (λ (z : List ℕ). ParsePost z P P' L L' r) e h
 
 -- ---- what a cursor's marks come to

@@ -1,5 +1,5 @@
 -- What the steps of compile ask and give. Assumes nothing: these are definitions.
-use Rattle.std.specs.Prelude.{◌≡◌, true, cond, ◌&&◌, List, ℕ, ◌*◌, ◌≤◌, ◌<◌, eqb, leb, length, take}
+use Rattle.std.specs.Prelude.{◌≡◌, true, cond, ◌&&◌, List, ℕ, ◌*◌, ◌≤◌, ◌<◌, eqb, leb, length, take, Result, Ok, Err}
 use Rattle.definition.specs.Utf8.{is_utf8}
 use Rattle.definition.specs.Grammar as G
 use Rattle.definition.specs.Grammar.{spell}
@@ -8,8 +8,6 @@ use Rattle.compile_writes.specs.Effects.{Marks}
 use Rattle.compile_writes.specs.Writes.{write_query}
 use Rattle.parser_items.specs.Reads.{marks_of}
 use Rattle.parser_items.specs.declared.Cursor.{Cursor}
-use Rattle.parser_items.specs.declared.Step.{Step}
-use Rattle.parser_items.specs.declared.Step.TheVariants as step
 
 -- room enough for a query: 15 bytes of plan and one of pool for each byte
 pub record Enough (s P L : List ℕ) : Type 0 where
@@ -38,9 +36,9 @@ pub record Parsed (s P' L' : List ℕ) (b : Cursor) : Type 0 where
   pub pool_len : b.pool ≤ length L'
   pub marks : marks_of b ≡ (write_query tree 0).marks
 
-pub data ParsePost (s P P' L L' : List ℕ) : Step → Type 0 where
-  whole : {b : Cursor} {f : ℕ} → Parsed s P' L' b → ParsePost s P P' L L' (step.Next b f)
-  none : {i : ℕ} → ((t : G.Query) → spell t ≡ s → ⊥) → ParsePost s P P' L L' (step.Stop i)
+pub data ParsePost (s P P' L L' : List ℕ) : Result Cursor ℕ → Type 0 where
+  whole : {b : Cursor} → Parsed s P' L' b → ParsePost s P P' L L' (Ok b)
+  none : {i : ℕ} → ((t : G.Query) → spell t ≡ s → ⊥) → ParsePost s P P' L L' (Err i)
 
 -- the refusal that marks come to, 0 for none
 abbrev pub refusal_of : Marks → ℕ

@@ -8,7 +8,7 @@ ghost use Rattle.compile.specs.Steps.{Enough, Sizes, Rooms, ParsePost, verdict_o
 use crate::numbers::refusal_of;
 use crate::{CompileRefusal, Lengths, Refusal};
 use parser::query as parse_query;
-use parser_items::{BEYOND, Cursor, Step};
+use parser_items::{BEYOND, Cursor};
 use parser_scan::is;
 use plan_format::kinds::ROOT as FROM_ROOT;
 use text::brackets::too_deep;
@@ -79,12 +79,12 @@ pub fn early_refusal(query: &[u8]) -> Result<(), Refusal>
 }
 
 // jsonpath-query = root-identifier segments, from the first byte to the last; the cursor behind it, or the place where reading stopped.
-pub fn parse(s: &[u8], plan: &mut [u8], pool: &mut [u8]) -> Step
+pub fn parse(s: &[u8], plan: &mut [u8], pool: &mut [u8]) -> Result<Cursor, usize>
     requires { Rooms s.now plan.old pool.old }
     ensures { ParsePost s.now plan.old plan.new pool.old pool.new result }
 {
     if !is(s, 0, ROOT) {
-        return Step::Stop(0);
+        return Err(0);
     }
     let st = Cursor {
         at: 1,
@@ -92,15 +92,12 @@ pub fn parse(s: &[u8], plan: &mut [u8], pool: &mut [u8]) -> Step
         pool: 0,
         marks: 0,
     };
-    let r = parse_query(&s[0..], plan, pool, st, FROM_ROOT);
-    let Step::Next(n, _) = r else {
-        return r;
-    };
+    let (n, _) = parse_query(&s[0..], plan, pool, st, FROM_ROOT)?;
     let at = n.at;
     if at < s.len() {
-        return Step::Stop(at);
+        return Err(at);
     }
-    r
+    Ok(n)
 }
 
 // "then the first of 4, 5, 6 in the Rust's walk", then 8.
@@ -154,13 +151,11 @@ fn compile_in(
     requires { Enough query.now room.old texts.old × (early query.now ≡ 0) }
     ensures { OneCompile query.now plan.old pool.old (outcome result plan.new pool.new) }
 {
-    match parse(&query[0..], room, texts) {
-        Step::Stop(_) => Err(CompileRefusal::Query(Refusal::Malformed)),
-        Step::Next(st, _) => {
-            verdict(st)?;
-            deliver(room, st.len, texts, st.pool, plan, pool)
-        }
-    }
+    let Ok(st) = parse(&query[0..], room, texts) else {
+        return Err(CompileRefusal::Query(Refusal::Malformed));
+    };
+    verdict(st)?;
+    deliver(room, st.len, texts, st.pool, plan, pool)
 }
 
 // The same in rooms of these sizes, which are cleared.

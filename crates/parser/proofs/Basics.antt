@@ -1,4 +1,5 @@
 -- The laws of the reader's functions that read a basic expression: a parenthesis, a negation, or an operand with what stands behind it. Assumes nothing.
+use Rattle.std.specs.Prelude.{Err}
 use mathlib.Core.Path.{◌≡◌, refl, sym, ap, subst, ◌∙◌}
 use mathlib.Core.Logic.{◌≢◌}
 use mathlib.Core.Bool.{true, false}
@@ -28,8 +29,7 @@ use Rattle.parser_follow.specs.Pieces.Negation.{test_negation}
 use Rattle.parser_items.specs.Reads.{Asks, Read, Post, PutMarked, next, stop}
 use Rattle.parser_items.specs.Laws.{Moved, done_then, done_seq, done_skip, marked_done}
 use Rattle.parser_items.specs.declared.Cursor.{Cursor}
-use Rattle.parser_items.specs.declared.Step.{Step}
-use Rattle.parser_items.specs.declared.Step.TheVariants as step
+use Rattle.parser_items.specs.Reads.{Step}
 use Rattle.parser_laws.specs.So.{so_reads, so_none}
 use Rattle.parser_laws.specs.Sorted.{sort_of_lem}
 use Rattle.parser_laws.specs.Query.{me_operand}
@@ -54,7 +54,7 @@ module _ {s P P' L L' : List ℕ} {a : Cursor} {r : Step} where
 -- where neither stands: an operand with what stands behind it
 module _ {s : List ℕ} {a : Cursor} (x : Is s a.at 0x28 false) (y : Is s a.at 0x21 false) where
   -- no operand
-  pub basic_no_operand : {P P' L L' : List ℕ} {i : ℕ} → ReadsNone spell_operand (After 1) (drop a.at s) → Post spell_basic write_basic (λ t. sort_number (sort_basic t)) 2 s P P' L L' a (step.Stop i)
+  pub basic_no_operand : {P P' L L' : List ℕ} {i : ℕ} → ReadsNone spell_operand (After 1) (drop a.at s) → Post spell_basic write_basic (λ t. sort_number (sort_basic t)) 2 s P P' L L' a (Err i)
   basic_no_operand n = stop (so_none (λ m. m) (basic_operated a.pool x y) (λ l m. m) (operated_none n))
 
   -- both were read, or what stands behind the operand was not
@@ -113,18 +113,18 @@ module _ {s : List ℕ} {a b : Cursor} {at : ℕ} (k : Skipped s a.at at) (m : M
         negated_read h q (so.cod h.tree) (so_reads negated so (λ l x. after_weaken 0 2 (omega arith) x) (reads_at h m.1.0.1 (behind_blanks k m.0)))
 
     -- it was not
-    pub negation_no_paren : {P P' L L' : List ℕ} {j : ℕ} → ReadsNone spell_paren (After 0) (drop b.at s) → Post spell_negation write_negation (λ t. 4) 2 s P P' L L' a (step.Stop j)
+    pub negation_no_paren : {P P' L L' : List ℕ} {j : ℕ} → ReadsNone spell_paren (After 0) (drop b.at s) → Post spell_negation write_negation (λ t. 4) 2 s P P' L L' a (Err j)
     negation_no_paren n = stop (so_none negated (negation_paren a.pool (sym k.rest ∙ i.1)) (λ l x. after_weaken 0 2 (omega arith) x) (subst (ReadsNone spell_paren (After 0)) (behind_blanks k m.0) n))
 
   -- a test
   module _ (i : Is s at 0x28 false) where
     -- no operand
-    pub negation_no_operand : {P P' L L' : List ℕ} {j : ℕ} → ReadsNone spell_operand (After 1) (drop b.at s) → Post spell_negation write_negation (λ t. 4) 2 s P P' L L' a (step.Stop j)
+    pub negation_no_operand : {P P' L L' : List ℕ} {j : ℕ} → ReadsNone spell_operand (After 1) (drop b.at s) → Post spell_negation write_negation (λ t. 4) 2 s P P' L L' a (Err j)
     negation_no_operand n = stop (negation_none a.pool (λ l e. i l (k.rest ∙ e)) (subst (ReadsNone spell_operand (After 1)) (behind_blanks k m.0) n))
 
     module _ {f : ℕ} {P P₁ L L₁ : List ℕ} {c : Cursor} (h : Read spell_operand write_operand operand_flag 1 s P P₁ L L₁ b c f) where
       -- a literal, which is no test
-      pub negation_of_literal : {P₂ L₂ : List ℕ} {j : ℕ} → f ≡ 0 → Post spell_negation write_negation (λ t. 4) 2 s P P₂ L L₂ a (step.Stop j)
+      pub negation_of_literal : {P₂ L₂ : List ℕ} {j : ℕ} → f ≡ 0 → Post spell_negation write_negation (λ t. 4) 2 s P P₂ L L₂ a (Err j)
       negation_of_literal e = stop (negation_literal a.pool (λ l e. i l (k.rest ∙ e)) (reads_at h m.1.0.1 (behind_blanks k m.0)) (ap (λ (n : ℕ). eqb n 0) (sym h.flag ∙ e)))
 
       -- an operand that is a test
@@ -145,7 +145,7 @@ module _ {s : List ℕ} {at from : ℕ} (k : Skipped s from at) where
 
 module _ (f : ℕ) {s P L : List ℕ} {a : Cursor} {at : ℕ} (k : Skipped s a.at at) where
   -- no operator, which a literal needs
-  pub behind_a_literal : {P' L' : List ℕ} {i : ℕ} → ReadsNone spell_operator (StartsNot (eqb 0x3D)) (drop at s) → f ≡ 0 → Post (spell_behind_of f) (write_behind_of f) (behind_of_sort f) 2 s P P' L L' a (step.Stop i)
+  pub behind_a_literal : {P' L' : List ℕ} {i : ℕ} → ReadsNone spell_operator (StartsNot (eqb 0x3D)) (drop at s) → f ≡ 0 → Post (spell_behind_of f) (write_behind_of f) (behind_of_sort f) 2 s P P' L L' a (Err i)
   behind_a_literal n e = stop (behind_literal f 0 (none_behind k n) (ap (λ (x : ℕ). eqb x 0) e))
 
   -- no operator, where the operand is a test
@@ -162,7 +162,7 @@ module _ (f : ℕ) {s P L : List ℕ} {a : Cursor} {at : ℕ} (k : Skipped s a.a
 
   module _ {e o : ℕ} (w : OperatorAt s at e o) where
     -- an operator, where the operand may not be compared
-    pub behind_not_compared : {P' L' : List ℕ} {i : ℕ} → is_comparable f ≡ false → Post (spell_behind_of f) (write_behind_of f) (behind_of_sort f) 2 s P P' L L' a (step.Stop i)
+    pub behind_not_compared : {P' L' : List ℕ} {i : ℕ} → is_comparable f ≡ false → Post (spell_behind_of f) (write_behind_of f) (behind_of_sort f) 2 s P P' L L' a (Err i)
     behind_not_compared c = stop (behind_incomparable f 0 (operates k w) c)
 
     -- an operator, and behind it the right side or none
@@ -192,12 +192,12 @@ asks_operator st k w m = asks_moved st m (omega (arith, k.from, w.from)) w.to (w
 
 module _ {s : List ℕ} {a b : Cursor} {at : ℕ} (k : Skipped s a.at at) (m : Moved a b at) where
   -- no operand
-  pub right_none : (l o : ℕ) {P P' L L' : List ℕ} {i : ℕ} → ReadsNone spell_operand (After 1) (drop b.at s) → Post spell_side (write_side l o) (λ t. 4) 2 s P P' L L' a (step.Stop i)
+  pub right_none : (l o : ℕ) {P P' L L' : List ℕ} {i : ℕ} → ReadsNone spell_operand (After 1) (drop b.at s) → Post spell_side (write_side l o) (λ t. 4) 2 s P P' L L' a (Err i)
   right_none l o n = stop (side_none (subst (ReadsNone spell_operand (After 1)) (behind_blanks k m.0) n))
 
   module _ {f : ℕ} {P P₁ L L₁ : List ℕ} {c : Cursor} (h : Read spell_operand write_operand operand_flag 1 s P P₁ L L₁ b c f) where
     -- an operand that may not be compared
-    pub right_not_compared : (l o : ℕ) {P₂ L₂ : List ℕ} {i : ℕ} → is_comparable f ≡ false → Post spell_side (write_side l o) (λ t. 4) 2 s P P₂ L L₂ a (step.Stop i)
+    pub right_not_compared : (l o : ℕ) {P₂ L₂ : List ℕ} {i : ℕ} → is_comparable f ≡ false → Post spell_side (write_side l o) (λ t. 4) 2 s P P₂ L L₂ a (Err i)
     right_not_compared l o e = stop (side_incomparable l o a.pool (reads_at h m.1.0.1 (behind_blanks k m.0)) (ap is_comparable (sym h.flag) ∙ e))
 
     -- an operand that may be compared, and the comparison put behind it

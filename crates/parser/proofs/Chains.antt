@@ -1,4 +1,5 @@
 -- The laws of the reader's functions that read an argument: a literal alone, a logical expression, or a chain that an operand begins. Assumes nothing.
+use Rattle.std.specs.Prelude.{Ok, Err}
 use mathlib.Core.Path.{◌≡◌, refl, sym, ap, subst, ◌∙◌}
 use mathlib.Core.Logic.{◌≢◌}
 use mathlib.Core.Bool.{true, false, true≢false}
@@ -26,8 +27,7 @@ use Rattle.parser_follow.specs.Pieces.Operand.{literal_operand, query_operand, f
 use Rattle.parser_items.specs.Reads.{Asks, Done, Read, Post, Operates, next, stop}
 use Rattle.parser_items.specs.Laws.{done_seq, read_of}
 use Rattle.parser_items.specs.declared.Cursor.{Cursor}
-use Rattle.parser_items.specs.declared.Step.{Step}
-use Rattle.parser_items.specs.declared.Step.TheVariants as step
+use Rattle.parser_items.specs.Reads.{Step}
 use Rattle.parser_laws.specs.So.{so_none}
 use Rattle.parser_laws.specs.Sorted.{sort_of_lem}
 use Rattle.parser_laws.specs.Joins.{join_pool}
@@ -43,7 +43,7 @@ use Rattle.parser.proofs.Operands.{asks_behind, reads_at, done_at, operand_then}
 -- ---- what is left of a logical expression behind its first operand
 
 -- nothing that may stand behind the operand
-pub chained_no_behind : (f : ℕ) {s P P' L L' : List ℕ} {a : Cursor} {i : ℕ} → ReadsNone (spell_behind_of f) (After 2) (drop a.at s) → Post (spell_chained_of f) (write_chained_of f) (chained_of_sort f) 4 s P P' L L' a (step.Stop i)
+pub chained_no_behind : (f : ℕ) {s P P' L L' : List ℕ} {a : Cursor} {i : ℕ} → ReadsNone (spell_behind_of f) (After 2) (drop a.at s) → Post (spell_chained_of f) (write_chained_of f) (chained_of_sort f) 4 s P P' L L' a (Err i)
 chained_no_behind f {a = a} n = stop (chained_none f a.pool n)
 
 module _ {f : ℕ} {s P P₁ L L₁ : List ℕ} {a b : Cursor} {n : ℕ} (h : Read (spell_behind_of f) (write_behind_of f) (behind_of_sort f) 2 s P P₁ L L₁ a b n) where
@@ -52,7 +52,7 @@ module _ {f : ℕ} {s P P₁ L L₁ : List ℕ} {a b : Cursor} {n : ℕ} (h : Re
   sort = sort_of (behind_of_sort f h.tree)
 
   -- no operands of `&&`
-  pub chained_no_and : {P' L' : List ℕ} {i : ℕ} → ReadsNone spell_more_and (After 3) (drop b.at s) → Post (spell_chained_of f) (write_chained_of f) (chained_of_sort f) 4 s P P' L L' a (step.Stop i)
+  pub chained_no_and : {P' L' : List ℕ} {i : ℕ} → ReadsNone spell_more_and (After 3) (drop b.at s) → Post (spell_chained_of f) (write_chained_of f) (chained_of_sort f) 4 s P P' L L' a (Err i)
   chained_no_and k = stop (chained_none_and f a.pool h.reads k)
 
   module _ {P₂ L₂ : List ℕ} {c : Cursor} {m : ℕ} (g₀ : Read spell_more_and (λ t. write_more_and t (sort_of n) false) (λ t. sort_number (sort_more_and t (sort_of n))) 3 s P₁ P₂ L₁ L₂ b c m) where
@@ -94,7 +94,7 @@ no_operator e = record { none = λ o r k q. let x = sym (operator_level o r) ∙
 
 -- behind an operand that is no literal, nothing is left before the end of a call
 pub chained_end : {f e g : ℕ} {s P L : List ℕ} {a : Cursor} → Asks 0 s P L a → f ≢ 0 → Skipped s a.at e → Is s e 0x29 true → (g ≡ sort_number (sort_of f)) × (g ≤ 4)
-    → Post (spell_chained_of f) (write_chained_of f) (chained_of_sort f) 4 s P P L L a (step.Next a g)
+    → Post (spell_chained_of f) (write_chained_of f) (chained_of_sort f) 4 s P P L L a (Ok (a, g))
 chained_end {f} {e} {g} {s} {P} {L} {a} st z k i x =
     let h = behind_nothing f k (no_operator i.1) st z x.0 in
     let no : (c d : ℕ) → c ≢ 0x29 → Both s e c d false = λ c d n l q. n (ap hd (sym q ∙ i.1)) in
@@ -137,7 +137,7 @@ chain_writes p x y =
 -- where neither a parenthesis nor a negation stands: an operand with what stands behind it
 module _ {s : List ℕ} {a : Cursor} (u : Is s a.at 0x28 false) (v : Is s a.at 0x21 false) where
   -- no operand
-  pub argument_no_operand : {P P' L L' : List ℕ} {i : ℕ} → ReadsNone spell_operand (After 1) (drop a.at s) → Post spell_argument write_argument (λ t. sort_number (sort_argument t)) 4 s P P' L L' a (step.Stop i)
+  pub argument_no_operand : {P P' L L' : List ℕ} {i : ℕ} → ReadsNone spell_operand (After 1) (drop a.at s) → Post spell_argument write_argument (λ t. sort_number (sort_argument t)) 4 s P P' L L' a (Err i)
   argument_no_operand n = stop (so_none (λ m. m) (argument_chain a.pool u v (λ y r' z e. n.none (literal_operand y) r' (after_weaken 1 4 (omega arith) z) e)) (λ l m. m) (chain_none n))
 
   module _ {P P₁ L L₁ : List ℕ} {b : Cursor} {f : ℕ} (h : Read spell_operand write_operand operand_flag 1 s P P₁ L L₁ a b f) where

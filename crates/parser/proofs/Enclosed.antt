@@ -1,4 +1,5 @@
 -- The laws of the reader's functions for parentheses and calls: what a function asks and ensures, from what its callees ensure. Assumes nothing.
+use Rattle.std.specs.Prelude.{}
 use mathlib.Core.Path.{◌≡◌, refl, sym, ap, subst, ◌∙◌}
 use mathlib.Core.Bool.{true, false}
 use mathlib.Core.List.{List}
@@ -25,7 +26,7 @@ use Rattle.parser_scan.specs.Text.{Skipped, Is}
 use Rattle.parser_items.specs.Reads.{Asks, Done, Read, Post, PutMarked, Opens, sort_number, one_more_lem, name_of, call_marks, sorts_from, next, stop}
 use Rattle.parser_items.specs.Laws.{Moved, done_then, done_seq, done_skip, moved_done, marked_done, asks_less, unblank_twice}
 use Rattle.parser_items.specs.declared.Cursor.{Cursor}
-use Rattle.parser_items.specs.declared.Step.{Step}
+use Rattle.parser_items.specs.Reads.{Step}
 use Rattle.parser_laws.specs.Paren.{me_paren, paren_means, paren_reads, paren_none, paren_open}
 use Rattle.parser_laws.specs.Arguments.{me_arguments, me_more_arguments, furthers, arguments_end, arguments_reads, arguments_none_more}
 use Rattle.parser_laws.specs.Call.{verdict_told, call_reads, call_open, call_none}

@@ -1,4 +1,5 @@
 -- The laws of *( S "," S selector ) and of the brackets around selectors, as the reader's functions need them. Assumes nothing.
+use Rattle.std.specs.Prelude.{Ok, Err}
 use mathlib.Core.Path.{◌≡◌, refl, sym, ap, subst, ◌∙◌}
 use mathlib.Core.Bool.{true, false}
 use mathlib.Core.List.{List, [], ◌∷◌, ◌++◌}
@@ -32,7 +33,6 @@ use Rattle.parser_scan.specs.Text.{Is, Skipped}
 use Rattle.parser_items.specs.Reads.{Asks, Done, Post, LooseRead, LoosePost, Put, next, stop}
 use Rattle.parser_items.specs.Laws.{Moved, done_then, done_counted, moved_done, asks_go, done_plan, done_pool}
 use Rattle.parser_items.specs.declared.Cursor.{Cursor}
-use Rattle.parser_items.specs.declared.Step.TheVariants as step
 use Rattle.parser_laws.specs.Rep.{behind}
 use Rattle.parser_laws.specs.Loose.{Loosely, Exactly}
 use Rattle.parser_laws.specs.Selectors.{me_selector, me_selectors, Left, left_more, left_end, left_none}
@@ -98,7 +98,7 @@ no_selectors n p =
 
 module _ {s P P' Q Q' : List ℕ} {a b : Cursor} {n e : ℕ} (lp : SelectorsLoop s P P' Q Q' a b n) (k : Skipped s b.at e) where
   -- no comma stands there
-  pub selectors_over : Is s e 0x2C false → LoosePost spell_selectors write_selectors count_more 0 5 s P P' Q Q' a (step.Next b n)
+  pub selectors_over : Is s e 0x2C false → LoosePost spell_selectors write_selectors count_more 0 5 s P P' Q Q' a (Ok (b, n))
   selectors_over h =
       let t = lp.left.fill no_selector in
       let o = left_end n b.pool (behind lp.effect) lp.left (λ l x. h l (k.rest ∙ x)) in
@@ -132,7 +132,7 @@ module _ {s P P' Q Q' : List ℕ} {a b : Cursor} {n e : ℕ} (lp : SelectorsLoop
     comma = sym k.rest ∙ h.1
 
     -- there is none
-    pub selectors_stop : {i : ℕ} {P₂ Q₂ : List ℕ} → ReadsNone spell_selector (After 4) (drop d.at s) → LoosePost spell_selectors write_selectors count_more 0 5 s P P₂ Q Q₂ a (step.Stop i)
+    pub selectors_stop : {i : ℕ} {P₂ Q₂ : List ℕ} → ReadsNone spell_selector (After 4) (drop d.at s) → LoosePost spell_selectors write_selectors count_more 0 5 s P P₂ Q Q₂ a (Err i)
     selectors_stop x = stop (left_none n b.pool (behind lp.effect) lp.left comma (subst (ReadsNone spell_selector (After 4)) k'.rest (none_moved s b d m x)))
 
     -- one selector more
@@ -183,7 +183,7 @@ counted_is kind c n E p e =
     ap (λ (k : ℕ). record { plan = kind ∷ (two k ++ E.plan); pool = E.pool; marks = E.marks }) f
 
 -- what no bracket begins is no bracketed selection
-pub brackets_none : {s P P' Q Q' : List ℕ} (kind : ℕ) {a : Cursor} {i : ℕ} → Is s a.at 0x5B false → Post spell_bracketed (write_selection kind) bracketed_flag 0 s P P' Q Q' a (step.Stop i)
+pub brackets_none : {s P P' Q Q' : List ℕ} (kind : ℕ) {a : Cursor} {i : ℕ} → Is s a.at 0x5B false → Post spell_bracketed (write_selection kind) bracketed_flag 0 s P P' Q Q' a (Err i)
 brackets_none {s} kind {a} n = stop (record { none = none })
   where
     none : (t' : G.Bracketed) (r' : List ℕ) → After 0 r' → drop a.at s ≡ spell_bracketed t' r' → ⊥
@@ -208,7 +208,7 @@ module _ (kind : ℕ) {s P Q : List ℕ} {a d : Cursor} {e : ℕ} (st : Asks 0 s
     pl = op.pool ∙ mv.1.0.1
 
     -- there is none
-    pub brackets_stop : {j : ℕ} {P' Q' : List ℕ} → ReadsNone spell_selector (After 4) (drop h.at s) → Post spell_bracketed (write_selection kind) bracketed_flag 0 s P P' Q Q' a (step.Stop j)
+    pub brackets_stop : {j : ℕ} {P' Q' : List ℕ} → ReadsNone spell_selector (After 4) (drop h.at s) → Post spell_bracketed (write_selection kind) bracketed_flag 0 s P P' Q Q' a (Err j)
     brackets_stop x = stop (bracketed_none kind a.pool i.1 (picked_none (subst (ReadsNone spell_selector (After 4)) at x)))
 
     module _ {P₂ Q₁ : List ℕ} {n : Cursor} {f : ℕ} (rd : LooseRead spell_selector write_selector plain_flag 1 4 s P₁ P₂ Q Q₁ h n f) where
@@ -220,7 +220,7 @@ module _ (kind : ℕ) {s P Q : List ℕ} {a d : Cursor} {e : ℕ} (st : Asks 0 s
       first = subst (λ (l : List ℕ). Loosely spell_selector (me_selector a.pool) (After 4) l rd.tree (drop n.at s)) at (subst (λ (z : ℕ). Loosely spell_selector (me_selector z) (After 4) (drop h.at s) rd.tree (drop n.at s)) pl (record { eq = rd.eq; same = rd.same; rest = rd.rest }))
 
       -- a comma with no selector behind it
-      pub brackets_stop_more : {j : ℕ} {P' Q' : List ℕ} → ReadsNone spell_selectors (After 5) (drop n.at s) → Post spell_bracketed (write_selection kind) bracketed_flag 0 s P P' Q Q' a (step.Stop j)
+      pub brackets_stop_more : {j : ℕ} {P' Q' : List ℕ} → ReadsNone spell_selectors (After 5) (drop n.at s) → Post spell_bracketed (write_selection kind) bracketed_flag 0 s P P' Q Q' a (Err j)
       brackets_stop_more x = stop (bracketed_none kind a.pool i.1 (picked_none_more a.pool first x))
 
       module _ {P₃ Q₂ : List ℕ} {m : Cursor} {c : ℕ} (rs : LooseRead spell_selectors write_selectors count_more 0 5 s P₂ P₃ Q₁ Q₂ n m c) where
@@ -255,7 +255,7 @@ module _ (kind : ℕ) {s P Q : List ℕ} {a d : Cursor} {e : ℕ} (st : Asks 0 s
 
         module _ {e₂ : ℕ} (sk₂ : Skipped s m.at e₂) where
           -- the bracket is not closed
-          pub brackets_open : {j : ℕ} {P' Q' : List ℕ} → Is s e₂ 0x5D false → Post spell_bracketed (write_selection kind) bracketed_flag 0 s P P' Q Q' a (step.Stop j)
+          pub brackets_open : {j : ℕ} {P' Q' : List ℕ} → Is s e₂ 0x5D false → Post spell_bracketed (write_selection kind) bracketed_flag 0 s P P' Q Q' a (Err j)
           brackets_open x = stop (bracketed_open kind a.pool i.1 all (λ l y. x l (sk₂.rest ∙ y)))
 
           inner : Done P₁ P₃ Q Q₂ h m (me_picked a.pool (record { one = rd.tree; more = rs.tree })).effect
@@ -269,7 +269,7 @@ module _ (kind : ℕ) {s P Q : List ℕ} {a d : Cursor} {e : ℕ} (st : Asks 0 s
               let z = done_plan inner in
               omega (arith, mv.1.0.0)
 
-          pub brackets_read : {P₄ : List ℕ} {o : Cursor} {g : ℕ} → Is s e₂ 0x5D true → Wrote P₃ (a.len + 1) (two (c + 1)) P₄ → Moved m o (e₂ + 1) → g ≡ brackets_number f c (eqb e (a.at + 1)) (eqb e₂ m.at) → Post spell_bracketed (write_selection kind) bracketed_flag 0 s P P₄ Q Q₂ a (step.Next o g)
+          pub brackets_read : {P₄ : List ℕ} {o : Cursor} {g : ℕ} → Is s e₂ 0x5D true → Wrote P₃ (a.len + 1) (two (c + 1)) P₄ → Moved m o (e₂ + 1) → g ≡ brackets_number f c (eqb e (a.at + 1)) (eqb e₂ m.at) → Post spell_bracketed (write_selection kind) bracketed_flag 0 s P P₄ Q Q₂ a (Ok (o, g))
           brackets_read {P₄} {o} {g} j w mo q =
               let x = rd.tree in
               let xs = rs.tree in

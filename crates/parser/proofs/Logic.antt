@@ -1,4 +1,5 @@
 -- The laws of the reader's functions for `&&` and `||`: what a function asks and ensures, from what its callees ensure. Assumes nothing.
+use Rattle.std.specs.Prelude.{Ok, Err}
 use mathlib.Core.Path.{◌≡◌, refl, sym, ap, subst, ◌∙◌}
 use mathlib.Core.Bool.{Bool, true, false}
 use mathlib.Core.List.{List, [], ◌∷◌}
@@ -31,8 +32,7 @@ use Rattle.parser_scan.specs.Text.{Skipped, Is, Both}
 use Rattle.parser_items.specs.Reads.{marks_of, Asks, Done, Read, Post, Put, Opens, Room, Known, sort_number, sort_of, one_more_lem, next, stop}
 use Rattle.parser_items.specs.Laws.{Moved, done_then, done_plan, asks_less}
 use Rattle.parser_items.specs.declared.Cursor.{Cursor}
-use Rattle.parser_items.specs.declared.Step.{Step}
-use Rattle.parser_items.specs.declared.Step.TheVariants as step
+use Rattle.parser_items.specs.Reads.{Step}
 use Rattle.parser_laws.specs.Joins.{plain, marked, within}
 use Rattle.parser_laws.specs.Sorted.{sort_of_lem}
 use Rattle.parser_laws.specs.And.{me_basic, me_and, me_more_and, and_reads, and_none_rest, write_and, sort_and}
@@ -233,13 +233,13 @@ module _ {sort kind : ℕ} {asked : Bool} {s P P' Q Q' : List ℕ} {a b : Cursor
   AndPost r P'' Q'' = Post spell_more_and (λ t. write_more_and t (sort_of sort) asked) (λ t. sort_number (sort_more_and t (sort_of sort))) 3 s P P'' Q Q'' a r
 
   -- no operator stands there
-  pub and_end : {e : ℕ} → Skipped s b.at e → Both s e 0x26 0x26 false → AndPost (step.Next b kind) P' Q'
+  pub and_end : {e : ℕ} → Skipped s b.at e → Both s e 0x26 0x26 false → AndPost (Ok (b, kind)) P' Q'
   unfolding ands
   and_end k n = next {b = b} {f = kind} (loop_end (ands asked) lp.loop (λ s₁ e. n s₁ (k.rest ∙ e)) (no_and asked (sort_of kind) b.pool kind (number_sort kind lp.small)))
 
   module _ {P₁ P₂ : List ℕ} {left hd : Cursor} (r : Ready 0x26 22 (test_tail (sort_of kind)) s P' P₁ P₂ Q' b left hd) where
     -- an operator with no operand behind it
-    pub and_stop : {i : ℕ} {P'' Q'' : List ℕ} → ReadsNone spell_basic (After 2) (drop hd.at s) → AndPost (step.Stop i) P'' Q''
+    pub and_stop : {i : ℕ} {P'' Q'' : List ℕ} → ReadsNone spell_basic (After 2) (drop hd.at s) → AndPost (Err i) P'' Q''
     unfolding ands
     and_stop n = stop (loop_none (ands asked) lp.loop r.sep (subst (ReadsNone spell_basic (After 2)) r.here n))
 
@@ -288,13 +288,13 @@ module _ {sort kind : ℕ} {asked : Bool} {s P P' Q Q' : List ℕ} {a b : Cursor
   OrPost r P'' Q'' = Post spell_more_or (λ t. write_more_or t (sort_of sort) asked) (λ t. sort_number (sort_more_or t (sort_of sort))) 4 s P P'' Q Q'' a r
 
   -- no operator stands there
-  pub or_end : {e : ℕ} → Skipped s b.at e → Both s e 0x7C 0x7C false → OrPost (step.Next b kind) P' Q'
+  pub or_end : {e : ℕ} → Skipped s b.at e → Both s e 0x7C 0x7C false → OrPost (Ok (b, kind)) P' Q'
   unfolding ors
   or_end k n = next {b = b} {f = kind} (loop_end (ors asked) lp.loop (λ s₁ e. n s₁ (k.rest ∙ e)) (no_or asked (sort_of kind) b.pool kind (number_sort kind lp.small)))
 
   module _ {P₁ P₂ : List ℕ} {left hd : Cursor} (r : Ready 0x7C 23 (test_tail (sort_of kind)) s P' P₁ P₂ Q' b left hd) where
     -- an operator with no operand behind it
-    pub or_stop : {i : ℕ} {P'' Q'' : List ℕ} → ReadsNone spell_logical_and (After 3) (drop hd.at s) → OrPost (step.Stop i) P'' Q''
+    pub or_stop : {i : ℕ} {P'' Q'' : List ℕ} → ReadsNone spell_logical_and (After 3) (drop hd.at s) → OrPost (Err i) P'' Q''
     unfolding ors
     or_stop n = stop (loop_none (ors asked) lp.loop r.sep (subst (ReadsNone spell_logical_and (After 3)) r.here n))
 

@@ -1,4 +1,5 @@
 -- The laws of the reader's functions that read a query or an operand: what is told of it, how much is written for it, and what may be read behind it. Assumes nothing.
+use Rattle.std.specs.Prelude.{Err}
 use mathlib.Core.Path.{◌≡◌, refl, sym, ap, subst, ◌∙◌}
 use mathlib.Core.Bool.{Bool, true, false, cond}
 use mathlib.Core.List.{List, [], ◌∷◌}
@@ -30,8 +31,7 @@ use Rattle.parser_follow.specs.Pieces.Behind.{alone, compared}
 use Rattle.parser_items.specs.Reads.{Asks, Done, Read, Post, Put, Opens, Room, next, stop}
 use Rattle.parser_items.specs.Laws.{Moved, done_then, asks_go, asks_room}
 use Rattle.parser_items.specs.declared.Cursor.{Cursor}
-use Rattle.parser_items.specs.declared.Step.{Step}
-use Rattle.parser_items.specs.declared.Step.TheVariants as step
+use Rattle.parser_items.specs.Reads.{Step}
 use Rattle.parser_laws.specs.Query.{query_effect, query_means, operand_current, operand_root}
 use Rattle.parser_laws.specs.Words.{operand_call, operand_keyword, operand_constant}
 use Rattle.parser.proofs.Steps.{asks_moved, asks_read, done_is, post_so, stay, put_plain}
@@ -207,7 +207,7 @@ behind_blanks {s = s} k e = ap (λ (j : ℕ). drop j s) e ∙ k.rest
 
 module _ {start : ℕ} {s P P₁ : List ℕ} {a b : Cursor} (g : Put P P₁ a b (start ∷ [])) where
   -- no segments stand there
-  pub query_none : {P' L L' : List ℕ} {i : ℕ} → ReadsNone spell_segments (After 1) (drop b.at s) → Post spell_segments (λ t. write_from start (write_segments t)) query_flag 1 s P P' L L' a (step.Stop i)
+  pub query_none : {P' L L' : List ℕ} {i : ℕ} → ReadsNone spell_segments (After 1) (drop b.at s) → Post spell_segments (λ t. write_from start (write_segments t)) query_flag 1 s P P' L L' a (Err i)
   query_none n = stop (subst (λ (j : ℕ). ReadsNone spell_segments (After 1) (drop j s)) g.at n)
 
   -- the start was put, then segments were read, then the end was put

@@ -1,4 +1,5 @@
 -- The laws of segments, bracketed selections and selectors, as the reader's functions need them. Assumes nothing.
+use Rattle.std.specs.Prelude.{Ok, Err}
 use mathlib.Core.Path.{◌≡◌, refl, sym, ap, subst, ◌∙◌}
 use mathlib.Core.Bool.{Bool, true, false}
 use mathlib.Core.List.{List, [], ◌∷◌}
@@ -27,8 +28,7 @@ use Rattle.parser_scan.specs.Text.{Is, Both, Has, Skipped}
 use Rattle.parser_items.specs.Reads.{Asks, Done, Read, Post, LoosePost, Put, next, stop, low}
 use Rattle.parser_items.specs.Laws.{Moved, done_then, post_low, post_loose}
 use Rattle.parser_items.specs.declared.Cursor.{Cursor}
-use Rattle.parser_items.specs.declared.Step.{Step}
-use Rattle.parser_items.specs.declared.Step.TheVariants as step
+use Rattle.parser_items.specs.Reads.{Step}
 use Rattle.parser_laws.specs.So.{So, so_none}
 use Rattle.parser_laws.specs.Rep.{behind}
 use Rattle.parser_laws.specs.Segment.{me_segment, lowered, segment_no_dot, segment_dot, segment_dots_brackets, segment_dots}
@@ -104,7 +104,7 @@ module _ {s P P' Q Q' : List ℕ} {a b : Cursor} {f e : ℕ} (lp : SegmentsLoop 
       go (c ∷ l) g h = ap (λ (z : List ℕ). is_segment_byte (hd z)) (sym g) ∙ h
 
   -- no segment begins there
-  pub segments_over : Has is_segment_byte s e false → Post spell_segments write_segments segments_flag 1 s P P' Q Q' a (step.Next b f)
+  pub segments_over : Has is_segment_byte s e false → Post spell_segments write_segments segments_flag 1 s P P' Q Q' a (Ok (b, f))
   segments_over h =
       let o = lp.loop in
       let q : ◌≡◌ {A = Effect × ℕ} (write_segments (o.so.fill no_segment) a.pool, segments_flag (o.so.fill no_segment)) (o.effect, f) = o.so.cod no_segment ∙ ap (behind o.effect) (no_segments f b.pool lp.small) ∙ ap (λ (y : Effect). (y, f)) (join_empty o.effect) in
@@ -124,7 +124,7 @@ module _ {s P P' Q Q' : List ℕ} {a b : Cursor} {f e : ℕ} (lp : SegmentsLoop 
     segments_begin = asks_skipped lp.loop.start k m
 
     -- there is none
-    pub segments_stop : {i : ℕ} {P₂ Q₂ : List ℕ} → ReadsNone spell_segment (After 0) (drop d.at s) → Post spell_segments write_segments segments_flag 1 s P P₂ Q Q₂ a (step.Stop i)
+    pub segments_stop : {i : ℕ} {P₂ Q₂ : List ℕ} → ReadsNone spell_segment (After 0) (drop d.at s) → Post spell_segments write_segments segments_flag 1 s P P₂ Q Q₂ a (Err i)
     segments_stop n = stop (segments_none f b.pool (behind lp.loop.effect) lp.loop.so (segment_byte h.2 h.3) (subst (ReadsNone spell_segment (After 0)) k.rest (none_moved s b d m n)))
 
     -- one segment more
@@ -231,7 +231,7 @@ module _ {s P P₁ Q : List ℕ} {a d h : Cursor} {e : ℕ} (st : Asks 3 s P Q a
   filter_none_at x = filter_none (subst (ReadsNone spell_logical_or (After 4)) (ap (λ (z : ℕ). drop z s) (op.at ∙ mv.0) ∙ sk.rest) x)
 
   -- there is none
-  pub filter_stop : {i : ℕ} {P' Q' : List ℕ} → ReadsNone spell_logical_or (After 4) (drop h.at s) → Post spell_filter write_filter no_flag 4 s P P' Q Q' a (step.Stop i)
+  pub filter_stop : {i : ℕ} {P' Q' : List ℕ} → ReadsNone spell_logical_or (After 4) (drop h.at s) → Post spell_filter write_filter no_flag 4 s P P' Q Q' a (Err i)
   filter_stop x = stop (filter_none_at x)
 
   module _ {P₂ Q₁ : List ℕ} {n : Cursor} {f : ℕ} (rd : Read spell_logical_or (λ t. write_or_lem t true) (λ t. sort_number (sort_or_lem t)) 4 s P₁ P₂ Q Q₁ h n f) where
@@ -257,7 +257,7 @@ module _ {s P P₁ Q : List ℕ} {a d h : Cursor} {e : ℕ} (st : Asks 3 s P Q a
           let l = ap length tl.plan ∙ length-sets P₂ n.len (test_tail (sort_of f)) in
           omega (arith, r.plan, tl.len)
 
-      pub filter_read : {P₄ : List ℕ} → Wrote P₃ (a.len + 1) (two (m.len - a.len - 3)) P₄ → Post spell_filter write_filter no_flag 4 s P P₄ Q Q₁ a (step.Next m 0)
+      pub filter_read : {P₄ : List ℕ} → Wrote P₃ (a.len + 1) (two (m.len - a.len - 3)) P₄ → Post spell_filter write_filter no_flag 4 s P P₄ Q Q₁ a (Ok (m, 0))
       filter_read {P₄} w =
           let x : Filter = record { blanks = (split_blanks (drop a.at s)).0; test = rd.tree } in
           let pl : h.pool ≡ a.pool = op.pool ∙ mv.1.0.1 in

@@ -1,4 +1,5 @@
 -- The laws that every function of the reader shares: room behind a step, a tree read in pieces, and one tree that is made of another. Assumes nothing.
+use Rattle.std.specs.Prelude.{}
 use mathlib.Core.Path.{◌≡◌, refl, sym, ap, subst, ◌∙◌}
 use mathlib.Core.Bool.{true}
 use mathlib.Core.List.{List, [], ◌∷◌, append-nil}
@@ -17,7 +18,7 @@ use Rattle.parser_scan.specs.Text.{Skipped}
 use Rattle.parser_items.specs.Reads.{marks_at, marks_of, Asks, Done, Read, Post, LooseRead, Put, PutMarked, next, stop}
 use Rattle.parser_items.specs.Laws.{Moved, done_then, done_from, asks_go, join_none, put_done, mark_done, marked_done, done_frame}
 use Rattle.parser_items.specs.declared.Cursor.{Cursor}
-use Rattle.parser_items.specs.declared.Step.{Step}
+use Rattle.parser_items.specs.Reads.{Step}
 use Rattle.parser_laws.specs.So.{So, so_reads, so_none}
 use Rattle.parser_laws.specs.Rep.{Rep, behind, rep_more, rep_end, rep_none}
 use Rattle.parser_laws.specs.Joins.{plain, marked, within}

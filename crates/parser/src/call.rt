@@ -20,19 +20,13 @@ pub fn function(s: &[u8], plan: &mut [u8], pool: &mut [u8], st: Cursor, name: u8
 {
     let at = st.at;
     let a = skip_blanks(s, at);
-    let r = arguments(s, plan, pool, moved(st, a));
-    let Step::Next(n, sorts) = r else {
-        return r;
-    };
+    let (n, sorts) = arguments(s, plan, pool, moved(st, a))?;
     let here = n.at;
     let e = skip_blanks(s, here);
     if !is(s, e, b')') {
-        return Step::Stop(e);
+        return Err(e);
     }
-    Step::Next(
-        write_call(plan, moved(n, e + 1), name, sorts),
-        call_sort(name),
-    )
+    Ok((write_call(plan, moved(n, e + 1), name, sorts), call_sort(name)))
 }
 
 // [ function-argument *( S "," S function-argument ) ]; tells the sorts
@@ -43,12 +37,9 @@ pub fn arguments(s: &[u8], plan: &mut [u8], pool: &mut [u8], st: Cursor) -> Step
 {
     let at = st.at;
     if is(s, at, b')') {
-        return Step::Next(st, 0);
+        return Ok((st, 0));
     }
-    let r = argument(s, plan, pool, st);
-    let Step::Next(n, sort) = r else {
-        return r;
-    };
+    let (n, sort) = argument(s, plan, pool, st)?;
     more(s, plan, pool, n, one_more(0, sort))
 }
 
@@ -64,16 +55,12 @@ pub fn more(s: &[u8], plan: &mut [u8], pool: &mut [u8], st: Cursor, sorts: usize
         let here = now.at;
         let a = skip_blanks(s, here);
         if !is(s, a, b',') {
-            return Step::Next(now, known);
+            return Ok((now, known));
         }
         let b = skip_blanks(s, a + 1);
-        match argument(s, plan, pool, moved(now, b)) {
-            Step::Stop(i) => return Step::Stop(i),
-            Step::Next(n, sort) => {
-                now = n;
-                known = one_more(known, sort);
-            }
-        }
+        let (n, sort) = argument(s, plan, pool, moved(now, b))?;
+        now = n;
+        known = one_more(known, sort);
     }
 }
 
@@ -90,15 +77,12 @@ pub fn argument(s: &[u8], plan: &mut [u8], pool: &mut [u8], st: Cursor) -> Step
     if is(s, at, b'!') {
         return any(&s[0..], plan, pool, st, false);
     }
-    let r = operand(&s[0..], plan, pool, st);
-    let Step::Next(n, flag) = r else {
-        return r;
-    };
+    let (n, flag) = operand(&s[0..], plan, pool, st)?;
     if flag == 0 {
         let here = n.at;
         let a = skip_blanks(s, here);
         if !begins_operator(s, a) {
-            return Step::Next(n, 0);
+            return Ok((n, 0));
         }
     }
     chained(&s[0..], plan, pool, n, flag)
@@ -115,16 +99,10 @@ pub fn chained(s: &[u8], plan: &mut [u8], pool: &mut [u8], st: Cursor, flag: usi
         let at = st.at;
         let a = skip_blanks(s, at);
         if is(s, a, b')') {
-            return Step::Next(st, plain_sort(flag));
+            return Ok((st, plain_sort(flag)));
         }
     }
-    let r = behind(s, plan, pool, st, flag);
-    let Step::Next(n, sort) = r else {
-        return r;
-    };
-    let q = more_and(s, plan, pool, n, sort, false);
-    let Step::Next(m, kind) = q else {
-        return q;
-    };
+    let (n, sort) = behind(s, plan, pool, st, flag)?;
+    let (m, kind) = more_and(s, plan, pool, n, sort, false)?;
     more_or(s, plan, pool, m, kind, false)
 }

@@ -18,7 +18,7 @@ use parser_items::{
     Cursor, Step, begins_segment, item, judged, lowered, moved, not_tail, opened, test_tail,
     write_compare, write_dotted, write_keyword, write_literal, write_selector,
 };
-use parser_scan::{End, Sign, both, is, named_at, read_operator, read_word, skip_blanks};
+use parser_scan::{both, is, named_at, read_operator, read_word, skip_blanks};
 use plan_format::kinds;
 use text::bytes::put16;
 
@@ -34,15 +34,11 @@ fn segments(s: &[u8], plan: &mut [u8], pool: &mut [u8], st: Cursor) -> Step
         let here = now.at;
         let a = skip_blanks(s, here);
         if !begins_segment(s, a) {
-            return Step::Next(now, flag);
+            return Ok((now, flag));
         }
-        match segment(s, plan, pool, moved(now, a)) {
-            Step::Stop(i) => return Step::Stop(i),
-            Step::Next(n, f) => {
-                now = n;
-                flag = least(flag, f);
-            }
-        }
+        let (n, f) = segment(s, plan, pool, moved(now, a))?;
+        now = n;
+        flag = least(flag, f);
     }
 }
 
@@ -74,29 +70,20 @@ fn bracketed(s: &[u8], plan: &mut [u8], pool: &mut [u8], st: Cursor, kind: u8) -
 {
     let at = st.at;
     if !is(s, at, b'[') {
-        return Step::Stop(at);
+        return Err(at);
     }
     let a = skip_blanks(s, at + 1);
     let head = opened(plan, moved(st, a), kind);
-    let r = selector(s, plan, pool, head);
-    let Step::Next(n, plain) = r else {
-        return r;
-    };
-    let q = selectors(s, plan, pool, n);
-    let Step::Next(m, count) = q else {
-        return q;
-    };
+    let (n, plain) = selector(s, plan, pool, head)?;
+    let (m, count) = selectors(s, plan, pool, n)?;
     let b = m.at;
     let e = skip_blanks(s, b);
     if !is(s, e, b']') {
-        return Step::Stop(e);
+        return Err(e);
     }
     let len = st.len;
     put16(plan, len + 1, count + 1);
-    Step::Next(
-        moved(m, e + 1),
-        brackets_flag(plain, count, a == at + 1, e == b),
-    )
+    Ok((moved(m, e + 1), brackets_flag(plain, count, a == at + 1, e == b)))
 }
 
 // *( S "," S selector ); tells how many
@@ -111,16 +98,12 @@ fn selectors(s: &[u8], plan: &mut [u8], pool: &mut [u8], st: Cursor) -> Step
         let here = now.at;
         let a = skip_blanks(s, here);
         if !is(s, a, b',') {
-            return Step::Next(now, count);
+            return Ok((now, count));
         }
         let b = skip_blanks(s, a + 1);
-        match selector(s, plan, pool, moved(now, b)) {
-            Step::Stop(i) => return Step::Stop(i),
-            Step::Next(n, _) => {
-                now = n;
-                count += 1;
-            }
-        }
+        let (n, _) = selector(s, plan, pool, moved(now, b))?;
+        now = n;
+        count += 1;
     }
 }
 
@@ -146,15 +129,12 @@ fn filter(s: &[u8], plan: &mut [u8], pool: &mut [u8], st: Cursor) -> Step
     let at = st.at;
     let a = skip_blanks(s, at);
     let head = opened(plan, moved(st, a), kinds::FILTER);
-    let r = any(s, plan, pool, head, true);
-    let Step::Next(n, sort) = r else {
-        return r;
-    };
+    let (n, sort) = any(s, plan, pool, head, true)?;
     let m = test_tail(plan, n, sort);
     let len = st.len;
     let out = m.len;
     put16(plan, len + 1, out - len - 3);
-    Step::Next(m, 0)
+    Ok((m, 0))
 }
 
 // logical-or-expr = logical-and-expr *( S "||" S logical-and-expr ); tells its sort
@@ -163,10 +143,7 @@ fn any(s: &[u8], plan: &mut [u8], pool: &mut [u8], st: Cursor, asked: bool) -> S
     requires { Asks 0 s.now plan.old pool.old st }
     ensures { Post spell_logical_or (λ t. write_or_lem t asked) (λ t. sort_number (sort_or_lem t)) 4 s.now plan.old plan.new pool.old pool.new st result }
 {
-    let r = all(s, plan, pool, st, asked);
-    let Step::Next(n, sort) = r else {
-        return r;
-    };
+    let (n, sort) = all(s, plan, pool, st, asked)?;
     more_or(s, plan, pool, n, sort, asked)
 }
 
@@ -182,22 +159,18 @@ fn more_or(s: &[u8], plan: &mut [u8], pool: &mut [u8], st: Cursor, sort: usize, 
         let here = now.at;
         let a = skip_blanks(s, here);
         if !both(s, a, b'|', b'|') {
-            return Step::Next(now, kind);
+            return Ok((now, kind));
         }
         let b = skip_blanks(s, a + 2);
         let left = test_tail(plan, moved(now, b), kind);
         let head = opened(plan, left, kinds::OR);
-        match all(s, plan, pool, head, asked) {
-            Step::Stop(i) => return Step::Stop(i),
-            Step::Next(n, f) => {
-                let m = test_tail(plan, n, f);
-                let len = left.len;
-                let out = m.len;
-                put16(plan, len + 1, out - len - 3);
-                now = m;
-                kind = 4;
-            }
-        }
+        let (n, f) = all(s, plan, pool, head, asked)?;
+        let m = test_tail(plan, n, f);
+        let len = left.len;
+        let out = m.len;
+        put16(plan, len + 1, out - len - 3);
+        now = m;
+        kind = 4;
     }
 }
 
@@ -207,10 +180,7 @@ fn all(s: &[u8], plan: &mut [u8], pool: &mut [u8], st: Cursor, asked: bool) -> S
     requires { Asks 0 s.now plan.old pool.old st }
     ensures { Post spell_logical_and (λ t. write_and_lem t asked) (λ t. sort_number (sort_and_lem t)) 3 s.now plan.old plan.new pool.old pool.new st result }
 {
-    let r = basic(s, plan, pool, st);
-    let Step::Next(n, sort) = r else {
-        return r;
-    };
+    let (n, sort) = basic(s, plan, pool, st)?;
     more_and(s, plan, pool, judged(n, compared(sort, asked)), sort, asked)
 }
 
@@ -233,22 +203,18 @@ fn more_and(
         let here = now.at;
         let a = skip_blanks(s, here);
         if !both(s, a, b'&', b'&') {
-            return Step::Next(now, kind);
+            return Ok((now, kind));
         }
         let b = skip_blanks(s, a + 2);
         let left = test_tail(plan, moved(now, b), kind);
         let head = opened(plan, left, kinds::AND);
-        match basic(s, plan, pool, head) {
-            Step::Stop(i) => return Step::Stop(i),
-            Step::Next(n, f) => {
-                let m = test_tail(plan, n, f);
-                let len = left.len;
-                let out = m.len;
-                put16(plan, len + 1, out - len - 3);
-                now = judged(m, compared(f, asked));
-                kind = 4;
-            }
-        }
+        let (n, f) = basic(s, plan, pool, head)?;
+        let m = test_tail(plan, n, f);
+        let len = left.len;
+        let out = m.len;
+        put16(plan, len + 1, out - len - 3);
+        now = judged(m, compared(f, asked));
+        kind = 4;
     }
 }
 
@@ -265,10 +231,7 @@ fn basic(s: &[u8], plan: &mut [u8], pool: &mut [u8], st: Cursor) -> Step
     if is(s, at, b'!') {
         return negation(s, plan, pool, moved(st, at + 1));
     }
-    let r = operand(s, plan, pool, st);
-    let Step::Next(n, flag) = r else {
-        return r;
-    };
+    let (n, flag) = operand(s, plan, pool, st)?;
     behind(s, plan, pool, n, flag)
 }
 
@@ -281,20 +244,14 @@ fn negation(s: &[u8], plan: &mut [u8], pool: &mut [u8], st: Cursor) -> Step
     let at = st.at;
     let a = skip_blanks(s, at);
     if is(s, a, b'(') {
-        let r = paren(s, plan, pool, moved(st, a));
-        let Step::Next(n, sort) = r else {
-            return r;
-        };
-        return Step::Next(not_tail(plan, n, sort), 4);
+        let (n, sort) = paren(s, plan, pool, moved(st, a))?;
+        return Ok((not_tail(plan, n, sort), 4));
     }
-    let q = operand(s, plan, pool, moved(st, a));
-    let Step::Next(m, flag) = q else {
-        return q;
-    };
+    let (m, flag) = operand(s, plan, pool, moved(st, a))?;
     if flag == 0 {
-        return Step::Stop(a);
+        return Err(a);
     }
-    Step::Next(not_tail(plan, m, flag), 4)
+    Ok((not_tail(plan, m, flag), 4))
 }
 
 // [ S comparison-op S comparable ], behind an operand with the given flag; tells the sort of the whole
@@ -306,15 +263,15 @@ fn behind(s: &[u8], plan: &mut [u8], pool: &mut [u8], st: Cursor, flag: usize) -
     let at = st.at;
     let a = skip_blanks(s, at);
     match read_operator(s, a) {
-        Sign::Nothing => {
+        None => {
             if flag == 0 {
-                return Step::Stop(a);
+                return Err(a);
             }
-            Step::Next(st, plain_sort(flag))
+            Ok((st, plain_sort(flag)))
         }
-        Sign::Is(e, op) => {
+        Some((e, op)) => {
             if !comparable(flag) {
-                return Step::Stop(a);
+                return Err(a);
             }
             right(s, plan, pool, moved(st, e), plain_sort(flag), op)
         }
@@ -329,14 +286,11 @@ fn right(s: &[u8], plan: &mut [u8], pool: &mut [u8], st: Cursor, sort: usize, op
 {
     let at = st.at;
     let a = skip_blanks(s, at);
-    let r = operand(s, plan, pool, moved(st, a));
-    let Step::Next(n, flag) = r else {
-        return r;
-    };
+    let (n, flag) = operand(s, plan, pool, moved(st, a))?;
     if !comparable(flag) {
-        return Step::Stop(a);
+        return Err(a);
     }
-    Step::Next(write_compare(plan, n, sort, plain_sort(flag), op), 4)
+    Ok((write_compare(plan, n, sort, plain_sort(flag), op), 4))
 }
 
 // "(" S logical-expr S ")"; tells the sort of what is inside
@@ -347,16 +301,13 @@ fn paren(s: &[u8], plan: &mut [u8], pool: &mut [u8], st: Cursor) -> Step
 {
     let at = st.at;
     let a = skip_blanks(s, at + 1);
-    let r = any(s, plan, pool, moved(st, a), true);
-    let Step::Next(n, sort) = r else {
-        return r;
-    };
+    let (n, sort) = any(s, plan, pool, moved(st, a), true)?;
     let here = n.at;
     let e = skip_blanks(s, here);
     if !is(s, e, b')') {
-        return Step::Stop(e);
+        return Err(e);
     }
-    Step::Next(moved(n, e + 1), sort)
+    Ok((moved(n, e + 1), sort))
 }
 
 // literal / filter-query / function-expr; tells the flag: 0 a literal, 1 to 4 the sort, 5 a query that a singular-query spells
@@ -372,7 +323,7 @@ fn operand(s: &[u8], plan: &mut [u8], pool: &mut [u8], st: Cursor) -> Step
     if is(s, at, b'$') {
         return query(&s[0..], plan, pool, moved(st, at + 1), kinds::ROOT);
     }
-    let End::At(e) = read_word(s, at) else {
+    let Ok(e) = read_word(s, at) else {
         return write_literal(s, plan, pool, st);
     };
     if is(s, e, b'(') {
@@ -388,9 +339,6 @@ pub fn query(s: &[u8], plan: &mut [u8], pool: &mut [u8], st: Cursor, start: u8) 
     ensures { Post spell_segments (λ t. write_from start (write_segments t)) query_flag 1 s.now plan.old plan.new pool.old pool.new st result }
 {
     let head = item(plan, st, start);
-    let r = segments(s, plan, pool, head);
-    let Step::Next(n, flag) = r else {
-        return r;
-    };
-    Step::Next(item(plan, n, kinds::END), query_flag(flag))
+    let (n, flag) = segments(s, plan, pool, head)?;
+    Ok((item(plan, n, kinds::END), query_flag(flag)))
 }

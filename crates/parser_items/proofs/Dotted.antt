@@ -1,5 +1,6 @@
 -- What stands behind the dots of a segment: a `*`, or a name with all its bytes.
 -- Assumes nothing.
+use Rattle.std.specs.Prelude.{Ok, Err}
 use mathlib.Core.Path.{◌≡◌, refl, sym, ap, ◌∙◌}
 use mathlib.Core.Bool.{true, false, false≢true}
 use mathlib.Core.List.{List, [], ◌∷◌, ◌++◌, append_assoc}
@@ -23,7 +24,6 @@ use Rattle.parser_items.specs.Reads.{After, Asks, Post, next, stop, Put, Pooled,
 use Rattle.parser_items.specs.Laws.{Moved, moved_done, put_done, pooled_done, done_single}
 use Rattle.parser_items.specs.Follow.{after_name}
 use Rattle.parser_items.specs.declared.Cursor.{Cursor}
-use Rattle.parser_items.specs.declared.Step.TheVariants as step
 
 -- ---- names and UTF-8
 
@@ -59,7 +59,7 @@ module _ {s P L : List ℕ} {a : Cursor} (kind : ℕ) (st : Asks 0 s P L a) wher
 
   -- a `*` is read and written
   pub dotted_wild : {P₁ P₂ : List ℕ} {b c d : Cursor} → Is s a.at 0x2A true → Put P P₁ a b (kind ∷ 1 ∷ 0 ∷ []) → Put P₁ P₂ b c (0x08 ∷ []) → Moved c d (a.at + 1) →
-      Post spell_dotted (write_dotted kind) dotted_flag 0 s P P₂ L L a (step.Next d 0)
+      Post spell_dotted (write_dotted kind) dotted_flag 0 s P P₂ L L a (Ok (d, 0))
   dotted_wild {d = d} i g h m =
       next {b = d} (record {
         tree = wild_dotted;
@@ -86,7 +86,7 @@ module _ {s P L : List ℕ} {a : Cursor} (kind : ℕ) (st : Asks 0 s P L a) (i :
 
   -- a name is read and written
   pub dotted_name : {L' P₁ P₂ : List ℕ} {b c d : Cursor} {e : ℕ} → NameAt s a.at e → Wrote L a.pool (part s a.at (e - a.at)) L' →
-      Put P P₁ a b (kind ∷ 1 ∷ 0 ∷ []) → Pooled P₁ P₂ b c 0x05 (e - a.at) → Moved c d e → Post spell_dotted (write_dotted kind) dotted_flag 0 s P P₂ L L' a (step.Next d 2)
+      Put P P₁ a b (kind ∷ 1 ∷ 0 ∷ []) → Pooled P₁ P₂ b c 0x05 (e - a.at) → Moved c d e → Post spell_dotted (write_dotted kind) dotted_flag 0 s P P₂ L L' a (Ok (d, 2))
   dotted_name {d = d} {e = e} n w g h m =
       let t : List ℕ = name_bytes n.name in
       let l : e - a.at ≡ length t = sym (part_length s a.at (e - a.at) (omega (arith, n.from, n.to))) ∙ ap length n.bytes in
@@ -101,7 +101,7 @@ module _ {s P L : List ℕ} {a : Cursor} (kind : ℕ) (st : Asks 0 s P L a) (i :
       })
 
   -- neither stands there
-  pub dotted_none : {P' L' : List ℕ} {j : ℕ} → ReadsNone spell_name (StartsNot is_name_byte) (drop a.at s) → Post spell_dotted (write_dotted kind) dotted_flag 0 s P P' L L' a (step.Stop j)
+  pub dotted_none : {P' L' : List ℕ} {j : ℕ} → ReadsNone spell_name (StartsNot is_name_byte) (drop a.at s) → Post spell_dotted (write_dotted kind) dotted_flag 0 s P P' L L' a (Err j)
   dotted_none n = stop (record { none = none })
     where
       none : (t : Dotted) (r : List ℕ) → After 0 r → drop a.at s ≡ spell_dotted t r → ⊥

@@ -1,5 +1,6 @@
 -- Number literals: what stands for each is written, and what may follow a number goes on with none of its characters.
 -- Assumes nothing.
+use Rattle.std.specs.Prelude.{Ok, Err}
 use mathlib.Core.Path.{◌≡◌, refl, sym, ap, subst, ◌∙◌}
 use mathlib.Core.Bool.{true, false, true≢false}
 use mathlib.Core.List.{List, [], ◌∷◌, ◌++◌}
@@ -41,8 +42,7 @@ use Rattle.parser_items.specs.Reads.{level_of, After, Done, Post, next, stop, no
 use Rattle.parser_items.specs.Laws.{Moved, moved_done, put_put, put_done, Marked, marked_put, done_marked, after_starts}
 use Rattle.parser_items.specs.Follow.{inner_digit, is_int_start}
 use Rattle.parser_items.specs.declared.Cursor.{Cursor}
-use Rattle.parser_items.specs.declared.Step.{Step}
-use Rattle.parser_items.specs.declared.Step.TheVariants as step
+use Rattle.parser_items.specs.Reads.{Step}
 use Rattle.parser_items.proofs.Ints.{digit_ascii, every_utf8, int_utf8, int_not}
 use Rattle.parser_items.proofs.Quotes.{no_quoted}
 
@@ -125,7 +125,7 @@ module _ {s : List ℕ} {a : ℕ} {r : NumberRead} (h : NumberAnswer s a r) wher
 
 module _ {s : List ℕ} (a : Cursor) (f : Is s a.at 0x22 false) (g : Is s a.at 0x27 false) where
   -- neither a number nor a quoted text stands there
-  pub constant_none : {P P' L L' : List ℕ} {i : ℕ} → ReadsNone spell_number (StartsNot is_number_char) (drop a.at s) → Post spell_constant write_constant no_flag 1 s P P' L L' a (step.Stop i)
+  pub constant_none : {P P' L L' : List ℕ} {i : ℕ} → ReadsNone spell_number (StartsNot is_number_char) (drop a.at s) → Post spell_constant write_constant no_flag 1 s P P' L L' a (Err i)
   constant_none n = stop (record { none = none })
     where
       none : (t : Constant) (r : List ℕ) → After 1 r → drop a.at s ≡ spell_constant t r → ⊥
@@ -134,7 +134,7 @@ module _ {s : List ℕ} (a : Cursor) (f : Is s a.at 0x22 false) (g : Is s a.at 0
 
   -- a number is read and written
   pub constant_number : {P P' L : List ℕ} {c d : Cursor} {e : ℕ} {v : Numeral} → NumberAt s a.at e v → is_utf8 (drop a.at s) ≡ true → Done P P' L L a c (write_numeral v a.pool) → Moved c d e →
-      Post spell_constant write_constant no_flag 1 s P P' L L a (step.Next d 0)
+      Post spell_constant write_constant no_flag 1 s P P' L L a (Ok (d, 0))
   constant_number {P} {P'} {L} {c} {d} {e} {v} n u h m =
       next {b = d} (record {
         tree = number_constant n.tree;

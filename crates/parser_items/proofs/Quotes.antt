@@ -1,5 +1,6 @@
 -- Quoted texts: a quote begins one, and where neither quote stands there is none.
 -- Assumes nothing.
+use Rattle.std.specs.Prelude.{Result, Ok, Err}
 use mathlib.Core.Path.{◌≡◌, refl, sym, ap, subst, ◌∙◌}
 use mathlib.Core.List.{List, ◌∷◌}
 use mathlib.Core.Bool.{true, false}
@@ -13,14 +14,12 @@ use Rattle.basics.specs.Reads.{ReadsNone}
 use Rattle.text_quoted.specs.Quoted.{quote_of, Opened, spell_closed, Any, Unescapes, Refuses, Unescaping}
 use Rattle.text_quoted.specs.Laws.{quote_of_own}
 use Rattle.text_quoted.specs.declared.Unescaped.{Unescaped}
-use Rattle.text_quoted.specs.declared.Unescaped.TheVariants as unescaped
 use Rattle.utf8_laws.specs.Encode.{utf8_ascii}
 use Rattle.parser_scan.specs.Text.{Is}
 use Rattle.compile_writes.specs.Effects.{pooling}
 use Rattle.parser_items.specs.Reads.{Asks, Post, next, stop, Pooled}
 use Rattle.parser_items.specs.Laws.{Moved, moved_done, pooled_done}
 use Rattle.parser_items.specs.declared.Cursor.{Cursor}
-use Rattle.parser_items.specs.declared.Step.TheVariants as step
 
 -- no quoted text begins where neither quote stands
 pub no_quoted : (s : List ℕ) (a : ℕ) → Is s a 0x22 false → Is s a 0x27 false → (t : Text) (r : List ℕ) → drop a s ≡ spell_text t r → ⊥
@@ -65,12 +64,12 @@ module _ {s P L : List ℕ} {a : Cursor} (quote kind told : ℕ) (st : Asks 0 s 
 
   -- no text stands there
   pub text_none : {P' L' : List ℕ} {j : ℕ} → ReadsNone (spell_closed (quote_of quote)) Any (drop (a.at + 1) s) →
-      Post spell_text (λ t. pooling kind (text_bytes t)) (λ t. told) 0 s P P' L L' a (step.Stop j)
+      Post spell_text (λ t. pooling kind (text_bytes t)) (λ t. told) 0 s P P' L L' a (Err j)
   text_none n = stop (record { none = λ t r m e. n.none t.chars r tt (closed t r e) })
 
   -- a text is read and written
   pub text_done : {P' L' : List ℕ} {b d : Cursor} {e end : ℕ} → Unescapes (quote_of quote) s (a.at + 1) L a.pool L' e end → Pooled P P' a b kind (end - a.pool) → Moved b d e →
-      Post spell_text (λ t. pooling kind (text_bytes t)) (λ t. told) 0 s P P' L L' a (step.Next d told)
+      Post spell_text (λ t. pooling kind (text_bytes t)) (λ t. told) 0 s P P' L L' a (Ok (d, told))
   unfolding text_bytes
   text_done {P'} {L'} {b} {d} {e} {end} u h m =
       let q : Quote = quote_of quote in
@@ -94,8 +93,8 @@ module _ {s P L : List ℕ} {a : Cursor} (quote kind told : ℕ) (st : Asks 0 s 
 -- ---- what the reader of quoted texts tells
 
 module _ {q : Quote} {s : List ℕ} {a : ℕ} {p : List ℕ} {n : ℕ} {p' : List ℕ} where
-  pub done_of : {r : Unescaped} {e f : ℕ} → Unescaping q s a p n p' r → r ≡ unescaped.Done e f → Unescapes q s a p n p' e f
+  pub done_of : {r : Result Unescaped ℕ} {u : Unescaped} → Unescaping q s a p n p' r → r ≡ Ok u → Unescapes q s a p n p' u.next u.end
   done_of h e = rw e at h
 
-  pub bad_of : {r : Unescaped} {i : ℕ} → Unescaping q s a p n p' r → r ≡ unescaped.Bad i → Refuses q s a p n p' i
+  pub bad_of : {r : Result Unescaped ℕ} {i : ℕ} → Unescaping q s a p n p' r → r ≡ Err i → Refuses q s a p n p' i
   bad_of h e = rw e at h

@@ -1,5 +1,6 @@
 -- The selectors that do not nest, by their first byte: a quote begins a name, and `*` is the wildcard.
 -- Assumes nothing.
+use Rattle.std.specs.Prelude.{Ok}
 use Rattle.parser_follow.specs.Follow.{after_weaken}
 use mathlib.Core.Path.{◌≡◌, refl, sym, ap, ◌∙◌}
 use mathlib.Core.Bool.{true, false}
@@ -21,8 +22,7 @@ use Rattle.parser_items.specs.Reads.{After, Post, LoosePost, next, stop, Put, Pl
 use Rattle.parser_items.specs.Laws.{Moved, moved_done, put_done}
 use Rattle.parser_items.specs.Follow.{is_int_start}
 use Rattle.parser_items.specs.declared.Cursor.{Cursor}
-use Rattle.parser_items.specs.declared.Step.{Step}
-use Rattle.parser_items.specs.declared.Step.TheVariants as step
+use Rattle.parser_items.specs.Reads.{Step}
 use Rattle.parser_items.proofs.Ints.{int_not}
 use Rattle.parser_items.proofs.Quotes.{no_quoted}
 
@@ -75,7 +75,7 @@ module _ {s P P' L L' : List ℕ} (a : Cursor) (x : ℕ) (f : is_int_start x ≡
 -- ---- the wildcard
 
 pub selector_wild : {s P P' L : List ℕ} (a : Cursor) {b d : Cursor} → is_utf8 (drop a.at s) ≡ true → Is s a.at 0x22 false → Is s a.at 0x27 false → Is s a.at 0x2A true → Put P P' a b (0x08 ∷ []) → Moved b d (a.at + 1) →
-    LoosePost spell_plain write_plain is_plain 1 4 s P P' L L a (step.Next d 0)
+    LoosePost spell_plain write_plain is_plain 1 4 s P P' L L a (Ok (d, 0))
 selector_wild {s} a {d = d} u f g i h m =
     next {b = d} (record {
       tree = wild_plain;

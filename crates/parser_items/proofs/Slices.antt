@@ -1,5 +1,6 @@
 -- Slices and indices: an int with a colon behind its blanks begins a slice, and any other is an index.
 -- Assumes nothing.
+use Rattle.std.specs.Prelude.{Ok, Err}
 use mathlib.Core.Path.{◌≡◌, refl, sym, ap, subst, ◌∙◌}
 use mathlib.Core.Bool.{Bool, true, false}
 use mathlib.Core.List.{List, ◌∷◌}
@@ -26,7 +27,6 @@ use Rattle.parser_items.specs.Follow.{is_int_start, inner_digit, after_digit, af
 use Rattle.parser_items.specs.Ranges.{Field, int_field, no_field, bound_field, step_field, field_of, IntThere, NoInt, IntOrNot, StepThere, NoText, bit_of, slice_bytes, slice_marks}
 use Rattle.parser_items.specs.declared.ranges.Piece.{Piece}
 use Rattle.parser_items.specs.declared.Cursor.{Cursor}
-use Rattle.parser_items.specs.declared.Step.TheVariants as answer
 use Rattle.parser_items.proofs.Quotes.{no_quoted}
 use Rattle.parser_items.proofs.Ints.{int_not, int_unblank, int_utf8, after_no_int, starts_digit, starts_blanks, field_same, BoundThere, bound_there}
 
@@ -224,7 +224,7 @@ module _ {s : List ℕ} (a : Cursor) (no : NoText s a.at) where
 
       -- a slice is read and written
       pub slice_post : {P P' : List ℕ} (L : List ℕ) {c d : Cursor} → is_utf8 (drop a.at s) ≡ true → PutMarked P P' a c (slice_bytes (field_of p) (field_of q) (field_of u)) (slice_marks (field_of p) (field_of q) (field_of u)) → Moved c d u.at →
-          LoosePost spell_plain write_plain is_plain 1 4 s P P' L L a (answer.Next d 0)
+          LoosePost spell_plain write_plain is_plain 1 4 s P P' L L a (Ok (d, 0))
       slice_post {P} {P'} L {c} {d} v w m =
           let x = bound_there g h in
           let t : Slice = slice_there s x colonThere k y z in
@@ -254,7 +254,7 @@ module _ {s : List ℕ} (a : Cursor) (no : NoText s a.at) where
             colonNot l (h.skipped.rest ∙ ap unblank (sym o.1) ∙ unblank_blanks b (0x3A ∷ l))
 
     -- where neither a colon nor an int stands, there is neither
-    pub range_none : {P P' L L' : List ℕ} {j : ℕ} → NoInt s a.at p → LoosePost spell_plain write_plain is_plain 1 4 s P P' L L' a (answer.Stop j)
+    pub range_none : {P P' L L' : List ℕ} {j : ℕ} → NoInt s a.at p → LoosePost spell_plain write_plain is_plain 1 4 s P P' L L' a (Err j)
     range_none h = stop (record { none = none })
       where
         bounded : (c : Bound) (l : List ℕ) → drop a.at s ≡ spell_bound c (0x3A ∷ l) → ⊥
@@ -279,7 +279,7 @@ module _ {s : List ℕ} (a : Cursor) (no : NoText s a.at) where
 
       -- an index is read and written
       pub index_post : {P P' : List ℕ} (L : List ℕ) {c d : Cursor} → is_utf8 (drop a.at s) ≡ true → PutMarked P P' a c (0x06 ∷ little_endian 8 p.bits) (record { verdict = p.verdict; beyond = false }) → Moved c d p.end →
-          LoosePost spell_plain write_plain is_plain 1 4 s P P' L L a (answer.Next d 1)
+          LoosePost spell_plain write_plain is_plain 1 4 s P P' L L a (Ok (d, 1))
       index_post {P} {P'} L {c} {d} v w m =
           let f : index_writer (field_of p) a.pool ≡ write_index h.int a.pool = sym (index_written h.int a.pool ∙ ap (λ (g : Field). index_writer g a.pool) (sym h.field)) in
           next {b = d} (record {

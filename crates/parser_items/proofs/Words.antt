@@ -1,5 +1,6 @@
 -- The literals that are words: true, false and null, each a function name that no character of such a name follows.
 -- Assumes nothing.
+use Rattle.std.specs.Prelude.{Ok, Err}
 use mathlib.Core.Path.{◌≡◌, refl, sym, ap, subst, ◌∙◌}
 use mathlib.Core.Logic.{◌≢◌}
 use mathlib.Core.Bool.{true, cond}
@@ -21,7 +22,6 @@ use Rattle.parser_items.specs.Reads.{After, Done, Post, next, stop, Put, no_flag
 use Rattle.parser_items.specs.Laws.{Moved, moved_done, put_put, put_done}
 use Rattle.parser_items.specs.Follow.{after_word}
 use Rattle.parser_items.specs.declared.Cursor.{Cursor}
-use Rattle.parser_items.specs.declared.Step.TheVariants as step
 
 -- a word as a function name, and its number
 abbrev word_of : Keyword → FunctionName
@@ -82,12 +82,12 @@ module _ {s : List ℕ} (a : Cursor) {e : ℕ} (w : WordAt s a.at e) where
       (sym (word_number t) ∙ ap keyword_number (o.0 ∙ sym w.bytes), o.1)
 
   -- no word stands there
-  pub word_none : {P P' L L' : List ℕ} {k i : ℕ} → k ≡ keyword_number (part s a.at (e - a.at)) → k ≡ 0 → Post spell_keyword write_keyword no_flag 1 s P P' L L' a (step.Stop i)
+  pub word_none : {P P' L L' : List ℕ} {k i : ℕ} → k ≡ keyword_number (part s a.at (e - a.at)) → k ≡ 0 → Post spell_keyword write_keyword no_flag 1 s P P' L L' a (Err i)
   word_none h z = stop (record { none = λ t r m q. word_some t ((alike t r m q).0 ∙ sym h ∙ z) })
 
   -- the word is read and written
   pub word_done : {P P' P'' : List ℕ} (L : List ℕ) {k : ℕ} {b c d : Cursor} → k ≡ keyword_number (part s a.at (e - a.at)) → k ≢ 0 → is_utf8 (drop a.at s) ≡ true →
-      Put P P' a b (0x13 ∷ []) → Put P' P'' b c (word_byte k ∷ []) → Moved c d e → Post spell_keyword write_keyword no_flag 1 s P P'' L L a (step.Next d 0)
+      Put P P' a b (0x13 ∷ []) → Put P' P'' b c (word_byte k ∷ []) → Moved c d e → Post spell_keyword write_keyword no_flag 1 s P P'' L L a (Ok (d, 0))
   word_done {P} {P'' = P''} L {k} {c = c} {d = d} h z u g j m =
       let f = found (part s a.at (e - a.at)) (λ q. z (h ∙ q)) in
       let t : Keyword = f.0 in

@@ -1,6 +1,6 @@
 -- The laws of the reader's words: stores in a row, marks, what a sequence of steps brings about, blanks, and what may follow a tree.
 -- Assumes nothing.
-use Rattle.std.specs.Prelude.{◌≡◌, refl, Bool, true, false, ℕ, suc, ◌+◌, ◌*◌, ◌-◌, ◌≤◌, ◌<◌, eqb, take, drop, set}
+use Rattle.std.specs.Prelude.{◌≡◌, refl, Bool, true, false, ℕ, suc, ◌+◌, ◌*◌, ◌-◌, ◌≤◌, ◌<◌, eqb, take, drop, set, Option, Some, None, Result, Ok, Err, is_some}
 use Rattle.std.proofs.Math.Path.{sym, ap}
 use Rattle.std.proofs.Common.{subst, ◌∙◌, add_assoc, add-zero, arith, set-set, take_all}
 use mathlib.Core.List.{List, [], ◌∷◌, ◌++◌, append-nil}
@@ -21,15 +21,10 @@ use Rattle.parser_follow.specs.Follow.{after_not}
 use Rattle.utf8_laws.specs.Bytes.{by_test}
 use Rattle.parser_scan.specs.Text as scanned
 use Rattle.parser_scan.specs.Text.{unblank, is_name_byte, NameAt, ReadsName, WordAt, ReadsWord, OperatorAt, ReadsOperator}
-use Rattle.parser_scan.specs.declared.End.{End}
-use Rattle.parser_scan.specs.declared.End.TheVariants as end
-use Rattle.parser_scan.specs.declared.Sign.{Sign}
-use Rattle.parser_scan.specs.declared.Sign.TheVariants as sign
 use Rattle.compile_writes.specs.Effects.{Marks, no_marks, join_marks, Effect, join, Writer, skip, bytes, pooling, mark, seq, frame, counted}
-use Rattle.parser_items.specs.Reads.{level_of, After, marks_at, marks_of, Asks, Done, Read, Post, LooseRead, LoosePost, next, stop, no_flag, Put, PutMarked, Pooled, low}
+use Rattle.parser_items.specs.Reads.{level_of, After, marks_at, marks_of, Asks, Done, Read, Post, LooseRead, LoosePost, next, stop, no_flag, Put, PutMarked, Pooled, low, Operates}
 use Rattle.parser_items.specs.declared.Cursor.{Cursor}
-use Rattle.parser_items.specs.declared.Step.{Step}
-use Rattle.parser_items.specs.declared.Step.TheVariants as step
+use Rattle.parser_items.specs.Reads.{Step}
 
 -- ---- stores in a row
 
@@ -273,18 +268,18 @@ after_starts p (c ∷ r) f a =
 -- ---- what a function tells of its reading
 
 module _ {T : Type 0} {sp : T → List ℕ → List ℕ} {w : T → Writer} {fl : T → ℕ} {k : ℕ} {s P P' L L' : List ℕ} {a : Cursor} where
-  read_next : {b : Cursor} {f : ℕ} → Post sp w fl k s P P' L L' a (step.Next b f) → Read sp w fl k s P P' L L' a b f
+  read_next : {b : Cursor} {f : ℕ} → Post sp w fl k s P P' L L' a (Ok (b, f)) → Read sp w fl k s P P' L L' a b f
   read_next (next h) = h
 
-  none_stop : {i : ℕ} → Post sp w fl k s P P' L L' a (step.Stop i) → ReadsNone sp (After k) (drop a.at s)
+  none_stop : {i : ℕ} → Post sp w fl k s P P' L L' a (Err i) → ReadsNone sp (After k) (drop a.at s)
   none_stop (stop h) = h
 
   -- the tree that was read, from the answer that tells it
-  pub read_of : {r : Step} {b : Cursor} {f : ℕ} → Post sp w fl k s P P' L L' a r → r ≡ step.Next b f → Read sp w fl k s P P' L L' a b f
+  pub read_of : {r : Step} {b : Cursor} {f : ℕ} → Post sp w fl k s P P' L L' a r → r ≡ Ok (b, f) → Read sp w fl k s P P' L L' a b f
   read_of h e = read_next (rw e at h)
 
   -- that there is no tree, from the answer that tells it
-  pub none_of : {r : Step} {i : ℕ} → Post sp w fl k s P P' L L' a r → r ≡ step.Stop i → ReadsNone sp (After k) (drop a.at s)
+  pub none_of : {r : Step} {i : ℕ} → Post sp w fl k s P P' L L' a r → r ≡ Err i → ReadsNone sp (After k) (drop a.at s)
   none_of h e = none_stop (rw e at h)
 
 -- ---- room
@@ -365,46 +360,51 @@ post_low (next {b = b} h) =
 
 -- ---- what the scanner tells
 
-name_at : {s : List ℕ} {a e : ℕ} → ReadsName s a (end.At e) → NameAt s a e
+name_at : {s : List ℕ} {a e : ℕ} → ReadsName s a (Ok e) → NameAt s a e
 name_at (scanned.ReadsName.at h) = h
 
-name_nothing : {s : List ℕ} {a i : ℕ} → ReadsName s a (end.Nothing i) → ReadsNone spell_name (StartsNot is_name_byte) (drop a s)
+name_nothing : {s : List ℕ} {a i : ℕ} → ReadsName s a (Err i) → ReadsNone spell_name (StartsNot is_name_byte) (drop a s)
 name_nothing (scanned.ReadsName.nothing h) = h
 
-word_at : {s : List ℕ} {a e : ℕ} → ReadsWord s a (end.At e) → WordAt s a e
+word_at : {s : List ℕ} {a e : ℕ} → ReadsWord s a (Ok e) → WordAt s a e
 word_at (scanned.ReadsWord.at h) = h
 
-word_nothing : {s : List ℕ} {a i : ℕ} → ReadsWord s a (end.Nothing i) → ReadsNone spell_function_name (StartsNot is_function_char) (drop a s)
+word_nothing : {s : List ℕ} {a i : ℕ} → ReadsWord s a (Err i) → ReadsNone spell_function_name (StartsNot is_function_char) (drop a s)
 word_nothing (scanned.ReadsWord.nothing h) = h
 
-operator_is : {s : List ℕ} {a e o : ℕ} → ReadsOperator s a (sign.Is e o) → OperatorAt s a e o
+operator_is : {s : List ℕ} {a e o : ℕ} → ReadsOperator s a (Some (e, o)) → OperatorAt s a e o
 operator_is (scanned.ReadsOperator.is h) = h
 
-operator_nothing : {s : List ℕ} {a : ℕ} → ReadsOperator s a sign.Nothing → ReadsNone spell_operator (StartsNot (eqb 0x3D)) (drop a s)
+operator_nothing : {s : List ℕ} {a : ℕ} → ReadsOperator s a None → ReadsNone spell_operator (StartsNot (eqb 0x3D)) (drop a s)
 operator_nothing (scanned.ReadsOperator.nothing h) = h
 
-module _ {s : List ℕ} {a : ℕ} {r : End} where
+module _ {s : List ℕ} {a : ℕ} {r : Result ℕ ℕ} where
   -- the name that was read, or that there is none
-  pub name_of : {e : ℕ} → ReadsName s a r → r ≡ end.At e → NameAt s a e
+  pub name_of : {e : ℕ} → ReadsName s a r → r ≡ Ok e → NameAt s a e
   name_of h e = name_at (rw e at h)
 
-  pub no_name_of : {i : ℕ} → ReadsName s a r → r ≡ end.Nothing i → ReadsNone spell_name (StartsNot is_name_byte) (drop a s)
+  pub no_name_of : {i : ℕ} → ReadsName s a r → r ≡ Err i → ReadsNone spell_name (StartsNot is_name_byte) (drop a s)
   no_name_of h e = name_nothing (rw e at h)
 
   -- the function name that was read, or that there is none
-  pub word_of : {e : ℕ} → ReadsWord s a r → r ≡ end.At e → WordAt s a e
+  pub word_of : {e : ℕ} → ReadsWord s a r → r ≡ Ok e → WordAt s a e
   word_of h e = word_at (rw e at h)
 
-  pub no_word_of : {i : ℕ} → ReadsWord s a r → r ≡ end.Nothing i → ReadsNone spell_function_name (StartsNot is_function_char) (drop a s)
+  pub no_word_of : {i : ℕ} → ReadsWord s a r → r ≡ Err i → ReadsNone spell_function_name (StartsNot is_function_char) (drop a s)
   no_word_of h e = word_nothing (rw e at h)
 
-module _ {s : List ℕ} {a : ℕ} {r : Sign} where
+module _ {s : List ℕ} {a : ℕ} {r : Option (ℕ × ℕ)} where
   -- the operator that was read, or that there is none
-  pub operator_of_lem : {e o : ℕ} → ReadsOperator s a r → r ≡ sign.Is e o → OperatorAt s a e o
+  pub operator_of_lem : {e o : ℕ} → ReadsOperator s a r → r ≡ Some (e, o) → OperatorAt s a e o
   operator_of_lem h e = operator_is (rw e at h)
 
-  pub no_operator_of : ReadsOperator s a r → r ≡ sign.Nothing → ReadsNone spell_operator (StartsNot (eqb 0x3D)) (drop a s)
+  pub no_operator_of : ReadsOperator s a r → r ≡ None → ReadsNone spell_operator (StartsNot (eqb 0x3D)) (drop a s)
   no_operator_of h e = operator_nothing (rw e at h)
+
+-- whether an operator stands there
+pub operates_of : {s : List ℕ} {a : ℕ} {r : Option (ℕ × ℕ)} → ReadsOperator s a r → Operates s a (is_some r)
+operates_of (scanned.ReadsOperator.is {r = e} {o = o} h) = (e, o, h)
+operates_of (scanned.ReadsOperator.nothing h) = h
 
 -- ---- room
 
@@ -425,17 +425,17 @@ asks_less h st = record { text = st.text; plan = omega (arith, st.plan); pool = 
 -- ---- what is left up to blanks
 
 module _ {T : Type 0} {sp : T → List ℕ → List ℕ} {w : T → Writer} {fl : T → ℕ} {n k : ℕ} {s P P' L L' : List ℕ} {a : Cursor} where
-  loose_next : {b : Cursor} {f : ℕ} → LoosePost sp w fl n k s P P' L L' a (step.Next b f) → LooseRead sp w fl n k s P P' L L' a b f
+  loose_next : {b : Cursor} {f : ℕ} → LoosePost sp w fl n k s P P' L L' a (Ok (b, f)) → LooseRead sp w fl n k s P P' L L' a b f
   loose_next (next h) = h
 
-  loose_stop : {i : ℕ} → LoosePost sp w fl n k s P P' L L' a (step.Stop i) → ReadsNone sp (After k) (drop a.at s)
+  loose_stop : {i : ℕ} → LoosePost sp w fl n k s P P' L L' a (Err i) → ReadsNone sp (After k) (drop a.at s)
   loose_stop (stop h) = h
 
   -- the tree that was read, or that there is none
-  pub loose_of : {r : Step} {b : Cursor} {f : ℕ} → LoosePost sp w fl n k s P P' L L' a r → r ≡ step.Next b f → LooseRead sp w fl n k s P P' L L' a b f
+  pub loose_of : {r : Step} {b : Cursor} {f : ℕ} → LoosePost sp w fl n k s P P' L L' a r → r ≡ Ok (b, f) → LooseRead sp w fl n k s P P' L L' a b f
   loose_of h e = loose_next (rw e at h)
 
-  pub loose_none_of : {r : Step} {i : ℕ} → LoosePost sp w fl n k s P P' L L' a r → r ≡ step.Stop i → ReadsNone sp (After k) (drop a.at s)
+  pub loose_none_of : {r : Step} {i : ℕ} → LoosePost sp w fl n k s P P' L L' a r → r ≡ Err i → ReadsNone sp (After k) (drop a.at s)
   loose_none_of h e = loose_stop (rw e at h)
 
   -- what is settled wholly is settled up to blanks

@@ -1,5 +1,5 @@
 -- What the reader's contracts say. A function reads a tree of one rule at the cursor's place, or there is no such tree; and it brings about what `compile_writes` says of the tree.
-use Rattle.std.specs.Prelude.{◌≡◌, Bool, true, false, cond, List, ◌∷◌, ◌++◌, ℕ, ◌+◌, ◌*◌, ◌-◌, ◌%◌, ◌≤◌, ◌<◌, eqb, leb, length, drop}
+use Rattle.std.specs.Prelude.{◌≡◌, Bool, true, false, cond, List, ◌∷◌, ◌++◌, ℕ, ◌+◌, ◌*◌, ◌-◌, ◌%◌, ◌≤◌, ◌<◌, eqb, leb, length, drop, Result, Ok, Err}
 use Rattle.std.proofs.lemmas.List.Edits.{sets}
 use Rattle.definition.specs.Utf8.{is_utf8}
 use Rattle.definition.specs.Grammar.{spell_operator}
@@ -8,13 +8,15 @@ use Rattle.basics.specs.Reads.{Reads, ReadsNone, StartsNot}
 use Rattle.parser_scan.specs.Text.{unblank, OperatorAt}
 use Rattle.compile_writes.specs.Effects.{Marks, join_marks, Effect, Writer}
 use Rattle.parser_items.specs.declared.Cursor.{Cursor}
-use Rattle.parser_items.specs.declared.Step.{Step}
-use Rattle.parser_items.specs.declared.Step.TheVariants as step
 pub use Rattle.parser_follow.specs.Follow.{level_of, After}
 pub use Rattle.parser_follow.specs.Numbers.{no_flag, sort_number, path_number, segments_flag, segment_flag, bracketed_flag, plain_flag, one_more_lem, arguments_from, sort_of, operand_number, Known, write_selection, name_of, sorts_from, call_marks, is_comparable, flag_of_path, brackets_number}
 pub use Rattle.parser_follow.specs.Leaves.{Dotted, spell_dotted, write_dotted, dotted_flag, Plain, spell_plain, write_plain, is_plain, Constant, spell_constant, write_constant, Keyword, keyword_literal, spell_keyword, write_keyword}
 
 -- ---- the cursor
+
+-- what a reader answers: the cursor behind a tree and the number that is told of it; or the place where reading stopped
+abbrev pub Step : Type 0
+Step = Result (Cursor × ℕ) ℕ
 
 -- the marks that a number stands for: the first verdict, and 256 more where a literal is beyond the range of literals
 unfoldable pub marks_at : ℕ → Marks
@@ -51,8 +53,8 @@ pub record Read {T : Type 0} (sp : T → List ℕ → List ℕ) (w : T → Write
   pub utf8 : is_utf8 (drop b.at s) ≡ true
 
 pub data Post {T : Type 0} (sp : T → List ℕ → List ℕ) (w : T → Writer) (fl : T → ℕ) (k : ℕ) (s P P' L L' : List ℕ) (a : Cursor) : Step → Type 0 where
-  next : {b : Cursor} {f : ℕ} → Read sp w fl k s P P' L L' a b f → Post sp w fl k s P P' L L' a (step.Next b f)
-  stop : {i : ℕ} → ReadsNone sp (After k) (drop a.at s) → Post sp w fl k s P P' L L' a (step.Stop i)
+  next : {b : Cursor} {f : ℕ} → Read sp w fl k s P P' L L' a b f → Post sp w fl k s P P' L L' a (Ok (b, f))
+  stop : {i : ℕ} → ReadsNone sp (After k) (drop a.at s) → Post sp w fl k s P P' L L' a (Err i)
 
 -- The blanks behind a slice may belong to it or to what follows: of `[: ]` the slice is `:` or `: `. So of what is left behind a selector only the text without its blanks is settled.
 -- All of it is settled for the trees of which the number n is told, as 1 for a name and an index.
@@ -69,8 +71,8 @@ pub record LooseRead {T : Type 0} (sp : T → List ℕ → List ℕ) (w : T → 
   pub utf8 : is_utf8 (drop b.at s) ≡ true
 
 pub data LoosePost {T : Type 0} (sp : T → List ℕ → List ℕ) (w : T → Writer) (fl : T → ℕ) (n k : ℕ) (s P P' L L' : List ℕ) (a : Cursor) : Step → Type 0 where
-  next : {b : Cursor} {f : ℕ} → LooseRead sp w fl n k s P P' L L' a b f → LoosePost sp w fl n k s P P' L L' a (step.Next b f)
-  stop : {i : ℕ} → ReadsNone sp (After k) (drop a.at s) → LoosePost sp w fl n k s P P' L L' a (step.Stop i)
+  next : {b : Cursor} {f : ℕ} → LooseRead sp w fl n k s P P' L L' a b f → LoosePost sp w fl n k s P P' L L' a (Ok (b, f))
+  stop : {i : ℕ} → ReadsNone sp (After k) (drop a.at s) → LoosePost sp w fl n k s P P' L L' a (Err i)
 
 -- the byte x stands at the cursor's place
 pub record Opens (x : ℕ) (s : List ℕ) (a : Cursor) : Type 0 where
@@ -106,8 +108,8 @@ Operates s a false = ReadsNone spell_operator (StartsNot (eqb 0x3D)) (drop a s)
 
 -- the same answer with 0 told
 abbrev pub low : Step → Step
-low (step.Next b f) = step.Next b 0
-low (step.Stop i) = step.Stop i
+low (Ok (b, f)) = Ok (b, 0)
+low (Err i) = Err i
 
 -- ---- names and texts
 

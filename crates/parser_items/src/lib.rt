@@ -18,7 +18,7 @@ ghost use Rattle.parser_items.specs.Reads.{Asks, Post, LoosePost, Put, PutMarked
 
 use constants::put_numeral;
 use number_parse::{NumberRead, parse_number};
-use parser_scan::{End, Sign, is, keyword_at, read_name, read_operator};
+use parser_scan::{is, keyword_at, read_name, read_operator};
 use plan_format::{kinds, words};
 use ranges::write_range;
 use text::bytes::put16;
@@ -40,11 +40,7 @@ pub struct Cursor {
 pub const BEYOND: usize = 256;
 
 // The cursor behind a tree and the number that is told of it; or the place where reading stopped.
-#[derive(Clone, Copy)]
-pub enum Step {
-    Next(Cursor, usize),
-    Stop(usize),
-}
+pub type Step = Result<(Cursor, usize), usize>;
 
 // ---- the cursor
 
@@ -190,20 +186,15 @@ pub fn begins_operator(s: &[u8], at: usize) -> bool
     requires { at ≤ length s.now }
     ensures { Operates s.now at result }
 {
-    match read_operator(s, at) {
-        Sign::Nothing => false,
-        Sign::Is(_, _) => true,
-    }
+    read_operator(s, at).is_some()
 }
 
 // The same answer with 0 told.
 pub fn lowered(r: Step) -> Step
     ensures { result ≡ low r }
 {
-    match r {
-        Step::Next(st, _) => Step::Next(st, 0),
-        Step::Stop(i) => Step::Stop(i),
-    }
+    let (st, _) = r?;
+    Ok((st, 0))
 }
 
 // ---- names and words
@@ -246,18 +237,14 @@ pub fn write_dotted(s: &[u8], plan: &mut [u8], pool: &mut [u8], st: Cursor, kind
     if is(s, at, b'*') {
         let a = single(plan, st, kind);
         let b = item(plan, a, kinds::WILDCARD);
-        return Step::Next(moved(b, at + 1), 0);
+        return Ok((moved(b, at + 1), 0));
     }
-    match read_name(s, at) {
-        End::Nothing(i) => Step::Stop(i),
-        End::At(e) => {
-            let start = st.pool;
-            copy_part(s, at, e - at, pool, start);
-            let a = single(plan, st, kind);
-            let b = pooled(plan, a, kinds::NAME, e - at);
-            Step::Next(moved(b, e), 2)
-        }
-    }
+    let e = read_name(s, at)?;
+    let start = st.pool;
+    copy_part(s, at, e - at, pool, start);
+    let a = single(plan, st, kind);
+    let b = pooled(plan, a, kinds::NAME, e - at);
+    Ok((moved(b, e), 2))
 }
 
 // The byte of a literal that is a word, by the word's number.
@@ -283,11 +270,11 @@ pub fn write_keyword(s: &[u8], plan: &mut [u8], st: Cursor, end: usize) -> Step
     let at = st.at;
     let k = keyword_at(s, at, end);
     if k == 0 {
-        return Step::Stop(at);
+        return Err(at);
     }
     let a = item(plan, st, kinds::CONSTANT);
     let b = item(plan, a, word_byte(k));
-    Step::Next(moved(b, end), 0)
+    Ok((moved(b, end), 0))
 }
 
 // ---- selectors and literals
@@ -306,7 +293,7 @@ pub fn write_selector(s: &[u8], plan: &mut [u8], pool: &mut [u8], st: Cursor) ->
     }
     if is(s, at, b'*') {
         let a = item(plan, st, kinds::WILDCARD);
-        return Step::Next(moved(a, at + 1), 0);
+        return Ok((moved(a, at + 1), 0));
     }
     write_range(s, plan, st)
 }
@@ -324,10 +311,10 @@ pub fn write_literal(s: &[u8], plan: &mut [u8], pool: &mut [u8], st: Cursor) -> 
         return write_text(s, plan, pool, st, b'\'', kinds::TEXT, 0);
     }
     match parse_number(s, at) {
-        NumberRead::Nothing(i) => Step::Stop(i),
+        NumberRead::Nothing(i) => Err(i),
         NumberRead::Next(e, v) => {
             let a = put_numeral(plan, st, v);
-            Step::Next(moved(a, e), 0)
+            Ok((moved(a, e), 0))
         }
     }
 }

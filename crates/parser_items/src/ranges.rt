@@ -151,7 +151,7 @@ fn write_slice(s: &[u8], plan: &mut [u8], st: Cursor, start: Piece) -> Step
     let b = stop.at;
     let by = read_step(s, b);
     let c = put_slice(plan, st, start, stop, by);
-    Step::Next(moved(c, by.at), 0)
+    Ok((moved(c, by.at), 0))
 }
 
 // An index or a slice. No pool is touched.
@@ -168,8 +168,8 @@ pub fn write_range(s: &[u8], plan: &mut [u8], st: Cursor) -> Step
         return write_slice(s, plan, st, p);
     }
     if !p.given {
-        return Step::Stop(p.end);
+        return Err(p.end);
     }
     let a = put_index(plan, st, p);
-    Step::Next(moved(a, p.end), 1)
+    Ok((moved(a, p.end), 1))
 }

@@ -8,7 +8,7 @@ ghost use Rattle.compile_writes.specs.Effects.{pooling};
 ghost use Rattle.parser_items.specs.Reads.{Asks, Post};
 
 use crate::{Cursor, Step, moved, pooled};
-use text_quoted::{Unescaped, unescape_string};
+use text_quoted::unescape_string;
 
 // string-literal, whose quote stands at the cursor's place, as an item of the given kind; tells the given number.
 pub fn write_text(
@@ -27,11 +27,7 @@ pub fn write_text(
 {
     let at = st.at;
     let start = st.pool;
-    match unescape_string(s, at + 1, quote, pool, start) {
-        Unescaped::Bad(i) => Step::Stop(i),
-        Unescaped::Done(e, end) => {
-            let a = pooled(plan, st, kind, end - start);
-            Step::Next(moved(a, e), told)
-        }
-    }
+    let text = unescape_string(s, at + 1, quote, pool, start)?;
+    let a = pooled(plan, st, kind, text.end - start);
+    Ok((moved(a, text.next), told))
 }

@@ -1,5 +1,6 @@
 -- Comparison operators: what stands at a place is one operator at most, since no operator but a longer one goes on with `=`.
 -- Assumes nothing.
+use Rattle.std.specs.Prelude.{Some, None}
 use mathlib.Core.Path.{◌≡◌, refl, sym, ap, ◌∙◌}
 use mathlib.Core.Bool.{Bool, true, false, cond, true≢false}
 use mathlib.Core.List.{List, [], ◌∷◌}
@@ -18,7 +19,6 @@ use Rattle.basics.specs.Reads.{StartsNot}
 use Rattle.utf8_laws.specs.Bytes.{by_test}
 use Rattle.utf8_laws.specs.Encode.{utf8_ascii}
 use Rattle.parser_scan.specs.Text.{Is, Both, OperatorAt, ReadsOperator, is, nothing}
-use Rattle.parser_scan.specs.declared.Sign.TheVariants as sign
 use Rattle.parser_follow.specs.Numbers.{operator_number}
 
 -- the first byte of an operator, and whether `=` is its second
@@ -105,18 +105,18 @@ module _ (o : G.Operator) {s : List ℕ} {a r : ℕ} where
 module _ {s : List ℕ} {a : ℕ} where
   -- an operator of two bytes
   pub long_operator : (o : G.Operator) (x : ℕ) → spell_operator o (drop (a + 2) s) ≡ x ∷ 0x3D ∷ drop (a + 2) s → long o ≡ true → x < 0x80 → Both s a x 0x3D true →
-      ReadsOperator s a (sign.Is (a + 2) (operator_number o))
+      ReadsOperator s a (Some (a + 2, operator_number o))
   long_operator o x e l h b =
       is (operator_at o (omega arith) b.0 (b.1 ∙ sym e) (λ f. absurd (true≢false (sym l ∙ f))) (rw b.1 (utf8_ascii x (0x3D ∷ drop (a + 2) s) h ∙ utf8_ascii 0x3D (drop (a + 2) s) (omega arith))))
 
   -- an operator of one byte, which `=` does not follow
   pub short_operator : (o : G.Operator) (x : ℕ) → spell_operator o (drop (a + 1) s) ≡ x ∷ drop (a + 1) s → x < 0x80 → Both s a x 0x3D false → Is s a x true →
-      ReadsOperator s a (sign.Is (a + 1) (operator_number o))
+      ReadsOperator s a (Some (a + 1, operator_number o))
   short_operator o x e h n b =
       is (operator_at o (omega arith) b.0 (b.1 ∙ sym e) (λ f. not_equals (drop (a + 1) s) (λ l q. n l (b.1 ∙ ap (λ (t : List ℕ). x ∷ t) q))) (rw b.1 (utf8_ascii x (drop (a + 1) s) h)))
 
   -- where none of the six stands there is no operator
-  pub no_operator : Both s a 0x3D 0x3D false → Both s a 0x21 0x3D false → Both s a 0x3C 0x3D false → Is s a 0x3C false → Both s a 0x3E 0x3D false → Is s a 0x3E false → ReadsOperator s a sign.Nothing
+  pub no_operator : Both s a 0x3D 0x3D false → Both s a 0x21 0x3D false → Both s a 0x3C 0x3D false → Is s a 0x3C false → Both s a 0x3E 0x3D false → Is s a 0x3E false → ReadsOperator s a None
   no_operator eq ne le lt ge gt = nothing (record { none = by })
     where
       by : (t : G.Operator) (r : List ℕ) → StartsNot (eqb 0x3D) r → drop a s ≡ spell_operator t r → ⊥

@@ -1,5 +1,5 @@
 -- What the scanner's contracts say: a byte at a place, blanks skipped, names, words and operators read both ways.
-use Rattle.std.specs.Prelude.{◌≡◌, Bool, true, false, cond, List, [], ◌∷◌, ℕ, ◌+◌, ◌-◌, ◌≤◌, eqb, length, drop}
+use Rattle.std.specs.Prelude.{◌≡◌, Bool, true, false, cond, List, [], ◌∷◌, ℕ, ◌+◌, ◌-◌, ◌≤◌, eqb, length, drop, Option, Some, None, Result, Ok, Err}
 use Rattle.definition.specs.Bytes.{part, same_bytes}
 use Rattle.definition.specs.Utf8.{is_utf8}
 use Rattle.definition.specs.Lexical.{is_function_char, Name, FunctionName, name_bytes, function_bytes, spell_name, spell_function_name}
@@ -9,10 +9,6 @@ use Rattle.definition.specs.Walk.{Named}
 use Rattle.definition.specs.Walk.Named.{count, value_name, match, search, unknown}
 use Rattle.basics.specs.Reads.{Reads, ReadsNone, StartsNot}
 use Rattle.utf8_laws.specs.Scan.{front, behind}
-use Rattle.parser_scan.specs.declared.End.{End}
-use Rattle.parser_scan.specs.declared.End.TheVariants as end
-use Rattle.parser_scan.specs.declared.Sign.{Sign}
-use Rattle.parser_scan.specs.declared.Sign.TheVariants as sign
 use Rattle.parser_follow.specs.Numbers.{operator_number}
 pub use Rattle.parser_follow.specs.Follow.{hd, unblank, is_name_byte}
 
@@ -53,9 +49,9 @@ pub record NameAt (s : List ℕ) (a r : ℕ) : Type 0 where
   pub bytes : part s a (r - a) ≡ name_bytes name
   pub utf8 : is_utf8 (drop r s) ≡ true
 
-pub data ReadsName (s : List ℕ) (a : ℕ) : End → Type 0 where
-  at : {r : ℕ} → NameAt s a r → ReadsName s a (end.At r)
-  nothing : {i : ℕ} → ReadsNone spell_name (StartsNot is_name_byte) (drop a s) → ReadsName s a (end.Nothing i)
+pub data ReadsName (s : List ℕ) (a : ℕ) : Result ℕ ℕ → Type 0 where
+  at : {r : ℕ} → NameAt s a r → ReadsName s a (Ok r)
+  nothing : {i : ℕ} → ReadsNone spell_name (StartsNot is_name_byte) (drop a s) → ReadsName s a (Err i)
 
 -- a function-name of the grammar, with all its characters
 pub record WordAt (s : List ℕ) (a r : ℕ) : Type 0 where
@@ -66,9 +62,9 @@ pub record WordAt (s : List ℕ) (a r : ℕ) : Type 0 where
   pub bytes : part s a (r - a) ≡ function_bytes word
   pub utf8 : is_utf8 (drop a s) ≡ true → is_utf8 (drop r s) ≡ true
 
-pub data ReadsWord (s : List ℕ) (a : ℕ) : End → Type 0 where
-  at : {r : ℕ} → WordAt s a r → ReadsWord s a (end.At r)
-  nothing : {i : ℕ} → ReadsNone spell_function_name (StartsNot is_function_char) (drop a s) → ReadsWord s a (end.Nothing i)
+pub data ReadsWord (s : List ℕ) (a : ℕ) : Result ℕ ℕ → Type 0 where
+  at : {r : ℕ} → WordAt s a r → ReadsWord s a (Ok r)
+  nothing : {i : ℕ} → ReadsNone spell_function_name (StartsNot is_function_char) (drop a s) → ReadsWord s a (Err i)
 
 -- a comparison-op, which no further `=` follows
 pub record OperatorAt (s : List ℕ) (a r o : ℕ) : Type 0 where
@@ -79,9 +75,9 @@ pub record OperatorAt (s : List ℕ) (a r o : ℕ) : Type 0 where
   pub number : o ≡ operator_number operator
   pub utf8 : is_utf8 (drop a s) ≡ true → is_utf8 (drop r s) ≡ true
 
-pub data ReadsOperator (s : List ℕ) (a : ℕ) : Sign → Type 0 where
-  is : {r o : ℕ} → OperatorAt s a r o → ReadsOperator s a (sign.Is r o)
-  nothing : ReadsNone spell_operator (StartsNot (eqb 0x3D)) (drop a s) → ReadsOperator s a sign.Nothing
+pub data ReadsOperator (s : List ℕ) (a : ℕ) : Option (ℕ × ℕ) → Type 0 where
+  is : {r o : ℕ} → OperatorAt s a r o → ReadsOperator s a (Some (r, o))
+  nothing : ReadsNone spell_operator (StartsNot (eqb 0x3D)) (drop a s) → ReadsOperator s a None
 
 -- the number of a function in the code
 unfoldable pub named_number : Named → ℕ

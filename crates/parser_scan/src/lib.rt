@@ -12,20 +12,6 @@ ghost use Rattle.parser_scan.specs.Text.{is_name_byte, Is, Both, Run, Skipped, R
 use plan_format::operators;
 use text::parts::same_bytes;
 
-// The place behind what was read, or the place where it goes wrong.
-#[derive(Clone, Copy)]
-pub enum End {
-    At(usize),
-    Nothing(usize),
-}
-
-// The place behind a comparison operator and its number in a plan.
-#[derive(Clone, Copy)]
-pub enum Sign {
-    Is(usize, u8),
-    Nothing,
-}
-
 pub fn is(s: &[u8], at: usize, x: u8) -> bool
     requires { at ≤ length s.now }
     ensures { Is s.now at x result }
@@ -117,22 +103,22 @@ fn name_end(s: &[u8], at: usize) -> usize
     i
 }
 
-// A member-name-shorthand at `at`, with all its characters.
-pub fn read_name(s: &[u8], at: usize) -> End
+// A member-name-shorthand at `at`, with all its characters: the place behind it, or the place where it goes wrong.
+pub fn read_name(s: &[u8], at: usize) -> Result<usize, usize>
     requires { (at ≤ length s.now) × (is_utf8 (drop at s.now) ≡ true) }
     ensures { ReadsName s.now at result }
 {
     if s.len() <= at {
-        return End::Nothing(at);
+        return Err(at);
     }
     let c = s[at];
     if between(b'0', b'9', c) {
-        return End::Nothing(at);
+        return Err(at);
     }
     if !is_name_byte(c) {
-        return End::Nothing(at);
+        return Err(at);
     }
-    End::At(name_end(s, at + 1))
+    Ok(name_end(s, at + 1))
 }
 
 pub fn is_word_byte(c: u8) -> bool
@@ -164,18 +150,18 @@ fn word_end(s: &[u8], at: usize) -> usize
     i
 }
 
-// A function-name at `at`, with all its characters.
-pub fn read_word(s: &[u8], at: usize) -> End
+// A function-name at `at`, with all its characters: the place behind it, or the place where it goes wrong.
+pub fn read_word(s: &[u8], at: usize) -> Result<usize, usize>
     requires { at ≤ length s.now }
     ensures { ReadsWord s.now at result }
 {
     if s.len() <= at {
-        return End::Nothing(at);
+        return Err(at);
     }
     if !between(b'a', b'z', s[at]) {
-        return End::Nothing(at);
+        return Err(at);
     }
-    End::At(word_end(s, at + 1))
+    Ok(word_end(s, at + 1))
 }
 
 // Which function the word from `at` to `end` names.
@@ -220,28 +206,29 @@ pub fn keyword_at(s: &[u8], at: usize, end: usize) -> u8
     0
 }
 
-// A comparison-op at `at`.
-pub fn read_operator(s: &[u8], at: usize) -> Sign
+// A comparison-op at `at`: the place behind it and its byte in a plan.
+// The byte, and no enum of the six: it is only handed on, and is written as it is.
+pub fn read_operator(s: &[u8], at: usize) -> Option<(usize, u8)>
     requires { at ≤ length s.now }
     ensures { ReadsOperator s.now at result }
 {
     if both(s, at, b'=', b'=') {
-        return Sign::Is(at + 2, operators::EQ);
+        return Some((at + 2, operators::EQ));
     }
     if both(s, at, b'!', b'=') {
-        return Sign::Is(at + 2, operators::NE);
+        return Some((at + 2, operators::NE));
     }
     if both(s, at, b'<', b'=') {
-        return Sign::Is(at + 2, operators::LE);
+        return Some((at + 2, operators::LE));
     }
     if is(s, at, b'<') {
-        return Sign::Is(at + 1, operators::LT);
+        return Some((at + 1, operators::LT));
     }
     if both(s, at, b'>', b'=') {
-        return Sign::Is(at + 2, operators::GE);
+        return Some((at + 2, operators::GE));
     }
     if is(s, at, b'>') {
-        return Sign::Is(at + 1, operators::GT);
+        return Some((at + 1, operators::GT));
     }
-    Sign::Nothing
+    None
 }

@@ -8,15 +8,15 @@ pub parse-requires : goal.parse-requires
 parse-requires c = rooms_whole (whole _) (rooms_of c.requires.0 c.requires.1)
 
 pub deliver-requires : goal.deliver-requires
-deliver-requires c = ((whole_of_lem (parse_whole (whole c.args.query.now) c.parse.ensures) c.in-Next.is).len, (whole_of_lem (parse_whole (whole c.args.query.now) c.parse.ensures) c.in-Next.is).pool_len)
+deliver-requires c = ((whole_of_lem (parse_whole (whole c.args.query.now) c.parse.ensures) c.in-Ok.is).len, (whole_of_lem (parse_whole (whole c.args.query.now) c.parse.ensures) c.in-Ok.is).pool_len)
 
-pub returns-in-Stop : goal.returns-in-Stop
-returns-in-Stop c = outcome_none c.requires.1 (none_of (parse_whole (whole _) c.parse.ensures) _ c.in-Stop.is)
+pub returns-in_default : goal.returns-in_default
+returns-in_default c = outcome_none c.requires.1 (none_of (parse_whole (whole _) c.parse.ensures) _ c.in_default.is)
 
-pub returns-in_err-verdict-in-Next : goal.returns-in_err-verdict-in-Next
-returns-in_err-verdict-in-Next c =
+pub returns-in_err-verdict : goal.returns-in_err-verdict
+returns-in_err-verdict c =
     let p = err_from_is_err_and c.from_residual.result c.from_residual.ensures.1 in
-    rw (p.1, p.2) (outcome_refused (whole_of_lem (parse_whole (whole _) c.parse.ensures) c.in-Next.is) _ c.requires.1 (rw c.in_err-verdict-in-Next.was at c.verdict.ensures))
+    rw (p.1, p.2) (outcome_refused (whole_of_lem (parse_whole (whole _) c.parse.ensures) c.in-Ok.is) _ c.requires.1 (rw c.in_err-verdict.was at c.verdict.ensures))
 
-pub returns-in_ok-verdict-in-Next : goal.returns-in_ok-verdict-in-Next
-returns-in_ok-verdict-in-Next c = outcome_form (whole_of_lem (parse_whole (whole _) c.parse.ensures) c.in-Next.is) c.requires.1 (rw c.in_ok-verdict-in-Next.was at c.verdict.ensures) c.deliver.ensures
+pub returns : goal.returns
+returns c = outcome_form (whole_of_lem (parse_whole (whole _) c.parse.ensures) c.in-Ok.is) c.requires.1 (rw c.in_ok-verdict.was at c.verdict.ensures) c.deliver.ensures
