@@ -26,7 +26,10 @@ pub fn function(s: &[u8], plan: &mut [u8], pool: &mut [u8], st: Cursor, name: u8
     if !is(s, e, b')') {
         return Err(e);
     }
-    Ok((write_call(plan, moved(n, e + 1), name, sorts), call_sort(name)))
+    Ok((
+        write_call(plan, moved(n, e + 1), name, sorts),
+        call_sort(name),
+    ))
 }
 
 // [ function-argument *( S "," S function-argument ) ]; tells the sorts

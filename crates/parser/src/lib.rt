@@ -83,7 +83,10 @@ fn bracketed(s: &[u8], plan: &mut [u8], pool: &mut [u8], st: Cursor, kind: u8) -
     }
     let len = st.len;
     put16(plan, len + 1, count + 1);
-    Ok((moved(m, e + 1), brackets_flag(plain, count, a == at + 1, e == b)))
+    Ok((
+        moved(m, e + 1),
+        brackets_flag(plain, count, a == at + 1, e == b),
+    ))
 }
 
 // *( S "," S selector ); tells how many

@@ -1,5 +1,6 @@
 -- Ints in a text: what they begin with, what may follow them, and the bounds that they make with the blanks behind them.
 -- Assumes nothing.
+use Rattle.std.specs.Prelude.{Some, None, Result, Ok, Err, is_some}
 use mathlib.Core.Path.{◌≡◌, refl, sym, ap, subst, ◌∙◌}
 use mathlib.Core.Bool.{Bool, true, false, true≢false, and-eq-true_iff}
 use mathlib.Core.List.{List, [], ◌∷◌, ◌++◌}
@@ -20,7 +21,8 @@ use Rattle.basics.specs.Reads.{ReadsNone, StartsNot}
 use Rattle.number_parse.specs.Ints as N
 use Rattle.number_parse.specs.Ints.{IntAt, IntAnswer}
 use Rattle.number_parse.specs.declared.IntRead.{IntRead}
-use Rattle.number_parse.specs.declared.IntRead.TheVariants as read
+use Rattle.number_parse.specs.declared.IntError.{IntError}
+use Rattle.number_parse.specs.declared.IntError.TheVariants as error
 use Rattle.utf8_laws.specs.Bytes.{by_test, inside, inside_low, inside_high}
 use Rattle.utf8_laws.specs.Encode.{utf8_ascii}
 use Rattle.parser_scan.specs.Text.{Skipped, unblank}
@@ -130,30 +132,30 @@ field_same i j e = rw e
 
 -- ---- what the reader of ints tells
 
-int_next : {s : List ℕ} {a e : ℕ} {v : ℤ} → IntAnswer s a (read.Next e v) → (i : Int) × IntAt s a e i × (v ≡ int_value i) × (in_range v ≡ true)
+int_next : {s : List ℕ} {a : ℕ} {r : IntRead} → IntAnswer s a (Ok r) → (i : Int) × IntAt s a r.end i × (r.value ≡ int_value i) × (in_range r.value ≡ true)
 int_next (N.next_int t h e r) = (t, h, e, r)
 
-int_out : {s : List ℕ} {a e : ℕ} → IntAnswer s a (read.OutOfRange e) → (i : Int) × IntAt s a e i × (in_range (int_value i) ≡ false)
+int_out : {s : List ℕ} {a e : ℕ} → IntAnswer s a (Err (error.OutOfRange e)) → (i : Int) × IntAt s a e i × (in_range (int_value i) ≡ false)
 int_out (N.out_int t h r) = (t, h, r)
 
-int_nothing : {s : List ℕ} {a i : ℕ} → IntAnswer s a (read.Nothing i) → ReadsNone spell_int (StartsNot is_digit_lem) (drop a s)
+int_nothing : {s : List ℕ} {a i : ℕ} → IntAnswer s a (Err (error.Nothing i)) → ReadsNone spell_int (StartsNot is_digit_lem) (drop a s)
 int_nothing (N.no_int l h r) = r
 
-module _ {s : List ℕ} {a : ℕ} {r : IntRead} (h : IntAnswer s a r) where
-  pub next_of : {e : ℕ} {v : ℤ} → r ≡ read.Next e v → (i : Int) × IntAt s a e i × (v ≡ int_value i) × (in_range v ≡ true)
+module _ {s : List ℕ} {a : ℕ} {r : Result IntRead IntError} (h : IntAnswer s a r) where
+  pub next_of : {v : IntRead} → r ≡ Ok v → (i : Int) × IntAt s a v.end i × (v.value ≡ int_value i) × (in_range v.value ≡ true)
   next_of q = int_next (rw q at h)
 
-  pub out_of : {e : ℕ} → r ≡ read.OutOfRange e → (i : Int) × IntAt s a e i × (in_range (int_value i) ≡ false)
+  pub out_of : {e : ℕ} → r ≡ Err (error.OutOfRange e) → (i : Int) × IntAt s a e i × (in_range (int_value i) ≡ false)
   out_of q = int_out (rw q at h)
 
-  pub nothing_of : {i : ℕ} → r ≡ read.Nothing i → ReadsNone spell_int (StartsNot is_digit_lem) (drop a s)
+  pub nothing_of : {i : ℕ} → r ≡ Err (error.Nothing i) → ReadsNone spell_int (StartsNot is_digit_lem) (drop a s)
   nothing_of q = int_nothing (rw q at h)
 
 -- ---- the int that was read, as a piece
 
 -- one in range
 pub there_next : {s : List ℕ} {a e b n : ℕ} {v : ℤ} → (i : Int) × IntAt s a e i × (v ≡ int_value i) × (in_range v ≡ true) → Skipped s e b → n ≡ unsigned64 (to_z w64 (of_z w64 v)) →
-    IntThere s a (record { end = e; at = b; given = true; bits = n; verdict = 0 })
+    IntThere s a (record { end = e; at = b; value = Some (record { bits = n; verdict = 0 }) })
 unfolding kept_int verdict_int
 there_next {v = v} h k q =
     let w : in_range (int_value h.0) ≡ true = rw h.2 at h.3 in
@@ -161,13 +163,13 @@ there_next {v = v} h k q =
 
 -- one out of range
 pub there_out : {s : List ℕ} {a e b : ℕ} → (i : Int) × IntAt s a e i × (in_range (int_value i) ≡ false) → Skipped s e b →
-    IntThere s a (record { end = e; at = b; given = true; bits = 0; verdict = 4 })
+    IntThere s a (record { end = e; at = b; value = Some (record { bits = 0; verdict = 4 }) })
 unfolding kept_int verdict_int
 there_out h k = record { int = h.0; is = h.1; skipped = k; field = rw h.2 }
 
 -- none
-pub there_none : (s : List ℕ) (a : ℕ) {e : ℕ} {p : Piece} → ReadsNone spell_int (StartsNot is_digit_lem) (drop a s) → p ≡ record { end = e; at = a; given = false; bits = 0; verdict = 0 } → IntOrNot s a p p.given
-there_none s a n q = subst (λ (x : Piece). IntOrNot s a x x.given) (sym q) (record { reads = n; at = refl; field = refl })
+pub there_none : (s : List ℕ) (a : ℕ) {e : ℕ} → ReadsNone spell_int (StartsNot is_digit_lem) (drop a s) → NoInt s a (record { end = e; at = a; value = None })
+there_none s a n = record { reads = n; at = refl; field = refl }
 
 -- ---- a bound: an int with the blanks behind it, or nothing
 
@@ -226,8 +228,8 @@ bound_there true h = bound_given h
 bound_there false h = bound_absent h
 
 -- the two cases of a piece
-pub given_of : {s : List ℕ} {a : ℕ} {p : Piece} → IntOrNot s a p p.given → p.given ≡ true → IntThere s a p
+pub given_of : {s : List ℕ} {a : ℕ} {p : Piece} → IntOrNot s a p (is_some p.value) → is_some p.value ≡ true → IntThere s a p
 given_of {s} {a} {p} h e = subst (IntOrNot s a p) e h
 
-pub absent_of : {s : List ℕ} {a : ℕ} {p : Piece} → IntOrNot s a p p.given → p.given ≡ false → NoInt s a p
+pub absent_of : {s : List ℕ} {a : ℕ} {p : Piece} → IntOrNot s a p (is_some p.value) → is_some p.value ≡ false → NoInt s a p
 absent_of {s} {a} {p} h e = subst (IntOrNot s a p) e h

@@ -1,6 +1,6 @@
 -- Number literals: what stands for each is written, and what may follow a number goes on with none of its characters.
 -- Assumes nothing.
-use Rattle.std.specs.Prelude.{Ok, Err}
+use Rattle.std.specs.Prelude.{Result, Ok, Err}
 use mathlib.Core.Path.{◌≡◌, refl, sym, ap, subst, ◌∙◌}
 use mathlib.Core.Bool.{true, false, true≢false}
 use mathlib.Core.List.{List, [], ◌∷◌, ◌++◌}
@@ -31,7 +31,6 @@ use Rattle.number_parse.specs.Parts.{is_point}
 use Rattle.number_parse.specs.Numbers as N
 use Rattle.number_parse.specs.Numbers.{is_number_char, NumberAt, NumberAnswer}
 use Rattle.number_parse.specs.declared.NumberRead.{NumberRead}
-use Rattle.number_parse.specs.declared.NumberRead.TheVariants as read
 use Rattle.utf8_laws.specs.Bytes.{by_test}
 use Rattle.utf8_laws.specs.Encode.{utf8_ascii}
 use Rattle.parser_scan.specs.Text.{Is}
@@ -109,18 +108,18 @@ number_utf8 n r = whole_utf8 n.whole (spell_fraction n.frac (spell_exponent n.ex
 
 -- ---- the answers
 
-number_next : {s : List ℕ} {a e : ℕ} {v : Literal} → NumberAnswer s a (read.Next e v) → NumberAt s a e (meaning v)
+number_next : {s : List ℕ} {a : ℕ} {r : NumberRead} → NumberAnswer s a (Ok r) → NumberAt s a r.end (meaning r.value)
 number_next (N.next_number h) = h
 
-number_nothing : {s : List ℕ} {a i : ℕ} → NumberAnswer s a (read.Nothing i) → ReadsNone spell_number (StartsNot is_number_char) (drop a s)
+number_nothing : {s : List ℕ} {a i : ℕ} → NumberAnswer s a (Err i) → ReadsNone spell_number (StartsNot is_number_char) (drop a s)
 number_nothing (N.no_number_lem l h r) = r
 
-module _ {s : List ℕ} {a : ℕ} {r : NumberRead} (h : NumberAnswer s a r) where
+module _ {s : List ℕ} {a : ℕ} {r : Result NumberRead ℕ} (h : NumberAnswer s a r) where
   -- the number that was read, or that there is none
-  pub number_of : {e : ℕ} {v : Literal} → r ≡ read.Next e v → NumberAt s a e (meaning v)
+  pub number_of : {v : NumberRead} → r ≡ Ok v → NumberAt s a v.end (meaning v.value)
   number_of q = number_next (rw q at h)
 
-  pub no_number_of : {i : ℕ} → r ≡ read.Nothing i → ReadsNone spell_number (StartsNot is_number_char) (drop a s)
+  pub no_number_of : {i : ℕ} → r ≡ Err i → ReadsNone spell_number (StartsNot is_number_char) (drop a s)
   no_number_of q = number_nothing (rw q at h)
 
 module _ {s : List ℕ} (a : Cursor) (f : Is s a.at 0x22 false) (g : Is s a.at 0x27 false) where

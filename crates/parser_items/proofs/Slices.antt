@@ -1,6 +1,6 @@
 -- Slices and indices: an int with a colon behind its blanks begins a slice, and any other is an index.
 -- Assumes nothing.
-use Rattle.std.specs.Prelude.{Ok, Err}
+use Rattle.std.specs.Prelude.{Some, None, Ok, Err}
 use mathlib.Core.Path.{◌≡◌, refl, sym, ap, subst, ◌∙◌}
 use mathlib.Core.Bool.{Bool, true, false}
 use mathlib.Core.List.{List, ◌∷◌}
@@ -24,8 +24,9 @@ use Rattle.parser_follow.specs.Leaves.{text_plain, wild_plain, slice_plain, inde
 use Rattle.parser_items.specs.Reads.{After, Done, LoosePost, next, stop, PutMarked, Plain, spell_plain, write_plain, is_plain}
 use Rattle.parser_items.specs.Laws.{Moved, moved_done, done_marked, unblank_twice}
 use Rattle.parser_items.specs.Follow.{is_int_start, inner_digit, after_digit, after_int}
-use Rattle.parser_items.specs.Ranges.{Field, int_field, no_field, bound_field, step_field, field_of, IntThere, NoInt, IntOrNot, StepThere, NoText, bit_of, slice_bytes, slice_marks}
+use Rattle.parser_items.specs.Ranges.{Field, int_field, no_field, bound_field, step_field, field_of, bits_of, verdict_of, IntThere, NoInt, IntOrNot, StepThere, NoText, bit_of, slice_bytes, slice_marks}
 use Rattle.parser_items.specs.declared.ranges.Piece.{Piece}
+use Rattle.parser_items.specs.declared.ranges.Value.{Value}
 use Rattle.parser_items.specs.declared.Cursor.{Cursor}
 use Rattle.parser_items.proofs.Quotes.{no_quoted}
 use Rattle.parser_items.proofs.Ints.{int_not, int_unblank, int_utf8, after_no_int, starts_digit, starts_blanks, field_same, BoundThere, bound_there}
@@ -38,8 +39,8 @@ after_no_colon l r e a = after_not _ {s = l} 0x3A {r = r} e (omega arith) a
 
 module _ (s : List ℕ) (a : ℕ) where
   -- no colon: there is no step
-  pub step_none : {p : Piece} → a ≤ length s → Is s a 0x3A false → p ≡ record { end = a; at = a; given = false; bits = 0; verdict = 0 } → StepThere s a p
-  step_none {p} l n q = subst (StepThere s a) (sym q) (record { tree = no_step; eq = refl; only = only; from = omega arith; to = l; utf8 = λ u. u; field = refl })
+  pub step_none : a ≤ length s → Is s a 0x3A false → StepThere s a (record { end = a; at = a; value = None })
+  step_none l n = record { tree = no_step; eq = refl; only = only; from = omega arith; to = l; utf8 = λ u. u; field = refl }
     where
       only : (t' : X.Step) (r' : List ℕ) → After 4 r' → drop a s ≡ spell_step t' r' → (step_field t' ≡ no_field) × (r' ≡ drop a s)
       only no_step r' m e = (refl, sym e)
@@ -51,8 +52,8 @@ module _ (s : List ℕ) (a : ℕ) where
     colon_utf8 u = sym (utf8_ascii 0x3A (drop (a + 1) s) (omega arith)) ∙ (rw i.1 at u)
 
     -- a colon with no int behind it
-    pub step_colon : {p q : Piece} → NoInt s b q → p ≡ record { end = a + 1; at = a + 1; given = false; bits = 0; verdict = 0 } → StepThere s a p
-    step_colon {p} {q} n e = subst (StepThere s a) (sym e) (record { tree = colon; eq = i.1; only = only; from = omega arith; to = i.0; utf8 = colon_utf8; field = refl })
+    pub step_colon : {q : Piece} → NoInt s b q → StepThere s a (record { end = a + 1; at = a + 1; value = q.value })
+    step_colon {q} n = record { tree = colon; eq = i.1; only = only; from = omega arith; to = i.0; utf8 = colon_utf8; field = n.field }
       where
         only : (t' : X.Step) (r' : List ℕ) → After 4 r' → drop a s ≡ spell_step t' r' → (step_field t' ≡ no_field) × (r' ≡ drop (a + 1) s)
         only no_step r' m f = absurd (after_no_colon r' (drop (a + 1) s) (ap unblank (sym f ∙ i.1)) m)
@@ -63,7 +64,7 @@ module _ (s : List ℕ) (a : ℕ) where
             absurd (n.reads.none j r' (after_digit r' m) (k.rest ∙ ap unblank h ∙ unblank_blanks c (spell_int j r') ∙ int_unblank j r'))
 
     -- a colon with an int behind it
-    pub step_int : {q : Piece} → IntThere s b q → StepThere s a (record { end = q.end; at = q.end; given = true; bits = q.bits; verdict = q.verdict })
+    pub step_int : {q : Piece} → IntThere s b q → StepThere s a (record { end = q.end; at = q.end; value = q.value })
     step_int {q} h =
         let c = split_blanks (drop (a + 1) s) in
         record {
@@ -73,7 +74,7 @@ module _ (s : List ℕ) (a : ℕ) where
           from = omega (arith, k.from, h.is.from);
           to = h.is.to;
           utf8 = λ u. sym (int_utf8 h.int (drop q.end s)) ∙ (rw h.is.reads.eq at (k.utf8 (colon_utf8 u)));
-          field = ap (λ (f : Field). record { given = true; bytes = f.bytes; verdict = f.verdict }) h.field;
+          field = h.field;
         }
       where
         only : (t' : X.Step) (r' : List ℕ) → After 4 r' → drop a s ≡ spell_step t' r' → (step_field t' ≡ int_field h.int) × (r' ≡ drop q.end s)
@@ -278,9 +279,10 @@ module _ {s : List ℕ} (a : Cursor) (no : NoText s a.at) where
           (ap (λ (w : Effect). (w, 1)) (index_written i a.pool ∙ ap (λ (f : Field). index_writer f a.pool) (field_same i h.int o.0 ∙ sym h.field)), o.1)
 
       -- an index is read and written
-      pub index_post : {P P' : List ℕ} (L : List ℕ) {c d : Cursor} → is_utf8 (drop a.at s) ≡ true → PutMarked P P' a c (0x06 ∷ little_endian 8 p.bits) (record { verdict = p.verdict; beyond = false }) → Moved c d p.end →
+      pub index_post : {x : Value} → p.value ≡ Some x → {P P' : List ℕ} (L : List ℕ) {c d : Cursor} → is_utf8 (drop a.at s) ≡ true → PutMarked P P' a c (0x06 ∷ little_endian 8 x.bits) (record { verdict = x.verdict; beyond = false }) → Moved c d p.end →
           LoosePost spell_plain write_plain is_plain 1 4 s P P' L L a (Ok (d, 1))
-      index_post {P} {P'} L {c} {d} v w m =
+      index_post {x} k {P} {P'} L {c} {d} v w m =
+          let o : PutMarked P P' a c (0x06 ∷ little_endian 8 (bits_of p.value)) (record { verdict = verdict_of p.value; beyond = false }) = rw k w in
           let f : index_writer (field_of p) a.pool ≡ write_index h.int a.pool = sym (index_written h.int a.pool ∙ ap (λ (g : Field). index_writer g a.pool) (sym h.field)) in
           next {b = d} (record {
             tree = index_plain h.int;
@@ -290,7 +292,7 @@ module _ {s : List ℕ} (a : Cursor) (no : NoText s a.at) where
             exact = λ o t' r' n e. rw m.0 (index_alone t' r' n e).1;
             from = omega (arith, m.0, h.is.from);
             to = omega (arith, m.0, h.is.to);
-            done = moved_done {b = c} (subst (λ (e : Effect). Done P P' L L a c e) f (done_marked w)) m;
+            done = moved_done {b = c} (subst (λ (e : Effect). Done P P' L L a c e) f (done_marked o)) m;
             flag = refl;
             utf8 = rw m.0 (sym (int_utf8 h.int (drop p.end s)) ∙ (rw h.is.reads.eq at v));
           })

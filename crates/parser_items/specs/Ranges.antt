@@ -1,5 +1,5 @@
 -- What the contracts say of an index, and of the bounds and the step of a slice: what stands in the text, and the field that is written for it.
-use Rattle.std.specs.Prelude.{◌≡◌, Bool, true, false, List, ◌∷◌, ◌++◌, ℕ, ◌+◌, ◌≤◌, length, drop}
+use Rattle.std.specs.Prelude.{◌≡◌, Bool, true, false, List, ◌∷◌, ◌++◌, ℕ, ◌+◌, ◌≤◌, length, drop, Option, Some, None, is_some}
 use Rattle.definition.specs.Bytes.{little_endian}
 use Rattle.definition.specs.Lexical as X
 use Rattle.definition.specs.Lexical.{Int, Bound, is_digit_lem, spell_int, spell_step}
@@ -13,6 +13,7 @@ use Rattle.compile_writes.specs.Effects.{Marks, first}
 use Rattle.compile_writes.specs.Writes.{kept_int, verdict_int}
 use Rattle.parser_items.specs.Reads.{After}
 use Rattle.parser_items.specs.declared.ranges.Piece.{Piece}
+use Rattle.parser_items.specs.declared.ranges.Value.{Value}
 
 -- a bound or a step as it is written: whether it is given, its eight bytes, and the verdict on it
 pub record Field : Type 0 where
@@ -35,9 +36,18 @@ step_field X.Step.no_step = no_field
 step_field X.Step.colon = no_field
 step_field (X.Step.step b i) = int_field i
 
+-- what the code holds of an int, and 0 of none
+abbrev pub bits_of : Option Value → ℕ
+bits_of (Some v) = v.bits
+bits_of None = 0
+
+abbrev pub verdict_of : Option Value → ℕ
+verdict_of (Some v) = v.verdict
+verdict_of None = 0
+
 -- the field that a piece of the code holds
 abbrev pub field_of : Piece → Field
-field_of p = record { given = p.given; bytes = little_endian 8 p.bits; verdict = p.verdict }
+field_of p = record { given = is_some p.value; bytes = little_endian 8 (bits_of p.value); verdict = verdict_of p.value }
 
 -- ---- an int at a place, with the blanks behind it
 

@@ -17,7 +17,7 @@ ghost use Rattle.parser_follow.specs.Follow.{is_segment_byte};
 ghost use Rattle.parser_items.specs.Reads.{Asks, Post, LoosePost, Put, PutMarked, Room, Known, marks_of, no_flag, sort_of, spell_dotted, write_dotted, dotted_flag, spell_plain, write_plain, is_plain, spell_constant, write_constant, spell_keyword, write_keyword, name_of, call_marks, Operates, low, Pooled, word_byte};
 
 use constants::put_numeral;
-use number_parse::{NumberRead, parse_number};
+use number_parse::parse_number;
 use parser_scan::{is, keyword_at, read_name, read_operator};
 use plan_format::{kinds, words};
 use ranges::write_range;
@@ -310,11 +310,7 @@ pub fn write_literal(s: &[u8], plan: &mut [u8], pool: &mut [u8], st: Cursor) -> 
     if is(s, at, b'\'') {
         return write_text(s, plan, pool, st, b'\'', kinds::TEXT, 0);
     }
-    match parse_number(s, at) {
-        NumberRead::Nothing(i) => Err(i),
-        NumberRead::Next(e, v) => {
-            let a = put_numeral(plan, st, v);
-            Ok((moved(a, e), 0))
-        }
-    }
+    let number = parse_number(s, at)?;
+    let a = put_numeral(plan, st, number.value);
+    Ok((moved(a, number.end), 0))
 }

@@ -1,5 +1,4 @@
 -- The answers of the cycle of calls {all, any, call-argument, call-arguments, basic, behind, bracketed, call-chained, filter, call-function, call-more, more_and, more_or, negation, operand, paren, query, right, segment, segments, selector, selectors}.
-use Prim.Native.Nat.{ℕ, ◌<◌, ◌+◌, ◌*◌, ◌-◌}
 use lib.ListN.{length}
 use Rattle.std.proofs.lemmas.Result.{err_from_is_err_and}
 use borrow.Author.Rules.{rules}
@@ -8,21 +7,19 @@ use Rattle.compile_writes.specs.Sorts.{sort_basic, sort_and_lem, sort_argument}
 use Rattle.parser_items.specs.Reads.{stop, next, sort_of}
 use Rattle.parser_items.specs.Laws.{read_of, none_of, whole, asks_whole, post_whole, operator_of_lem, no_operator_of, loose_of, loose_none_of, done_plan, done_pool, asks_less, word_of, no_word_of}
 use Rattle.parser_laws.specs.And.{and_none}
-use Rattle.parser.proofs.Logic.{asks_operator as asks_operator_logic, read_known, read_small, asks_operand, and_post, asks_chain, or_post, room, arguments_small, small_known, Ready, Framed, asks_tailed, ready, ready_plan, ready_less, framed_place, framed_order, framed_length, framed_room, AndLoop, and_loop, and_end, and_stop, and_behind, and_framed, and_more, OrLoop, or_loop, or_end, or_stop, or_behind, or_framed, or_more, opens_is}
+use Rattle.parser.proofs.Logic.{asks_operator as asks_operator_logic, read_known, read_small, asks_operand, and_post, asks_chain, or_post, room, arguments_small, small_known, asks_tailed, ready, ready_plan, ready_less, framed_place, framed_order, framed_length, framed_room, and_loop, and_end, and_stop, and_behind, and_framed, and_more, or_loop, or_end, or_stop, or_behind, or_framed, or_more, opens_is}
 use Rattle.parser_laws.specs.Or.{or_none}
 use Rattle.parser.proofs.Chains.{argument_at_logical, argument_no_operand, argument_at_literal, argument_by_flag, argument_by_operator, argument_at_chain, chained_end, chained_no_behind, chained_no_and, asks_chained, chained_then}
 use Rattle.parser.proofs.Operands.{asks_operand as asks_operand_there, asks_call as asks_call_there, known_operand, asks_byte, opens, told_behind, asks_behind, known_paren, operand_room, paren_room, word_room, operand_at_current, operand_at_root, operand_at_call, operand_at_keyword, operand_at_constant, told_segments, segments_room, query_none, query_read}
 use borrow.Author.Tests.{not-true, not-false}
-use mathlib.Core.Logic.{⊎_elim}
 use mathlib.Core.Path.{refl, ap, sym, ◌∙◌}
 use lib.Dec.{lit≤, lit<}
 use Rattle.parser_laws.specs.Arguments.{arguments_none}
-use Rattle.parser.proofs.Enclosed.{arguments_nothing, asks_argument, arguments_post, call_stop, call_start, call_unclosed, asks_call, call_closed, ArgumentsLoop, arguments_loop, arguments_last, asks_comma, arguments_stop, arguments_more, arguments_less, asks_paren, paren_stop, paren_unclosed, paren_closed}
+use Rattle.parser.proofs.Enclosed.{arguments_nothing, asks_argument, arguments_post, call_stop, call_start, call_unclosed, asks_call, call_closed, arguments_loop, arguments_last, asks_comma, arguments_stop, arguments_more, arguments_less, asks_paren, paren_stop, paren_unclosed, paren_closed}
 use Rattle.parser.proofs.Basics.{basic_at_paren, basic_at_negation, basic_no_operand, basic_at_operand, asks_operator, behind_a_literal, behind_nothing, behind_not_compared, behind_by_operator, negation_at_paren, negation_no_paren, negation_no_operand, negation_of_literal, negation_at_operand, right_none, right_not_compared, right_read}
-use Rattle.parser.proofs.Lists.{brackets_none, brackets_room, brackets_begin, brackets_stop, brackets_more, brackets_stop_more, brackets_few, brackets_plan, brackets_pool, brackets_written, brackets_open, brackets_length, brackets_read, SelectorsLoop, selectors_start, selectors_over, selectors_begin, selectors_stop, selectors_again}
-use Rattle.parser.proofs.Picks.{filter_begin, filter_stop, filter_room, filter_known, filter_longer, filter_length, filter_read, asks_both, segment_by_dots_brackets, segment_by_dots, segment_by_dot, segment_by_brackets, SegmentsLoop, segments_start, segments_over, segments_begin, segments_stop, segments_again, segment_long, selector_by_filter, selector_by_plain}
+use Rattle.parser.proofs.Lists.{brackets_none, brackets_room, brackets_begin, brackets_stop, brackets_more, brackets_stop_more, brackets_few, brackets_plan, brackets_pool, brackets_written, brackets_open, brackets_length, brackets_read, selectors_start, selectors_over, selectors_begin, selectors_stop, selectors_again}
+use Rattle.parser.proofs.Picks.{filter_begin, filter_stop, filter_room, filter_known, filter_longer, filter_length, filter_read, asks_both, segment_by_dots_brackets, segment_by_dots, segment_by_dot, segment_by_brackets, segments_start, segments_over, segments_begin, segments_stop, segments_again, segment_long, selector_by_filter, selector_by_plain}
 use Rattle.parser.proofs.Steps.{asks_skipped, asks_put}
-use Rattle.compile_writes.specs.Writes.{test_tail}
 use mathlib.Core.Bool.{not}
 use Rattle.parser.proofs.+grammar.Goals as goal
 use Rattle.parser.proofs.+grammar.Goals.{call::argument-then-flag-eq0+else-not-begins_operator, call::argument-else-flag-eq0}

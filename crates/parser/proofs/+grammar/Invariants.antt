@@ -1,19 +1,10 @@
 -- The measures and invariants of the cycle of calls {all, any, call-argument, call-arguments, basic, behind, bracketed, call-chained, filter, call-function, call-more, more_and, more_or, negation, operand, paren, query, right, segment, segments, selector, selectors}.
-use Prim.Native.Nat.{ℕ, ◌<◌, ◌+◌, ◌*◌, ◌-◌}
+use Prim.Native.Nat.{◌+◌, ◌*◌, ◌-◌}
 use lib.ListN.{length}
-use borrow.Author.Rules.{rules}
-use mathlib.Core.Path.{◌∙◌}
-use native.Mathlib.Omega.{arith}
-use borrow.Author.Tests.{not-true, not-false}
-use Rattle.compile_writes.specs.Sorts.{sort_argument, sort_basic, sort_and_lem}
-use Rattle.parser_items.specs.Reads.{next, stop, sort_of}
-use Rattle.parser_items.specs.Laws.{read_of, none_of, done_plan, done_pool, asks_less, loose_of, loose_none_of}
-use Rattle.parser.proofs.Logic.{read_small, room, small_known, read_known, Ready, Framed, asks_operator, asks_tailed, ready, ready_plan, ready_less, framed_place, framed_order, framed_length, framed_room, AndLoop, and_loop, and_end, and_stop, and_behind, and_framed, and_more, OrLoop, or_loop, or_end, or_stop, or_behind, or_framed, or_more}
-use Rattle.parser.proofs.Enclosed.{ArgumentsLoop, arguments_loop, arguments_last, asks_comma, arguments_stop, arguments_more, arguments_less}
-use lib.Dec.{lit≤, lit<}
-use Rattle.compile_writes.specs.Writes.{test_tail}
-use Rattle.parser.proofs.Picks.{SegmentsLoop, segments_start, segments_over, segments_begin, segments_stop, segments_again, segment_long}
-use Rattle.parser.proofs.Lists.{SelectorsLoop, selectors_start, selectors_over, selectors_begin, selectors_stop, selectors_again}
+use Rattle.parser.proofs.Logic.{AndLoop, OrLoop}
+use Rattle.parser.proofs.Enclosed.{ArgumentsLoop}
+use Rattle.parser.proofs.Picks.{SegmentsLoop}
+use Rattle.parser.proofs.Lists.{SelectorsLoop}
 use Rattle.parser.proofs.+grammar.Given as goal
 
 abbrev pub decreases-all : goal.decreases-all

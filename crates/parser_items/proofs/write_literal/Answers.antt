@@ -1,5 +1,6 @@
 -- `parser_items::write_literal` meets its contract: a quote begins a text, and anything else is read as a number.
 --
+use Rattle.std.proofs.lemmas.Result.{err_from_is_err_and}
 use mathlib.Core.Path.{refl}
 use native.Mathlib.Omega.{arith}
 use Rattle.text_quoted.specs.Laws.{own_of_quote}
@@ -21,10 +22,10 @@ pub returns-then-is-2 : goal.returns-then-is-2
 returns-then-is-2 c = constant_text c.args.st 39 refl (rw c.if-is-2.true at c.is-2.ensures) c.write_text-then-is-2.ensures
 
 pub put_numeral-a-requires : goal.put_numeral-a-requires
-put_numeral-a-requires c = let n = number_of c.parse_number.ensures c.in-Next.is in asks_room 9 1 c.requires (omega (arith, n.from, n.to)) (omega arith)
+put_numeral-a-requires c = let n = number_of c.parse_number.ensures c.in_ok-number.was in asks_room 9 1 c.requires (omega (arith, n.from, n.to)) (omega arith)
 
-pub returns-in-Nothing : goal.returns-in-Nothing
-returns-in-Nothing c = constant_none c.args.st (rw c.if-is.false at c.is.ensures) (rw c.if-is-2.false at c.is-2.ensures) (no_number_of c.parse_number.ensures c.in-Nothing.is)
+pub returns-in_err-number : goal.returns-in_err-number
+returns-in_err-number c = rw (err_from_is_err_and c.from_residual.result c.from_residual.ensures.1).1 (constant_none c.args.st (rw c.if-is.false at c.is.ensures) (rw c.if-is-2.false at c.is-2.ensures) (no_number_of c.parse_number.ensures c.in_err-number.was))
 
-pub returns-in-Next : goal.returns-in-Next
-returns-in-Next c = constant_number c.args.st (rw c.if-is.false at c.is.ensures) (rw c.if-is-2.false at c.is-2.ensures) (number_of c.parse_number.ensures c.in-Next.is) c.requires.utf8 (c.put_numeral-a.ensures c.args.pool.now) (c.moved.ensures.place, (c.moved.ensures.lengths, c.moved.ensures.marks))
+pub returns : goal.returns
+returns c = constant_number c.args.st (rw c.if-is.false at c.is.ensures) (rw c.if-is-2.false at c.is-2.ensures) (number_of c.parse_number.ensures c.in_ok-number.was) c.requires.utf8 (c.put_numeral-a.ensures c.args.pool.now) (c.moved.ensures.place, (c.moved.ensures.lengths, c.moved.ensures.marks))
