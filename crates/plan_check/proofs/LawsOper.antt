@@ -21,10 +21,9 @@ use Rattle.plan_laws.specs.Leaves.{literals, literal_begins}
 use Rattle.plan_laws.specs.Queries.{segments_part, into_query, from_query, start_low}
 use Rattle.plan_laws.specs.Operands.{Operand, pool_operand, nesting_operand, sort_operand, operand_part, Basis, basis_literal, basis_query, as_operand, basis_part, into_literal, from_literal, into_basis, from_basis, Call, calls_right, sort_calls, calls_part, called_all, all_calls, into_operand, from_operand, argument_operand, argument_code, argument_pool, argument_nest, argument_right, as_argument}
 use Rattle.plan_laws.specs.Relations.{relation_code, relation_deep, relations, relation_low, relation_no_call}
-use Rattle.plan_items.specs.Readings.{Kind, Read, None, Post, next, stop, AnyRoom, PostCalls}
+use Rattle.plan_items.specs.Readings.{Kind, Read, NoPart, Post, next, stop, AnyRoom, PostCalls}
 use Rattle.plan_items.specs.declared.Got.{Got}
-use Rattle.plan_items.specs.declared.Step.{Step}
-use Rattle.plan_items.specs.declared.Step.TheVariants.{Next, Stop}
+use Rattle.std.specs.Prelude.{Option, Some, None}
 use Rattle.plan_items.proofs.Words.{kind_at, kind_not}
 use Rattle.plan_items.proofs.Called.{Behind, behind}
 use Rattle.plan_check.specs.Loops.{Side, side_part}
@@ -56,7 +55,7 @@ module _ {room at p : ℕ} {S L : List ℕ} where
       back (basis_query (query root q)) r m u = absurd (kind_not e 0x01 a (into_query (into_basis u)).is)
       back (basis_query (query current q)) r m u = absurd (kind_not e 0x02 b (into_query (into_basis u)).is)
 
-module _ {S L : List ℕ} {at p room k : ℕ} {r : Step} (e : Kind S at k) where
+module _ {S L : List ℕ} {at p room k : ℕ} {r : Option Got} (e : Kind S at k) where
   pub basis_root : k ≡ 0x01 → Post segments_part room S L (at + 1) p r → Post basis_part room S L at p r
   unfolding start_kind
   basis_root f a = behind (query_behind root (kind_at e f)) a
@@ -106,10 +105,10 @@ module _ {S L : List ℕ} {at p room : ℕ} (w : Short S L) {g : Got} (rd : Read
       sort : (cs : List Call) → calls_right g.sort cs ≡ true → sort_calls g.sort cs ≡ sort_operand (called_all cs b)
       sort cs h = ap (λ o. sort_calls o cs) rd.sort ∙ sym (all_calls cs b (all cs h) rd.spelt.right).sort
 
-  pub oper_next : {r : Step} → PostCalls S g room r → Post operand_part room S L at p r
+  pub oper_next : {r : Option Got} → PostCalls S g room r → Post operand_part room S L at p r
   oper_next a = maps calls_behind (a.any L rd.held)
 
-pub oper_none : {S L : List ℕ} {at p room : ℕ} → None basis_part room S L at p → Post operand_part room S L at p Stop
+pub oper_none : {S L : List ℕ} {at p room : ℕ} → NoPart basis_part room S L at p → Post operand_part room S L at p None
 oper_none x = stop (record { none = λ y r m u. let i = into_operand u in x.none i.basis i.plan m i.first })
 
 -- ---- the second of two values
@@ -152,14 +151,14 @@ pub relation_small : {S L : List ℕ} {room at p : ℕ} {c : Got} → Read relat
 relation_small rc = omega (arith, rc.sort, relation_low rc.form)
 
 module _ {S L : List ℕ} {room at p : ℕ} (h σ : ℕ) where
-  pub side_flat : σ ≡ 0 → Post (side_part h σ) room S L at p Stop
+  pub side_flat : σ ≡ 0 → Post (side_part h σ) room S L at p None
   side_flat e = stop (record { none = λ x r m u. let a = (into_side h σ u).left in omega arith })
 
-  pub side_none : None operand_part room S L at p → Post (side_part h σ) room S L at p Stop
+  pub side_none : NoPart operand_part room S L at p → Post (side_part h σ) room S L at p None
   side_none y = stop (record { none = λ x r m u. y.none _ _ m (into_side h σ u).operand })
 
   module _ (w : Short S L) {b : Got} (rd : Read operand_part room S L at p b) where
-    pub side_plural : b.sort ≡ 0 → Post (side_part h σ) room S L at p Stop
+    pub side_plural : b.sort ≡ 0 → Post (side_part h σ) room S L at p None
     side_plural e = stop (record {
       none = λ x r m u.
           let i = into_side h σ u in
@@ -172,11 +171,11 @@ module _ {S L : List ℕ} {room at p : ℕ} (h σ : ℕ) where
     asked : (x : Side) (r m : List ℕ) → Spelt (side_part h σ) room (drop at S) (drop p L) p x r m → Spelt relations room (drop b.at S) (drop b.p L) b.p x.relation r (drop b.p L)
     asked x r m u = record { plan = sym (read_same once_operand w rd (into_side h σ u).operand).plan; pool = refl; right = refl; low = omega arith; may = refl }
 
-    pub side_unasked : None relations room S L b.at b.p → Post (side_part h σ) room S L at p Stop
+    pub side_unasked : NoPart relations room S L b.at b.p → Post (side_part h σ) room S L at p None
     side_unasked y = stop (record { none = λ x r m u. y.none x.relation r (drop b.p L) (asked x r m u) })
 
     module _ {c : Got} (rc : Read relations room S L b.at b.p c) {h' : ℕ} (eh : h' ≡ c.sort + max h b.h) where
-      pub side_deep : room < h' → Post (side_part h σ) room S L at p Stop
+      pub side_deep : room < h' → Post (side_part h σ) room S L at p None
       side_deep l = stop (record {
         none = λ x r m u.
             let i = into_side h σ u in
@@ -188,7 +187,7 @@ module _ {S L : List ℕ} {room at p : ℕ} (h σ : ℕ) where
             omega arith;
       })
 
-      pub side_found : (σ ≡ 0 → ⊥) → (b.sort ≡ 0 → ⊥) → h' ≤ room → Post (side_part h σ) room S L at p (Next (record { at = c.at; p = b.p; h = h'; sort = 0 }))
+      pub side_found : (σ ≡ 0 → ⊥) → (b.sort ≡ 0 → ⊥) → h' ≤ room → Post (side_part h σ) room S L at p (Some (record { at = c.at; p = b.p; h = h'; sort = 0 }))
       side_found ns nb low =
           let s = rd.sort in
           let v = as_argument rd.form rd.spelt.right (omega arith) in

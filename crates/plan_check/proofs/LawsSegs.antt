@@ -21,10 +21,9 @@ use Rattle.plan_laws.specs.Parts.{Spelt, plan_rest, pool_rest, move}
 use Rattle.plan_laws.specs.Queries.{selectors_part, segments_part, sort_segments, segment, segment_kind, InSegment, into_segment, from_segment, many_fits, into_end, from_end, many_long, many_same}
 use Rattle.plan_laws.specs.One.{tests_once}
 use Rattle.text.specs.Words.{Word}
-use Rattle.plan_items.specs.Readings.{Kind, Asks, Read, None, Post, next, stop}
+use Rattle.plan_items.specs.Readings.{Kind, Asks, Read, NoPart, Post, next, stop}
 use Rattle.plan_items.specs.declared.Got.{Got}
-use Rattle.plan_items.specs.declared.Step.{Step}
-use Rattle.plan_items.specs.declared.Step.TheVariants.{Next, Stop}
+use Rattle.std.specs.Prelude.{Option, Some, None}
 use Rattle.plan_items.proofs.Words.{word_at, kind_is, kind_at, kind_in_at, kind_not}
 use Rattle.plan_check.specs.Loops.{counted, last_sort, segments_from, single_sort}
 use Rattle.plan_check.proofs.Steps.{Maps, maps, low_of}
@@ -119,7 +118,7 @@ kind_no_end true e = omega arith
 kind_no_end false e = omega arith
 
 module _ {S L : List ℕ} {at p room k : ℕ} (h σ : ℕ) (w : Asks S L at p room) (low : h ≤ room) (e : Kind S at k) where
-  pub run_end : k ≡ 0x0A → Post (segments_from h σ) room S L at p (Next (record { at = at + 1; p = p; h = h; sort = σ }))
+  pub run_end : k ≡ 0x0A → Post (segments_from h σ) room S L at p (Some (record { at = at + 1; p = p; h = h; sort = σ }))
   unfolding pool_segments nesting_segments is_singular_segments
   run_end f = next {g = record { at = at + 1; p = p; h = h; sort = σ }} (record {
     form = end;
@@ -132,7 +131,7 @@ module _ {S L : List ℕ} {at p room k : ℕ} (h σ : ℕ) (w : Asks S L at p ro
     sort = omega arith;
   })
 
-  pub run_none : (k ≡ 0x0A → ⊥) → (k ≡ 0x03 → ⊥) → (k ≡ 0x04 → ⊥) → None (segments_from h σ) room S L at p
+  pub run_none : (k ≡ 0x0A → ⊥) → (k ≡ 0x03 → ⊥) → (k ≡ 0x04 → ⊥) → NoPart (segments_from h σ) room S L at p
   run_none a b c = record { none = λ q r m u. go (segments_of_lem q (into_run h σ u)) }
     where
       go : {r m : List ℕ} → SegmentsOf room (drop at S) (drop p L) p r m → ⊥
@@ -141,7 +140,7 @@ module _ {S L : List ℕ} {at p room k : ℕ} (h σ : ℕ) (w : Asks S L at p ro
       go (of_segment false ss q v) = kind_not e 0x04 c v.is
 
   module _ (a : k ≡ 0x0A → ⊥) where
-    pub run_short : length S - at < 3 → None (segments_from h σ) room S L at p
+    pub run_short : length S - at < 3 → NoPart (segments_from h σ) room S L at p
     run_short f = record { none = λ q r m u. go (segments_of_lem q (into_run h σ u)) }
       where
         go : {r m : List ℕ} → SegmentsOf room (drop at S) (drop p L) p r m → ⊥
@@ -164,14 +163,14 @@ module _ {S L : List ℕ} {at p room k : ℕ} (h σ : ℕ) (w : Asks S L at p ro
           kind_some true f = omega arith
           kind_some false f = omega arith
 
-      pub run_zero : n ≡ 0 → None (segments_from h σ) room S L at p
+      pub run_zero : n ≡ 0 → NoPart (segments_from h σ) room S L at p
       run_zero z = record { none = λ q r m u. go (segments_of_lem q (into_run h σ u)) }
         where
           go : {r m : List ℕ} → SegmentsOf room (drop at S) (drop p L) p r m → ⊥
           go (of_end g i) = kind_not e 0x0A a g
           go (of_segment d' ss q v) = let b = (run_here d' v).0 in let c = (many_long ss 0).0 in omega arith
 
-      pub run_stop : None (counted n) room S L (at + 3) p → None (segments_from h σ) room S L at p
+      pub run_stop : NoPart (counted n) room S L (at + 3) p → NoPart (segments_from h σ) room S L at p
       run_stop x = record { none = λ q r m u. go (segments_of_lem q (into_run h σ u)) }
         where
           go : {r m : List ℕ} → SegmentsOf room (drop at S) (drop p L) p r m → ⊥
@@ -229,7 +228,7 @@ module _ {S L : List ℕ} {at p room k : ℕ} (h σ : ℕ) (w : Asks S L at p ro
 -- ---- the loop: what is right from here on is right from the start
 
 pub record GoSegs (S L : List ℕ) (room at₀ p₀ at p h σ : ℕ) : Type 0 where
-  pub on : (r : Step) → Post (segments_from h σ) room S L at p r → Post segments_part room S L at₀ p₀ r
+  pub on : (r : Option Got) → Post (segments_from h σ) room S L at p r → Post segments_part room S L at₀ p₀ r
   pub start : Asks S L at p room
   pub low : h ≤ room
   pub bit : σ ≤ 1
@@ -246,22 +245,22 @@ segs_start w = record { on = λ r x. maps same x; start = w; low = omega arith; 
     same = record { make = λ x. x; there = λ x r m u. into_run 0 1 u; back = λ y r m u. (y, from_run 0 1 (omega arith) u); pool = λ x _. refl; nest = λ x _. zero-max (nesting_segments x); sort = λ x _. omega arith; from = omega arith }
 
 module _ {S L : List ℕ} {room at₀ p₀ at p h σ k : ℕ} (i : GoSegs S L room at₀ p₀ at p h σ) (e : Kind S at k) where
-  pub segs_end : k ≡ 0x0A → Post segments_part room S L at₀ p₀ (Next (record { at = at + 1; p = p; h = h; sort = σ }))
+  pub segs_end : k ≡ 0x0A → Post segments_part room S L at₀ p₀ (Some (record { at = at + 1; p = p; h = h; sort = σ }))
   segs_end f = i.on _ (run_end h σ i.start i.low e f)
 
-  pub segs_none : (k ≡ 0x0A → ⊥) → (k ≡ 0x03 → ⊥) → (k ≡ 0x04 → ⊥) → Post segments_part room S L at₀ p₀ Stop
-  segs_none a b c = i.on Stop (stop (run_none h σ i.start i.low e a b c))
+  pub segs_none : (k ≡ 0x0A → ⊥) → (k ≡ 0x03 → ⊥) → (k ≡ 0x04 → ⊥) → Post segments_part room S L at₀ p₀ None
+  segs_none a b c = i.on None (stop (run_none h σ i.start i.low e a b c))
 
   module _ (a : k ≡ 0x0A → ⊥) where
-    pub segs_short : length S - at < 3 → Post segments_part room S L at₀ p₀ Stop
-    segs_short f = i.on Stop (stop (run_short h σ i.start i.low e a f))
+    pub segs_short : length S - at < 3 → Post segments_part room S L at₀ p₀ None
+    segs_short f = i.on None (stop (run_short h σ i.start i.low e a f))
 
     module _ (bytes : (i : ℕ) → get_or S i 0 < 256) (long : 3 ≤ length S - at) {n : ℕ} (wn : Word 2 S (at + 1) n) (dk : (d : Bool) × (k ≡ segment_kind d)) where
-      pub segs_zero : n ≡ 0 → Post segments_part room S L at₀ p₀ Stop
-      segs_zero z = i.on Stop (stop (run_zero h σ i.start i.low e a bytes long wn dk.0 dk.1 z))
+      pub segs_zero : n ≡ 0 → Post segments_part room S L at₀ p₀ None
+      segs_zero z = i.on None (stop (run_zero h σ i.start i.low e a bytes long wn dk.0 dk.1 z))
 
-      pub segs_stop : None (counted n) room S L (at + 3) p → Post segments_part room S L at₀ p₀ Stop
-      segs_stop x = i.on Stop (stop (run_stop h σ i.start i.low e a bytes long wn dk.0 dk.1 x))
+      pub segs_stop : NoPart (counted n) room S L (at + 3) p → Post segments_part room S L at₀ p₀ None
+      segs_stop x = i.on None (stop (run_stop h σ i.start i.low e a bytes long wn dk.0 dk.1 x))
 
       pub segs_more : {g : Got} {h' σ' : ℕ} → h' ≡ max h g.h → σ' ≡ σ * single_sort k n g.sort → Read (counted n) room S L (at + 3) p g → GoSegs S L room at₀ p₀ g.at g.p h' σ'
       segs_more eh es rd =

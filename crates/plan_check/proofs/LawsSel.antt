@@ -25,10 +25,9 @@ use Rattle.plan_laws.specs.Leaves.{texts, integers, slices, Bounds}
 use Rattle.plan_laws.specs.Queries.{nil_is, test_part, framed_part, InFrame, into_frame, frame_left, selector_part, SelectorOf, of_name, of_index, of_slice, of_wildcard, of_filter, selector_of, selector_from, selectors_part, into_one, from_one, into_and, from_and}
 use Rattle.text.specs.Words.{Word}
 use Rattle.text.proofs.Same.{part_rest}
-use Rattle.plan_items.specs.Readings.{Kind, Asks, Within, Read, None, Post, next, stop, AnyRoom, AnyPool}
+use Rattle.plan_items.specs.Readings.{Kind, Asks, Within, Read, NoPart, Post, next, stop, AnyRoom, AnyPool}
 use Rattle.plan_items.specs.declared.Got.{Got}
-use Rattle.plan_items.specs.declared.Step.{Step}
-use Rattle.plan_items.specs.declared.Step.TheVariants.{Next, Stop}
+use Rattle.std.specs.Prelude.{Option, Some, None}
 use Rattle.plan_items.proofs.Words.{word_at, kind_at, kind_in_at, kind_not}
 use Rattle.plan_items.proofs.Called.{Behind, behind}
 use Rattle.plan_check.specs.Loops.{counted, counted_from}
@@ -82,7 +81,7 @@ module _ {room at p : ℕ} {S L : List ℕ} where
       go (of_filter z e v) = (z, move v (same_tail e f) refl refl)
 
   -- no selector begins otherwise
-  no_selector_lem : {k : ℕ} → Kind S at k → (k ≡ 0x05 → ⊥) → (k ≡ 0x06 → ⊥) → (k ≡ 0x07 → ⊥) → (k ≡ 0x08 → ⊥) → (k ≡ 0x09 → ⊥) → None selector_part room S L at p
+  no_selector_lem : {k : ℕ} → Kind S at k → (k ≡ 0x05 → ⊥) → (k ≡ 0x06 → ⊥) → (k ≡ 0x07 → ⊥) → (k ≡ 0x08 → ⊥) → (k ≡ 0x09 → ⊥) → NoPart selector_part room S L at p
   no_selector_lem {k} e a b c d i = record { none = λ y r m u. go (selector_of y u) }
     where
       go : {y : Selector} {r m : List ℕ} → SelectorOf room (drop at S) (drop p L) p r m y → ⊥
@@ -92,7 +91,7 @@ module _ {room at p : ℕ} {S L : List ℕ} where
       go (of_wildcard f v) = kind_not e 0x08 d f
       go (of_filter z f v) = kind_not e 0x09 i f
 
-module _ {S L : List ℕ} {at p room k : ℕ} {r : Step} (w : Asks S L at p room) (e : Kind S at k) where
+module _ {S L : List ℕ} {at p room k : ℕ} {r : Option Got} (w : Asks S L at p room) (e : Kind S at k) where
   pub sel_name : k ≡ 0x05 → AnyRoom (texts 1) S L (at + 1) p r → Post selector_part room S L at p r
   sel_name f a = behind (name_selector_lem (kind_at e f)) (a.any room)
 
@@ -114,7 +113,7 @@ module _ {S L : List ℕ} {at p room k : ℕ} (w : Asks S L at p room) (e : Kind
   sel_within f = record { plan = kind_in_at e f; pool = w.pool; few = w.few }
 
 module _ {S L : List ℕ} {at p room k : ℕ} (w : Asks S L at p room) (e : Kind S at k) where
-  pub sel_wildcard : k ≡ 0x08 → Post selector_part room S L at p (Next (record { at = at + 1; p = p; h = 0; sort = 0 }))
+  pub sel_wildcard : k ≡ 0x08 → Post selector_part room S L at p (Some (record { at = at + 1; p = p; h = 0; sort = 0 }))
   unfolding pool_selector nesting_selector is_singular_selector
   sel_wildcard f = next {g = record { at = at + 1; p = p; h = 0; sort = 0 }} (record {
     form = wildcard;
@@ -127,16 +126,16 @@ module _ {S L : List ℕ} {at p room k : ℕ} (w : Asks S L at p room) (e : Kind
     sort = refl;
   })
 
-  pub sel_none : (k ≡ 0x05 → ⊥) → (k ≡ 0x06 → ⊥) → (k ≡ 0x07 → ⊥) → (k ≡ 0x08 → ⊥) → (k ≡ 0x09 → ⊥) → Post selector_part room S L at p Stop
+  pub sel_none : (k ≡ 0x05 → ⊥) → (k ≡ 0x06 → ⊥) → (k ≡ 0x07 → ⊥) → (k ≡ 0x08 → ⊥) → (k ≡ 0x09 → ⊥) → Post selector_part room S L at p None
   sel_none a b c d i = stop (no_selector_lem e a b c d i)
 
 -- ---- a test behind its length
 
 module _ {S L : List ℕ} {at p room : ℕ} (w : Asks S L at p room) where
-  pub framed_short : length S - at < 2 → Post framed_part room S L at p Stop
+  pub framed_short : length S - at < 2 → Post framed_part room S L at p None
   framed_short h = stop (record { none = λ t r m u. let a = frame_left (into_frame u) in let b = length-drop at S in omega arith })
 
-  pub framed_flat : room ≡ 0 → Post framed_part room S L at p Stop
+  pub framed_flat : room ≡ 0 → Post framed_part room S L at p None
   framed_flat h = stop (record { none = λ t r m u. let a = (into_frame u).below in omega arith })
 
   module _ (bytes : (i : ℕ) → get_or S i 0 < 256) (h : 2 ≤ length S - at) {n : ℕ} (wn : Word 2 S at n) where
@@ -148,7 +147,7 @@ module _ {S L : List ℕ} {at p room : ℕ} (w : Asks S L at p room) where
         let c = w.small in
         number_same 2 n (length f.inside) wn.fits (omega arith) (word_at bytes (omega arith) wn) f.is
 
-    pub framed_long : length S - (at + 2) < n → Post framed_part room S L at p Stop
+    pub framed_long : length S - (at + 2) < n → Post framed_part room S L at p None
     framed_long l = stop (record {
       none = λ t r m u.
           let f = into_frame u in
@@ -174,7 +173,7 @@ module _ {S L : List ℕ} {at p room : ℕ} (w : Asks S L at p room) where
           let c = w.deep in
           record { plan = omega arith; pool = w.pool; small = omega arith; few = w.few; deep = omega arith }
 
-      pub framed_none : {d : ℕ} → d ≡ room - 1 → None test_part d (part S (at + 2) (at + 2 + n - (at + 2))) L 0 p → Post framed_part room S L at p Stop
+      pub framed_none : {d : ℕ} → d ≡ room - 1 → NoPart test_part d (part S (at + 2) (at + 2 + n - (at + 2))) L 0 p → Post framed_part room S L at p None
       framed_none e x = stop (record {
         none = λ t r m u.
             let f = into_frame u in
@@ -184,7 +183,7 @@ module _ {S L : List ℕ} {at p room : ℕ} (w : Asks S L at p room) where
             x.none t [] m (record { plan = lent ∙ b ∙ v.plan; pool = v.pool; right = v.right; low = let z = v.low in omega arith; may = refl });
       })
 
-      pub framed_found : {d : ℕ} {g : Got} → d ≡ room - 1 → (room ≡ 0 → ⊥) → Read test_part d (part S (at + 2) (at + 2 + n - (at + 2))) L 0 p g → Post framed_part room S L at p (Next (record { at = at + 2 + n; p = g.p; h = g.h + 1; sort = 0 }))
+      pub framed_found : {d : ℕ} {g : Got} → d ≡ room - 1 → (room ≡ 0 → ⊥) → Read test_part d (part S (at + 2) (at + 2 + n - (at + 2))) L 0 p g → Post framed_part room S L at p (Some (record { at = at + 2 + n; p = g.p; h = g.h + 1; sort = 0 }))
       framed_found {g = g} e z rd =
           let t = rd.form in
           let c = code_test t p in
@@ -225,7 +224,7 @@ pub from_counted : {room p : ℕ} {s l r m : List ℕ} {x : Selectors} (h n : �
 from_counted {x = x} h n a e u = record { plan = u.plan; pool = u.pool; right = both_true (eq-eqb (many_selectors x) n e) u.right; low = max-le a u.low; may = refl }
 
 module _ {S L : List ℕ} {room at p : ℕ} (w : Short S L) {g : Got} (h : ℕ) (low : h ≤ room) (rd : Read selector_part room S L at p g) where
-  pub counted_last : Post (counted_from h 1) room S L at p (Next (record { at = g.at; p = g.p; h = max h g.h; sort = g.sort }))
+  pub counted_last : Post (counted_from h 1) room S L at p (Some (record { at = g.at; p = g.p; h = max h g.h; sort = g.sort }))
   unfolding many_selectors pool_selectors nesting_selectors
   counted_last = next {g = record { at = g.at; p = g.p; h = max h g.h; sort = g.sort }} (record {
     form = one rd.form;
@@ -267,7 +266,7 @@ module _ {S L : List ℕ} {room at p : ℕ} (w : Short S L) {g : Got} (h : ℕ) 
       nest x = max_three h g.h (nesting_selectors x) ∙ ap (λ y. max h (max y (nesting_selectors x))) rd.nest
 
 -- where no selector stands, no n of them do
-pub counted_none : {S L : List ℕ} {room at p : ℕ} (h n : ℕ) → None selector_part room S L at p → None (counted_from h n) room S L at p
+pub counted_none : {S L : List ℕ} {room at p : ℕ} (h n : ℕ) → NoPart selector_part room S L at p → NoPart (counted_from h n) room S L at p
 counted_none {S} {L} {room} {at} {p} h n x = record { none = λ y r m u. go y r m (into_counted h n u).1 }
   where
     go : (y : Selectors) (r m : List ℕ) → Spelt selectors_part room (drop at S) (drop p L) p y r m → ⊥
@@ -277,7 +276,7 @@ counted_none {S} {L} {room} {at} {p} h n x = record { none = λ y r m u. go y r 
 -- ---- the loop: what is right from here on is right from the start
 
 pub record GoSels (S L : List ℕ) (room n at₀ p₀ at p h left : ℕ) : Type 0 where
-  pub on : (r : Step) → Post (counted_from h left) room S L at p r → Post (counted n) room S L at₀ p₀ r
+  pub on : (r : Option Got) → Post (counted_from h left) room S L at p r → Post (counted n) room S L at₀ p₀ r
   pub start : Asks S L at p room
   pub low : h ≤ room
   pub some : 1 ≤ left
@@ -290,11 +289,11 @@ sels_start {n = n} w f = record { on = λ r x. maps (same n) x; start = w; low =
     same n = record { make = λ x. x; there = λ x r m u. (record { plan = u.plan; pool = u.pool; right = u.right; low = (rw zero-max at u.low); may = refl }); back = λ y r m u. (y, record { plan = u.plan; pool = u.pool; right = u.right; low = rw zero-max u.low; may = refl }); pool = λ x _. refl; nest = λ x _. zero-max (nesting_selectors x); sort = λ x _. refl; from = omega arith }
 
 module _ {S L : List ℕ} {room n at₀ p₀ at p h left : ℕ} (i : GoSels S L room n at₀ p₀ at p h left) where
-  pub sels_none : None selector_part room S L at p → Post (counted n) room S L at₀ p₀ Stop
-  sels_none x = i.on Stop (stop (counted_none h left x))
+  pub sels_none : NoPart selector_part room S L at p → Post (counted n) room S L at₀ p₀ None
+  sels_none x = i.on None (stop (counted_none h left x))
 
   module _ {g : Got} (rd : Read selector_part room S L at p g) {h' : ℕ} (eh : h' ≡ max h g.h) where
-    pub sels_last : left ≡ 1 → Post (counted n) room S L at₀ p₀ (Next (record { at = g.at; p = g.p; h = h'; sort = g.sort }))
+    pub sels_last : left ≡ 1 → Post (counted n) room S L at₀ p₀ (Some (record { at = g.at; p = g.p; h = h'; sort = g.sort }))
     sels_last e = i.on _ (rw (e, eh) (counted_last (short_of i.start) h i.low rd))
 
     pub sels_more : (left ≡ 1 → ⊥) → GoSels S L room n at₀ p₀ g.at g.p h' (left - 1)

@@ -17,10 +17,9 @@ use Rattle.plan_laws.specs.Queries.{is_nil, test_part, framed_part}
 use Rattle.plan_laws.specs.Operands.{Operand, lit, qry, fun, pool_operand, operand_right, nesting_operand, sort_operand, operand_part, argument_operand, argument_pool, argument_nest, argument_right, argument_same, as_argument}
 use Rattle.plan_laws.specs.Relations.{related, relation_deep, related_pool, related_nest}
 use Rattle.plan_laws.specs.Tests.{Base, base_exists, base_pair, base_not, as_test, base_part, BaseOf, of_exists, of_not, of_pair, base_of, base_from, argument_no_test, Ops, op_end, op_not, op_right, right_kind, applied, nesting_ops, ops_part, pool_ops, nesting_grows, into_right, from_right, into_not, from_not, into_nothing, right_differ, applied_pool, applied_nest, into_test, from_test}
-use Rattle.plan_items.specs.Readings.{Kind, Asks, Read, None, Post, next, stop}
+use Rattle.plan_items.specs.Readings.{Kind, Asks, Read, NoPart, Post, next, stop}
 use Rattle.plan_items.specs.declared.Got.{Got}
-use Rattle.plan_items.specs.declared.Step.{Step}
-use Rattle.plan_items.specs.declared.Step.TheVariants.{Next, Stop}
+use Rattle.std.specs.Prelude.{Option, Some, None}
 use Rattle.plan_items.proofs.Words.{kind_in, kind_is, kind_at, kind_in_at, kind_not}
 use Rattle.plan_check.specs.Loops.{Side, side_part, Tested, tested_query, tested_value, untested}
 use Rattle.plan_check.proofs.Steps.{Short, short_of, once_framed, once_operand, once_base, read_same, behind_same, respell, Maps, maps, low_of}
@@ -29,7 +28,7 @@ use Rattle.plan_check.proofs.LawsOper.{into_side, from_side}
 -- ---- what a test begins with
 
 -- the first operand of what a test begins with
-pub base_none : {S L : List ℕ} {at p room : ℕ} → None operand_part room S L at p → Post base_part room S L at p Stop
+pub base_none : {S L : List ℕ} {at p room : ℕ} → NoPart operand_part room S L at p → Post base_part room S L at p None
 base_none {S} {L} {at} {p} {room} x = stop (record { none = λ y r m u. go (base_of y u) })
   where
     go : {y : Base} {r m : List ℕ} → BaseOf room (drop at S) (drop p L) p r m y → ⊥
@@ -111,10 +110,10 @@ module _ {S L : List ℕ} {room at p : ℕ} (w : Short S L) {a : Got} (rd : Read
       nest : (x : Side) → ltb 0 a.sort && argument_right_lem x.argument ≡ true → relation_deep x.relation + max a.h (nesting_argument x.argument) ≡ nesting_test (related x.relation left x.argument)
       nest x _ = deep x ∙ sym (related_nest x.relation left x.argument)
 
-  pub base_side : {r : Step} → (k ≡ 0x18 → ⊥) → Post (side_part a.h a.sort) room S L a.at a.p r → Post base_part room S L at p r
+  pub base_side : {r : Option Got} → (k ≡ 0x18 → ⊥) → Post (side_part a.h a.sort) room S L a.at a.p r → Post base_part room S L at p r
   base_side n x = maps (side_behind n) x
 
-  pub base_tested : {r : Step} → a.p ≤ length L → k ≡ 0x18 → Tested S a room r → Post base_part room S L at p r
+  pub base_tested : {r : Option Got} → a.p ≤ length L → k ≡ 0x18 → Tested S a room r → Post base_part room S L at p r
   unfolding pool_test nesting_test
   base_tested q f (tested_query h) =
       let s = rd.sort in
@@ -165,7 +164,7 @@ module _ {S L : List ℕ} {room at p : ℕ} (w : Short S L) {a : Got} (rd : Read
 
 module _ {S L : List ℕ} {room at p : ℕ} (h : ℕ) where
   -- at the end of the code nothing stands behind
-  pub ops_end : length S ≤ at → at ≤ length S → p ≤ length L → h ≤ room → Post (ops_part h) room S L at p (Next (record { at = at; p = p; h = h; sort = 0 }))
+  pub ops_end : length S ≤ at → at ≤ length S → p ≤ length L → h ≤ room → Post (ops_part h) room S L at p (Some (record { at = at; p = p; h = h; sort = 0 }))
   ops_end a b c d = next {g = record { at = at; p = p; h = h; sort = 0 }} (record {
     form = op_end;
     spelt = record { plan = refl; pool = refl; right = refl; low = d; may = ap is_nil (drop_of_length-le S a) };
@@ -178,7 +177,7 @@ module _ {S L : List ℕ} {room at p : ℕ} (h : ℕ) where
   })
 
   module _ {k : ℕ} (e : Kind S at k) where
-    pub ops_deep : k ≡ 0x15 → room ≤ h → None (ops_part h) room S L at p
+    pub ops_deep : k ≡ 0x15 → room ≤ h → NoPart (ops_part h) room S L at p
     ops_deep f l = record { none = go }
       where
         go : (o : Ops) (r m : List ℕ) → Spelt (ops_part h) room (drop at S) (drop p L) p o r m → ⊥
@@ -202,7 +201,7 @@ module _ {S L : List ℕ} {room at p : ℕ} (h : ℕ) where
 
     module _ (n : k ≡ 0x15 → ⊥) (s : 1 ≤ k) where
       module _ (d : Bool) (ek : k ≡ right_kind d) where
-        pub ops_stop : None framed_part room S L (at + 1) p → None (ops_part h) room S L at p
+        pub ops_stop : NoPart framed_part room S L (at + 1) p → NoPart (ops_part h) room S L at p
         ops_stop x = record { none = go }
           where
             go : (o : Ops) (r m : List ℕ) → Spelt (ops_part h) room (drop at S) (drop p L) p o r m → ⊥
@@ -243,7 +242,7 @@ RightOf k = (d : Bool) × (k ≡ right_kind d)
 
 -- the loop: what is right from here on is right from the start
 pub record GoMore (S L : List ℕ) (room at₀ p₀ h₀ at p h : ℕ) : Type 0 where
-  pub on : (r : Step) → Post (ops_part h) room S L at p r → Post (ops_part h₀) room S L at₀ p₀ r
+  pub on : (r : Option Got) → Post (ops_part h) room S L at p r → Post (ops_part h₀) room S L at₀ p₀ r
   pub start : Asks S L at p room
   pub low : h ≤ room
   pub from : at₀ ≤ at
@@ -252,12 +251,12 @@ pub more_start : {S L : List ℕ} {room at p h : ℕ} → Asks S L at p room →
 more_start w l = record { on = λ r x. x; start = w; low = l; from = omega arith }
 
 module _ {S L : List ℕ} {room at₀ p₀ h₀ at p h : ℕ} (i : GoMore S L room at₀ p₀ h₀ at p h) where
-  pub more_end : length S ≤ at → Post (ops_part h₀) room S L at₀ p₀ (Next (record { at = at; p = p; h = h; sort = 0 }))
+  pub more_end : length S ≤ at → Post (ops_part h₀) room S L at₀ p₀ (Some (record { at = at; p = p; h = h; sort = 0 }))
   more_end l = i.on _ (ops_end h l i.start.plan i.start.pool i.low)
 
   module _ {k : ℕ} (e : Kind S at k) where
-    pub more_deep : k ≡ 0x15 → room ≤ h → Post (ops_part h₀) room S L at₀ p₀ Stop
-    more_deep f l = i.on Stop (stop (ops_deep h e f l))
+    pub more_deep : k ≡ 0x15 → room ≤ h → Post (ops_part h₀) room S L at₀ p₀ None
+    more_deep f l = i.on None (stop (ops_deep h e f l))
 
     pub more_not : k ≡ 0x15 → h < room → GoMore S L room at₀ p₀ h₀ (at + 1) p (h + 1)
     more_not f l =
@@ -270,8 +269,8 @@ module _ {S L : List ℕ} {room at₀ p₀ h₀ at p h : ℕ} (i : GoMore S L ro
         }
 
     module _ (n : k ≡ 0x15 → ⊥) where
-      pub more_none : at < length S → (k ≡ 0x16 → ⊥) → (k ≡ 0x17 → ⊥) → Post (ops_part h₀) room S L at₀ p₀ Stop
-      more_none l a b = i.on Stop (stop (record { none = go }))
+      pub more_none : at < length S → (k ≡ 0x16 → ⊥) → (k ≡ 0x17 → ⊥) → Post (ops_part h₀) room S L at₀ p₀ None
+      more_none l a b = i.on None (stop (record { none = go }))
         where
           go : (o : Ops) (r m : List ℕ) → Spelt (ops_part h) room (drop at S) (drop p L) p o r m → ⊥
           go op_end r m u = let z = ap length (into_nothing u).0 in let y = length-drop at S in omega arith
@@ -290,8 +289,8 @@ module _ {S L : List ℕ} {room at₀ p₀ h₀ at p h : ℕ} (i : GoMore S L ro
         pub more_behind : Asks S L (at + 1) p room
         more_behind = record { plan = kind_in e some; pool = i.start.pool; small = i.start.small; few = i.start.few; deep = i.start.deep }
 
-        pub more_stop : None framed_part room S L (at + 1) p → Post (ops_part h₀) room S L at₀ p₀ Stop
-        more_stop x = i.on Stop (stop (ops_stop h e n some dk.0 dk.1 x))
+        pub more_stop : NoPart framed_part room S L (at + 1) p → Post (ops_part h₀) room S L at₀ p₀ None
+        more_stop x = i.on None (stop (ops_stop h e n some dk.0 dk.1 x))
 
         pub more_right : {g : Got} {h' : ℕ} → h' ≡ max h g.h → Read framed_part room S L (at + 1) p g → GoMore S L room at₀ p₀ h₀ g.at g.p h'
         more_right eh rd =
@@ -306,7 +305,7 @@ module _ {S L : List ℕ} {room at₀ p₀ h₀ at p h : ℕ} (i : GoMore S L ro
 
 -- ---- a whole test
 
-pub test_none : {S L : List ℕ} {at p room : ℕ} → None base_part room S L at p → Post test_part room S L at p Stop
+pub test_none : {S L : List ℕ} {at p room : ℕ} → NoPart base_part room S L at p → Post test_part room S L at p None
 test_none x = stop (record { none = λ t r m u. let i = into_test u in x.none i.base i.plan i.pool i.first })
 
 module _ {S L : List ℕ} {at p room : ℕ} (w : Short S L) {g : Got} (rd : Read base_part room S L at p g) where
@@ -328,21 +327,21 @@ module _ {S L : List ℕ} {at p room : ℕ} (w : Short S L) {g : Got} (rd : Read
       pool : (o : Ops) → g.p + length (pool_ops o) ≡ p + length (pool_test (applied o b))
       pool o = let f = rd.grown in let i = ap length (applied_pool o b) in let j = length-append (pool_test b) (pool_ops o) in omega arith
 
-  pub test_more : {r : Step} → Post (ops_part g.h) room S L g.at g.p r → Post test_part room S L at p r
+  pub test_more : {r : Option Got} → Post (ops_part g.h) room S L g.at g.p r → Post test_part room S L at p r
   test_more x = maps test_behind x
 
 -- ---- the end of a test of an operand, in the words of the code
 
 module _ {S : List ℕ} {a : Got} {room : ℕ} (l : 1 < a.sort) where
-  pub tested_literal : (a.sort ≡ 3 → ⊥) → Tested S a room Stop
+  pub tested_literal : (a.sort ≡ 3 → ⊥) → Tested S a room None
   tested_literal n = untested (λ h. omega arith) (λ e h t f. n e)
 
   module _ {k : ℕ} (e : Kind S (a.at + 1) k) where
-    pub tested_alone : (k ≡ 0x15 → ⊥) → Tested S a room Stop
+    pub tested_alone : (k ≡ 0x15 → ⊥) → Tested S a room None
     tested_alone n = untested (λ h. omega arith) (λ i h t f. kind_not e 0x15 n f)
 
-    pub tested_deep : room ≤ a.h → Tested S a room Stop
+    pub tested_deep : room ≤ a.h → Tested S a room None
     tested_deep d = untested (λ h. omega arith) (λ i h t f. omega arith)
 
-    pub tested_value_lem : a.sort ≡ 3 → k ≡ 0x15 → a.h < room → Tested S a room (Next (record { at = a.at + 2; p = a.p; h = a.h + 1; sort = 0 }))
+    pub tested_value_lem : a.sort ≡ 3 → k ≡ 0x15 → a.h < room → Tested S a room (Some (record { at = a.at + 2; p = a.p; h = a.h + 1; sort = 0 }))
     tested_value_lem i f h = tested_value i (record { is = sym f ∙ e.is }) h

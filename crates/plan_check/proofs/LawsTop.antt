@@ -19,7 +19,7 @@ use Rattle.basics.specs.Lists.{same_tail}
 use Rattle.plan_laws.specs.Parts.{Spelt, move}
 use Rattle.plan_laws.specs.Queries.{segments_part, into_query, from_query, unique_segments}
 use Rattle.plan_laws.specs.One.{tests_once, into_translation, from_translation}
-use Rattle.plan_items.specs.Readings.{Kind, Asks, Read, None}
+use Rattle.plan_items.specs.Readings.{Kind, Asks, Read, NoPart}
 use Rattle.plan_items.specs.declared.Got.{Got}
 use Rattle.plan_items.proofs.Words.{kind_at, kind_in_at, kind_not}
 use Rattle.plan_check.specs.Checks as C
@@ -53,7 +53,7 @@ module _ {S L : List ℕ} where
       pub top_start : length S ≤ max_plan → length L ≤ max_plan → Asks S L 1 0 max_nesting
       top_start a b = record { plan = kind_in_at e f; pool = omega arith; small = a; few = b; deep = omega arith }
 
-      pub top_stop : None segments_part max_nesting S L 1 0 → Accepts S L false
+      pub top_stop : NoPart segments_part max_nesting S L 1 0 → Accepts S L false
       top_stop x = C.refused (λ q t.
           let h = top_segments q t in
           x.none h.0 [] [] (move h.3 (same_tail h.2 (kind_at e f)) refl refl))

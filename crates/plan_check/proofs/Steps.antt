@@ -12,10 +12,9 @@ use Rattle.plan_laws.specs.Operands.{basis_part, operand_part, unique_basis, uni
 use Rattle.plan_laws.specs.Relations.{relations, unique_relations}
 use Rattle.plan_laws.specs.Tests.{base_part, unique_base}
 use Rattle.plan_laws.specs.One.{tests_once}
-use Rattle.plan_items.specs.Readings.{Asks, Read, None, Post, next, stop, AnyPool}
+use Rattle.plan_items.specs.Readings.{Asks, Read, NoPart, Post, next, stop, AnyPool}
 use Rattle.plan_items.specs.declared.Got.{Got}
-use Rattle.plan_items.specs.declared.Step.{Step}
-use Rattle.plan_items.specs.declared.Step.TheVariants.{Next, Stop}
+use Rattle.std.specs.Prelude.{Option, Some, None}
 
 -- ---- what is spelled in one way only, in every plan that is short enough
 
@@ -91,7 +90,7 @@ pub record Maps {X Y : Type 0} (F : Part X) (G : Part Y) (room : ℕ) (S L : Lis
   pub sort : (x : X) → F.right x ≡ true → F.sort x ≡ G.sort (make x)
   pub from : at ≤ at'
 
-pub maps : {X Y : Type 0} {F : Part X} {G : Part Y} {room at p at' p' : ℕ} {S L : List ℕ} {r : Step} → Maps F G room S L at p at' p' → Post F room S L at' p' r → Post G room S L at p r
+pub maps : {X Y : Type 0} {F : Part X} {G : Part Y} {room at p at' p' : ℕ} {S L : List ℕ} {r : Option Got} → Maps F G room S L at p at' p' → Post F room S L at' p' r → Post G room S L at p r
 maps b (next {g = g} rd) =
     let f = rd.from in
     let h = b.from in
@@ -109,11 +108,11 @@ maps b (stop n) = stop (record { none = λ y r m u. let v = b.back y r m u in n.
 
 -- ---- an answer taken apart
 
-pub read_of : {X : Type 0} {F : Part X} {room at p : ℕ} {S L : List ℕ} {r : Step} {g : Got} → Post F room S L at p r → r ≡ Next g → Read F room S L at p g
+pub read_of : {X : Type 0} {F : Part X} {room at p : ℕ} {S L : List ℕ} {r : Option Got} {g : Got} → Post F room S L at p r → r ≡ Some g → Read F room S L at p g
 read_of {g = g} (next {g = g'} rd) e = let f : g' ≡ g = cc in rw f at rd
 read_of (stop n) e = absurd (let z : ◌≡◌ {A = ℕ} 0 1 = cc in omega arith)
 
-pub none_of : {X : Type 0} {F : Part X} {room at p : ℕ} {S L : List ℕ} {r : Step} → Post F room S L at p r → r ≡ Stop → None F room S L at p
+pub none_of : {X : Type 0} {F : Part X} {room at p : ℕ} {S L : List ℕ} {r : Option Got} → Post F room S L at p r → r ≡ None → NoPart F room S L at p
 none_of (next {g = g'} rd) e = absurd (let z : ◌≡◌ {A = ℕ} 0 1 = cc in omega arith)
 none_of (stop n) e = n
 
@@ -132,8 +131,8 @@ max_three a b c = omega arith
 
 -- ---- a part without texts that was read, whatever the pool
 
-pub small_read : {X : Type 0} {F : Part X} {S L : List ℕ} {at p room : ℕ} {r : Step} {g : Got} → AnyPool F S at p r → r ≡ Next g → p ≤ length L → Read F room S L at p g
+pub small_read : {X : Type 0} {F : Part X} {S L : List ℕ} {at p room : ℕ} {r : Option Got} {g : Got} → AnyPool F S at p r → r ≡ Some g → p ≤ length L → Read F room S L at p g
 small_read {L = L} {room = room} a e h = read_of (a.any L room h) e
 
-pub small_none : {X : Type 0} {F : Part X} {S : List ℕ} {at p : ℕ} {r : Step} → AnyPool F S at p r → r ≡ Stop → AnyPool F S at p Stop
+pub small_none : {X : Type 0} {F : Part X} {S : List ℕ} {at p : ℕ} {r : Option Got} → AnyPool F S at p r → r ≡ None → AnyPool F S at p None
 small_none {F = F} {S = S} {at = at} {p = p} a e = subst (λ r. AnyPool F S at p r) e a

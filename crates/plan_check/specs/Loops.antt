@@ -2,8 +2,7 @@
 use Rattle.std.specs.Prelude.{ℕ, max, ◌+◌, ◌*◌, ◌≤◌, ◌<◌, ◌≡◌, drop, List, ◌∷◌, ◌++◌, true, cond, ◌&&◌, eqb, ltb}
 use Rattle.plan_items.specs.Readings.{Kind}
 use Rattle.plan_items.specs.declared.Got.{Got}
-use Rattle.plan_items.specs.declared.Step.{Step}
-use Rattle.plan_items.specs.declared.Step.TheVariants.{Next, Stop}
+use Rattle.std.specs.Prelude.{Option, Some, None}
 use Rattle.definition.specs.Forms.{Segments, Selectors, Argument, many_selectors}
 use Rattle.definition.specs.Forms.Selectors.{one, and}
 use Rattle.definition.specs.QueryForms.{selectors_right, segments_right, argument_right_lem, nesting_selectors, nesting_segments, nesting_argument}
@@ -43,7 +42,7 @@ abbrev pub side_part : ℕ → ℕ → Part Side
 side_part h σ = record { code = λ x p. code_argument x.argument p ++ relation_code x.relation; pool = λ x. pool_argument x.argument; right = λ x. ltb 0 σ && argument_right_lem x.argument; nest = λ x. relation_deep x.relation + max h (nesting_argument x.argument); sort = λ x. 0; may = λ r. true }
 
 -- The end of a test of the operand a, whose 18 stands at its end: a query's test, or a value function's test with its 15, or neither.
-pub data Tested (S : List ℕ) (a : Got) (room : ℕ) : Step → Type 0 where
-  tested_query : a.sort ≤ 1 → Tested S a room (Next (record { at = a.at + 1; p = a.p; h = a.h; sort = 0 }))
-  tested_value : a.sort ≡ 3 → Kind S (a.at + 1) 0x15 → a.h < room → Tested S a room (Next (record { at = a.at + 2; p = a.p; h = a.h + 1; sort = 0 }))
-  untested : ((a.sort ≤ 1) → ⊥) → (a.sort ≡ 3 → a.h < room → (t : List ℕ) → drop (a.at + 1) S ≡ 0x15 ∷ t → ⊥) → Tested S a room Stop
+pub data Tested (S : List ℕ) (a : Got) (room : ℕ) : Option Got → Type 0 where
+  tested_query : a.sort ≤ 1 → Tested S a room (Some (record { at = a.at + 1; p = a.p; h = a.h; sort = 0 }))
+  tested_value : a.sort ≡ 3 → Kind S (a.at + 1) 0x15 → a.h < room → Tested S a room (Some (record { at = a.at + 2; p = a.p; h = a.h + 1; sort = 0 }))
+  untested : ((a.sort ≤ 1) → ⊥) → (a.sort ≡ 3 → a.h < room → (t : List ℕ) → drop (a.at + 1) S ≡ 0x15 ∷ t → ⊥) → Tested S a room None

@@ -14,7 +14,7 @@ ghost use Rattle.plan_check.specs.Loops.{counted, side_part, single_sort, Tested
 ghost use Rattle.plan_check.specs.Checks.{Accepts, refusal};
 
 use plan_format::{lengths, wide};
-use plan_items::{Got, Step};
+use plan_items::Got;
 use text::bytes;
 
 // Refusal 11: neither the plan nor the pool is over 65,535 bytes.
@@ -42,7 +42,7 @@ fn single(before: usize, k: usize, n: usize, sort: usize) -> usize
 
 // A selector.
 #[cycle(forms)]
-fn sel(plan: &[u8], pool: &[u8], at: usize, p: usize, room: usize) -> Step
+fn sel(plan: &[u8], pool: &[u8], at: usize, p: usize, room: usize) -> Option<Got>
     requires { Asks plan.now pool.now at p room }
     ensures { Post selector_part room plan.now pool.now at p result }
 {
@@ -57,7 +57,7 @@ fn sel(plan: &[u8], pool: &[u8], at: usize, p: usize, room: usize) -> Step
         return plan_items::slice(plan, at + 1, p);
     }
     if k == wide::WILDCARD {
-        return Step::Next(Got {
+        return Some(Got {
             at: at + 1,
             p,
             h: 0,
@@ -67,41 +67,39 @@ fn sel(plan: &[u8], pool: &[u8], at: usize, p: usize, room: usize) -> Step
     if k == wide::FILTER {
         return framed(plan, pool, at + 1, p, room);
     }
-    Step::Stop
+    None
 }
 
 // A test behind the length of its code.
 #[cycle(forms)]
-fn framed(plan: &[u8], pool: &[u8], at: usize, p: usize, room: usize) -> Step
+fn framed(plan: &[u8], pool: &[u8], at: usize, p: usize, room: usize) -> Option<Got>
     requires { Asks plan.now pool.now at p room }
     ensures { Post framed_part room plan.now pool.now at p result }
 {
     if plan.len() - at < lengths::SIZE_BODY {
-        return Step::Stop;
+        return None;
     }
     if room == 0 {
-        return Step::Stop;
+        return None;
     }
     let n = bytes::word16(plan, at);
     let a = at + lengths::SIZE_BODY;
     if plan.len() - a < n {
-        return Step::Stop;
+        return None;
     }
     let e = a + n;
-    match test(&plan[a..e], pool, p, room - 1) {
-        Step::Stop => Step::Stop,
-        Step::Next(g) => Step::Next(Got {
-            at: e,
-            p: g.p,
-            h: g.h + 1,
-            sort: 0,
-        }),
-    }
+    let g = test(&plan[a..e], pool, p, room - 1)?;
+    Some(Got {
+        at: e,
+        p: g.p,
+        h: g.h + 1,
+        sort: 0,
+    })
 }
 
 // The n selectors of a segment.
 #[cycle(forms)]
-fn sels(plan: &[u8], pool: &[u8], from: usize, start: usize, room: usize, n: usize) -> Step
+fn sels(plan: &[u8], pool: &[u8], from: usize, start: usize, room: usize, n: usize) -> Option<Got>
     requires { Asks plan.now pool.now from start room × (1 ≤ n) }
     ensures { Post (counted n) room plan.now pool.now from start result }
 {
@@ -109,30 +107,27 @@ fn sels(plan: &[u8], pool: &[u8], from: usize, start: usize, room: usize, n: usi
     let mut p = start;
     let mut h = 0;
     let mut left = n;
+    // A loop over what is left: a `for` would call `sel` at two places, since the last answer's sort is the segment's.
     loop {
-        match sel(plan, pool, at, p, room) {
-            Step::Stop => return Step::Stop,
-            Step::Next(g) => {
-                at = g.at;
-                p = g.p;
-                h = plan_items::most(h, g.h);
-                if left == 1 {
-                    return Step::Next(Got {
-                        at,
-                        p,
-                        h,
-                        sort: g.sort,
-                    });
-                }
-                left -= 1;
-            }
+        let g = sel(plan, pool, at, p, room)?;
+        at = g.at;
+        p = g.p;
+        h = plan_items::most(h, g.h);
+        if left == 1 {
+            return Some(Got {
+                at,
+                p,
+                h,
+                sort: g.sort,
+            });
         }
+        left -= 1;
     }
 }
 
 // The segments of a query, up to its end.
 #[cycle(forms)]
-fn segs(plan: &[u8], pool: &[u8], from: usize, start: usize, room: usize) -> Step
+fn segs(plan: &[u8], pool: &[u8], from: usize, start: usize, room: usize) -> Option<Got>
     requires { Asks plan.now pool.now from start room }
     ensures { Post segments_part room plan.now pool.now from start result }
 {
@@ -143,40 +138,34 @@ fn segs(plan: &[u8], pool: &[u8], from: usize, start: usize, room: usize) -> Ste
     loop {
         let k = plan_items::kind(plan, at);
         if k == wide::END {
-            return Step::Next(Got {
+            return Some(Got {
                 at: at + 1,
                 p,
                 h,
                 sort,
             });
         }
-        if k != wide::CHILD {
-            if k != wide::DESCENDANT {
-                return Step::Stop;
-            }
+        if k != wide::CHILD && k != wide::DESCENDANT {
+            return None;
         }
         if plan.len() - at < lengths::SIZE_ITEM {
-            return Step::Stop;
+            return None;
         }
         let n = bytes::word16(plan, at + 1);
         if n == 0 {
-            return Step::Stop;
+            return None;
         }
-        match sels(plan, pool, at + lengths::SIZE_ITEM, p, room, n) {
-            Step::Stop => return Step::Stop,
-            Step::Next(g) => {
-                at = g.at;
-                p = g.p;
-                h = plan_items::most(h, g.h);
-                sort = single(sort, k, n, g.sort);
-            }
-        }
+        let g = sels(plan, pool, at + lengths::SIZE_ITEM, p, room, n)?;
+        at = g.at;
+        p = g.p;
+        h = plan_items::most(h, g.h);
+        sort = single(sort, k, n, g.sort);
     }
 }
 
 // What an operand begins with: a literal or a query.
 #[cycle(forms)]
-fn basis(plan: &[u8], pool: &[u8], at: usize, p: usize, room: usize) -> Step
+fn basis(plan: &[u8], pool: &[u8], at: usize, p: usize, room: usize) -> Option<Got>
     requires { Asks plan.now pool.now at p room }
     ensures { Post basis_part room plan.now pool.now at p result }
 {
@@ -192,106 +181,86 @@ fn basis(plan: &[u8], pool: &[u8], at: usize, p: usize, room: usize) -> Step
 
 // An operand, with the functions that are called on it.
 #[cycle(forms)]
-fn oper(plan: &[u8], pool: &[u8], at: usize, p: usize, room: usize) -> Step
+fn oper(plan: &[u8], pool: &[u8], at: usize, p: usize, room: usize) -> Option<Got>
     requires { Asks plan.now pool.now at p room }
     ensures { Post operand_part room plan.now pool.now at p result }
 {
-    match basis(plan, pool, at, p, room) {
-        Step::Stop => Step::Stop,
-        Step::Next(g) => plan_items::calls(plan, g, room),
-    }
+    let g = basis(plan, pool, at, p, room)?;
+    plan_items::calls(plan, g, room)
 }
 
 // The second of two values of which the first is a, and what is asked of both.
 #[cycle(forms)]
-fn side(plan: &[u8], pool: &[u8], a: Got, room: usize) -> Step
+fn side(plan: &[u8], pool: &[u8], a: Got, room: usize) -> Option<Got>
     requires { Asks plan.now pool.now a.at a.p room × (a.h ≤ room) }
     ensures { Post (side_part a.h a.sort) room plan.now pool.now a.at a.p result }
 {
-    let left = a.sort;
-    if left == 0 {
-        return Step::Stop;
+    if a.sort == 0 {
+        return None;
     }
-    match oper(plan, pool, a.at, a.p, room) {
-        Step::Stop => Step::Stop,
-        Step::Next(b) => {
-            let right = b.sort;
-            if right == 0 {
-                return Step::Stop;
-            }
-            match plan_items::relation(plan, b.at, b.p) {
-                Step::Stop => Step::Stop,
-                Step::Next(c) => {
-                    let h = c.sort + plan_items::most(a.h, b.h);
-                    if room < h {
-                        return Step::Stop;
-                    }
-                    Step::Next(Got {
-                        at: c.at,
-                        p: b.p,
-                        h,
-                        sort: 0,
-                    })
-                }
-            }
-        }
+    let b = oper(plan, pool, a.at, a.p, room)?;
+    if b.sort == 0 {
+        return None;
     }
+    let c = plan_items::relation(plan, b.at, b.p)?;
+    let h = c.sort + plan_items::most(a.h, b.h);
+    if room < h {
+        return None;
+    }
+    Some(Got {
+        at: c.at,
+        p: b.p,
+        h,
+        sort: 0,
+    })
 }
 
 // What a test begins with: a test of a query, a test of two values, or a test of a value function with its not.
 #[cycle(forms)]
-fn base(plan: &[u8], pool: &[u8], p: usize, room: usize) -> Step
+fn base(plan: &[u8], pool: &[u8], p: usize, room: usize) -> Option<Got>
     requires { Asks plan.now pool.now 0 p room }
     ensures { Post base_part room plan.now pool.now 0 p result }
 {
-    match oper(plan, pool, 0, p, room) {
-        Step::Stop => Step::Stop,
-        Step::Next(a) => {
-            let at = a.at;
-            if plan_items::kind(plan, at) != wide::TEST {
-                return side(plan, pool, a, room);
-            }
-            tested(plan, a, room)
-        }
+    let a = oper(plan, pool, 0, p, room)?;
+    if plan_items::kind(plan, a.at) != wide::TEST {
+        return side(plan, pool, a, room);
     }
+    tested(plan, a, room)
 }
 
 // The end of a test of an operand: a query is tested by 18, a value function by 18 and 15.
-fn tested(plan: &[u8], a: Got, room: usize) -> Step
+fn tested(plan: &[u8], a: Got, room: usize) -> Option<Got>
     requires { (a.at + 1 ≤ length plan.now) × (a.h ≤ room) × (room ≤ max_nesting) }
     ensures { Tested plan.now a room result }
 {
-    let at = a.at;
-    let sort = a.sort;
-    let h = a.h;
-    if sort <= 1 {
-        return Step::Next(Got {
-            at: at + 1,
+    if a.sort <= 1 {
+        return Some(Got {
+            at: a.at + 1,
             p: a.p,
-            h,
+            h: a.h,
             sort: 0,
         });
     }
-    if sort != 3 {
-        return Step::Stop;
+    if a.sort != 3 {
+        return None;
     }
-    if plan_items::kind(plan, at + 1) != wide::NOT {
-        return Step::Stop;
+    if plan_items::kind(plan, a.at + 1) != wide::NOT {
+        return None;
     }
-    if room <= h {
-        return Step::Stop;
+    if room <= a.h {
+        return None;
     }
-    Step::Next(Got {
-        at: at + 2,
+    Some(Got {
+        at: a.at + 2,
         p: a.p,
-        h: h + 1,
+        h: a.h + 1,
         sort: 0,
     })
 }
 
 // The nots and right operands behind a test, up to the end of its code.
 #[cycle(forms)]
-fn more(plan: &[u8], pool: &[u8], a: Got, room: usize) -> Step
+fn more(plan: &[u8], pool: &[u8], a: Got, room: usize) -> Option<Got>
     requires { Asks plan.now pool.now a.at a.p room × (a.h ≤ room) }
     ensures { Post (ops_part a.h) room plan.now pool.now a.at a.p result }
 {
@@ -302,39 +271,31 @@ fn more(plan: &[u8], pool: &[u8], a: Got, room: usize) -> Step
         let k = plan_items::kind(plan, at);
         if k == wide::NOT {
             if room <= h {
-                return Step::Stop;
+                return None;
             }
             at += 1;
             h += 1;
         } else {
-            if k != wide::AND {
-                if k != wide::OR {
-                    return Step::Stop;
-                }
+            if k != wide::AND && k != wide::OR {
+                return None;
             }
-            match framed(plan, pool, at + 1, p, room) {
-                Step::Stop => return Step::Stop,
-                Step::Next(g) => {
-                    at = g.at;
-                    p = g.p;
-                    h = plan_items::most(h, g.h);
-                }
-            }
+            let g = framed(plan, pool, at + 1, p, room)?;
+            at = g.at;
+            p = g.p;
+            h = plan_items::most(h, g.h);
         }
     }
-    Step::Next(Got { at, p, h, sort: 0 })
+    Some(Got { at, p, h, sort: 0 })
 }
 
 // A test that fills a plan to its end.
 #[cycle(forms)]
-fn test(plan: &[u8], pool: &[u8], p: usize, room: usize) -> Step
+fn test(plan: &[u8], pool: &[u8], p: usize, room: usize) -> Option<Got>
     requires { Asks plan.now pool.now 0 p room }
     ensures { Post test_part room plan.now pool.now 0 p result }
 {
-    match base(plan, pool, p, room) {
-        Step::Stop => Step::Stop,
-        Step::Next(g) => more(plan, pool, g, room),
-    }
+    let g = base(plan, pool, p, room)?;
+    more(plan, pool, g, room)
 }
 
 // Whether a plan and a pool are the translation of a query form.
@@ -352,14 +313,7 @@ pub fn check_plan(plan: &[u8], pool: &[u8]) -> bool
         return false;
     }
     match segs(plan, pool, 1, 0, MAX_NESTING) {
-        Step::Stop => false,
-        Step::Next(g) => {
-            let at = g.at;
-            let p = g.p;
-            if at != plan.len() {
-                return false;
-            }
-            p == pool.len()
-        }
+        None => false,
+        Some(g) => g.at == plan.len() && g.p == pool.len(),
     }
 }

@@ -13,26 +13,11 @@ use std::io;
 fn digit(b: u8) -> usize
     ensures { result ≤ 15 }
 {
-    if b < b'0' {
-        return 0;
+    match b {
+        b'0'..=b'9' => usize::from(b - b'0'),
+        b'a'..=b'f' => usize::from(b - b'a') + 10,
+        _ => 0,
     }
-    if b <= b'9' {
-        return wide(b) - 48;
-    }
-    if b < b'a' {
-        return 0;
-    }
-    if b <= b'f' {
-        return wide(b) - 87;
-    }
-    0
-}
-
-// A byte as a number.
-fn wide(b: u8) -> usize
-    ensures { result ≡ b }
-{
-    b as usize
 }
 
 // The number of two digits.
@@ -48,23 +33,18 @@ fn repeat(d: &mut [u8], n: usize, many: usize, back: usize) -> usize
     requires { (n ≤ length d.old) × (back ≤ n) }
     ensures { result ≤ length d.new }
 {
-    let mut i = n;
-    let mut left = many;
-    while 0 < left {
-        if d.len() <= i {
-            return i;
-        }
+    let end = n.saturating_add(many).min(d.len());
+    for i in n..end {
         d[i] = d[i - back];
-        i += 1;
-        left -= 1;
     }
-    i
+    end
 }
 
 // The bytes that s spells are put into d, as far as there is room. The answer is how many there are.
 fn decode(s: &[u8], d: &mut [u8]) -> usize
     ensures { result ≤ length d.new }
 {
+    // A loop over the place: a star takes seven bytes, and a byte two.
     let mut at = 0;
     let mut n = 0;
     while at < s.len() {
@@ -94,21 +74,6 @@ fn decode(s: &[u8], d: &mut [u8]) -> usize
     n
 }
 
-// The place of a byte in s, or the end.
-fn find(s: &[u8], b: u8, from: usize) -> usize
-    requires { from ≤ length s.now }
-    ensures { (from ≤ result) × (result ≤ length s.now) }
-{
-    let mut i = from;
-    while i < s.len() {
-        if s[i] == b {
-            return i;
-        }
-        i += 1;
-    }
-    i
-}
-
 // The verdict on a plan and a pool is written.
 fn verdict(rt: &impl Print, code: &[u8], pool: &[u8]) -> io::Result<()> {
     if plan_check::check_plan(code, pool) {
@@ -120,22 +85,18 @@ fn verdict(rt: &impl Print, code: &[u8], pool: &[u8]) -> io::Result<()> {
 
 // The verdict on a line.
 fn line(rt: &impl Print, s: &[u8], code: &mut [u8], pool: &mut [u8]) -> io::Result<()> {
-    let b = find(s, b' ', 0);
-    let n = decode(&s[..b], code);
-    if s.len() <= b {
+    let Some(blank) = s.iter().position(|&b| b == b' ') else {
         return Ok(());
-    }
-    let m = decode(&s[b + 1..], pool);
+    };
+    let n = decode(&s[..blank], code);
+    let m = decode(&s[blank + 1..], pool);
     verdict(rt, &code[..n], &pool[..m])
 }
 
 // The verdict on each line.
 fn lines(rt: &impl Print, s: &[u8], code: &mut [u8], pool: &mut [u8]) -> io::Result<()> {
-    let mut at = 0;
-    while at < s.len() {
-        let e = find(s, b'\n', at);
-        line(rt, &s[at..e], code, pool)?;
-        at = e + 1;
+    for one in s.split(|&b| b == b'\n') {
+        line(rt, one, code, pool)?;
     }
     Ok(())
 }

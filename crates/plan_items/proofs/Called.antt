@@ -18,9 +18,9 @@ use Rattle.utf8_laws.specs.Bytes.{by_test}
 use Rattle.plan_laws.specs.Parts.{Part, Spelt, move}
 use Rattle.plan_laws.specs.Leaves.{texts, integers, floats, smalls, literals, constant_of, LiteralOf, of_integer, of_float, of_text, of_constant, literal_of, as_integer, as_float, as_text, as_constant}
 use Rattle.plan_laws.specs.Operands.{Call, call_count, call_length, call_value, call_byte, allowed, calls_right, code_calls, calls_part, is_call, no_call, sort_three}
-use Rattle.plan_items.specs.Readings.{first_byte, Kind, Within, None, Post, next, stop, AnyRoom, AnyPool, PostCalls, call_of}
-use Rattle.plan_items.specs.declared.Step.{Step}
-use Rattle.plan_items.specs.declared.Step.TheVariants.{Next, Stop}
+use Rattle.plan_items.specs.Readings.{first_byte, Kind, Within, NoPart, Post, next, stop, AnyRoom, AnyPool, PostCalls, call_of}
+use Rattle.plan_items.specs.declared.Got.{Got}
+use Rattle.std.specs.Prelude.{Option, Some, None}
 use Rattle.plan_items.proofs.Words.{kind_in, kind_is, kind_not, kind_at}
 
 -- A part that is another behind a byte of kind: each way from one to the other, and that depth, sort and pool stay.
@@ -33,7 +33,7 @@ pub record Behind {X Y : Type 0} (F : Part X) (G : Part Y) (room : ℕ) (S L : L
   pub sort : (x : X) → F.sort x ≡ G.sort (make x)
 
 -- what is read behind the kind is read with it
-pub behind : {X Y : Type 0} {F : Part X} {G : Part Y} {room at p : ℕ} {S L : List ℕ} {r : Step} → Behind F G room S L at p → Post F room S L (at + 1) p r → Post G room S L at p r
+pub behind : {X Y : Type 0} {F : Part X} {G : Part Y} {room at p : ℕ} {S L : List ℕ} {r : Option Got} → Behind F G room S L at p → Post F room S L (at + 1) p r → Post G room S L at p r
 behind {at = at} {p = p} b (next {g = g} rd) =
     let f = rd.from in
     next {g = g} (record {
@@ -97,7 +97,7 @@ module _ {room at p : ℕ} {S L : List ℕ} where
       go (of_constant z e c v) = (z, move v (same_tail e f) refl refl)
 
   -- no literal begins otherwise
-  pub no_literal : {k : ℕ} → Kind S at k → (k ≡ 0x10 → ⊥) → (k ≡ 0x11 → ⊥) → (k ≡ 0x12 → ⊥) → (k ≡ 0x13 → ⊥) → None literals room S L at p
+  pub no_literal : {k : ℕ} → Kind S at k → (k ≡ 0x10 → ⊥) → (k ≡ 0x11 → ⊥) → (k ≡ 0x12 → ⊥) → (k ≡ 0x13 → ⊥) → NoPart literals room S L at p
   no_literal {k} e a b c d = record { none = λ y r m u. go (literal_of y u) }
     where
       go : {y : Literal} {r m : List ℕ} → LiteralOf room (drop at S) (drop p L) p r m y → ⊥
@@ -107,7 +107,7 @@ module _ {room at p : ℕ} {S L : List ℕ} where
       go (of_constant z f g v) = kind_not e 0x13 d f
 
 -- the same in the words of the code
-module _ {S L : List ℕ} {at p k : ℕ} {r : Step} (w : Within S L at p) (e : Kind S at k) where
+module _ {S L : List ℕ} {at p k : ℕ} {r : Option Got} (w : Within S L at p) (e : Kind S at k) where
   pub literal_integer : k ≡ 0x10 → AnyPool (integers inside_i64 2) S (at + 1) p r → AnyRoom literals S L at p r
   literal_integer f a = record { any = λ room. behind (integer_literal (kind_at e f)) (a.any L room w.pool) }
 
@@ -120,7 +120,7 @@ module _ {S L : List ℕ} {at p k : ℕ} {r : Step} (w : Within S L at p) (e : K
   pub literal_constant : k ≡ 0x13 → AnyPool (smalls 3 2) S (at + 1) p r → AnyRoom literals S L at p r
   literal_constant f a = record { any = λ room. behind (constant_literal (kind_at e f)) (a.any L room w.pool) }
 
-pub literal_none : {S L : List ℕ} {at p k : ℕ} → Kind S at k → (k ≡ 0x10 → ⊥) → (k ≡ 0x11 → ⊥) → (k ≡ 0x12 → ⊥) → (k ≡ 0x13 → ⊥) → AnyRoom literals S L at p Stop
+pub literal_none : {S L : List ℕ} {at p k : ℕ} → Kind S at k → (k ≡ 0x10 → ⊥) → (k ≡ 0x11 → ⊥) → (k ≡ 0x12 → ⊥) → (k ≡ 0x13 → ⊥) → AnyRoom literals S L at p None
 literal_none e a b c d = record { any = λ room. stop (no_literal e a b c d) }
 
 -- ---- calls
@@ -161,7 +161,7 @@ module _ {S : List ℕ} {at k : ℕ} (e : Kind S at k) (l : 0x19 ≤ k) (l' : k 
 
 module _ {S L : List ℕ} {at p room k : ℕ} (h σ : ℕ) (e : Kind S at k) where
   -- where no call stands, the calls end
-  pub calls_end : at ≤ length S → p ≤ length L → h ≤ room → is_call k ≡ false → Post (calls_part h σ) room S L at p (Next (record { at = at; p = p; h = h; sort = σ }))
+  pub calls_end : at ≤ length S → p ≤ length L → h ≤ room → is_call k ≡ false → Post (calls_part h σ) room S L at p (Some (record { at = at; p = p; h = h; sort = σ }))
   calls_end a b c f = next {g = record { at = at; p = p; h = h; sort = σ }} (record {
     form = [];
     spelt = record { plan = refl; pool = refl; right = refl; low = omega arith; may = go (drop at S) e.is };
@@ -178,21 +178,21 @@ module _ {S L : List ℕ} {at p room k : ℕ} (h σ : ℕ) (e : Kind S at k) whe
       go (c ∷ s) g = rw (← g, f)
 
   module _ (l : 0x19 ≤ k) (l' : k ≤ 0x1B) where
-    pub calls_refused : allowed σ (call_of k) ≡ false → None (calls_part h σ) room S L at p
+    pub calls_refused : allowed σ (call_of k) ≡ false → NoPart (calls_part h σ) room S L at p
     calls_refused f = record { none = go }
       where
         go : (cs : List Call) (r m : List ℕ) → Spelt (calls_part h σ) room (drop at S) (drop p L) p cs r m → ⊥
         go [] r m u = no_end e l l' (ap no_call u.plan ∙ u.may)
         go (c ∷ cs) r m u = true≢false (sym (and_left (allowed σ c) (calls_right 3 cs) u.right) ∙ ap (allowed σ) (first_call e l l' c cs r u.plan) ∙ f)
 
-    pub calls_deep : room ≤ h → None (calls_part h σ) room S L at p
+    pub calls_deep : room ≤ h → NoPart (calls_part h σ) room S L at p
     calls_deep f = record { none = go }
       where
         go : (cs : List Call) (r m : List ℕ) → Spelt (calls_part h σ) room (drop at S) (drop p L) p cs r m → ⊥
         go [] r m u = no_end e l l' (ap no_call u.plan ∙ u.may)
         go (c ∷ cs) r m u = let g = u.low in omega arith
 
-    pub calls_more : {r : Step} → allowed σ (call_of k) ≡ true → Post (calls_part (h + 1) 3) room S L (at + 1) p r → Post (calls_part h σ) room S L at p r
+    pub calls_more : {r : Option Got} → allowed σ (call_of k) ≡ true → Post (calls_part (h + 1) 3) room S L (at + 1) p r → Post (calls_part h σ) room S L at p r
     calls_more f (next {g = g} rd) =
         let a = rd.from in
         let b = rd.nest in
@@ -218,7 +218,7 @@ module _ {S L : List ℕ} {at p room k : ℕ} (h σ : ℕ) (e : Kind S at k) whe
 
 -- the loop: what is right from here on is right from the start
 pub record Going (S : List ℕ) (room : ℕ) (at₀ p h₀ σ₀ at h σ : ℕ) : Type 0 where
-  pub on : (L : List ℕ) (r : Step) → p ≤ length L → Post (calls_part h σ) room S L at p r → Post (calls_part h₀ σ₀) room S L at₀ p r
+  pub on : (L : List ℕ) (r : Option Got) → p ≤ length L → Post (calls_part h σ) room S L at p r → Post (calls_part h₀ σ₀) room S L at₀ p r
   pub to : at ≤ length S
   pub low : h ≤ room
 
@@ -226,17 +226,17 @@ pub going_start : {S : List ℕ} {room at p h σ : ℕ} → at ≤ length S → 
 going_start a b = record { on = λ L r q x. x; to = a; low = b }
 
 module _ {S : List ℕ} {room at₀ p h₀ σ₀ at h σ k : ℕ} (g : Going S room at₀ p h₀ σ₀ at h σ) (e : Kind S at k) where
-  pub going_below : k < 0x19 → PostCalls S (record { at = at₀; p = p; h = h₀; sort = σ₀ }) room (Next (record { at = at; p = p; h = h; sort = σ }))
+  pub going_below : k < 0x19 → PostCalls S (record { at = at₀; p = p; h = h₀; sort = σ₀ }) room (Some (record { at = at; p = p; h = h; sort = σ }))
   going_below f = record { any = λ L q. g.on L _ q (calls_end h σ e g.to q g.low (rw (lt-leb 0x19 k f))) }
 
-  pub going_above : 0x1B < k → PostCalls S (record { at = at₀; p = p; h = h₀; sort = σ₀ }) room (Next (record { at = at; p = p; h = h; sort = σ }))
+  pub going_above : 0x1B < k → PostCalls S (record { at = at₀; p = p; h = h₀; sort = σ₀ }) room (Some (record { at = at; p = p; h = h; sort = σ }))
   going_above f = record { any = λ L q. g.on L _ q (calls_end h σ e g.to q g.low (rw (lt-leb k 0x1B f) (and-false (leb 0x19 k)))) }
 
   module _ (l : 0x19 ≤ k) (l' : k ≤ 0x1B) where
-    pub going_refused : allowed σ (call_of k) ≡ false → PostCalls S (record { at = at₀; p = p; h = h₀; sort = σ₀ }) room Stop
+    pub going_refused : allowed σ (call_of k) ≡ false → PostCalls S (record { at = at₀; p = p; h = h₀; sort = σ₀ }) room None
     going_refused f = record { any = λ L q. g.on L _ q (stop (calls_refused h σ e l l' f)) }
 
-    pub going_deep : room ≤ h → PostCalls S (record { at = at₀; p = p; h = h₀; sort = σ₀ }) room Stop
+    pub going_deep : room ≤ h → PostCalls S (record { at = at₀; p = p; h = h₀; sort = σ₀ }) room None
     going_deep f = record { any = λ L q. g.on L _ q (stop (calls_deep h σ e l l' f)) }
 
     pub going_more : allowed σ (call_of k) ≡ true → h < room → Going S room at₀ p h₀ σ₀ (at + 1) (h + 1) 3

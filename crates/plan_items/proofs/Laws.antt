@@ -27,7 +27,7 @@ use Rattle.utf8_laws.specs.Bytes.{by_test}
 use Rattle.text.specs.Words.{Word}
 use Rattle.text.proofs.Same.{part_rest}
 use Rattle.plan_items.specs.Readings.{Within, next, stop, AnyRoom, AnyPool}
-use Rattle.plan_items.specs.declared.Step.TheVariants.{Next, Stop}
+use Rattle.std.specs.Prelude.{Some, None}
 use Rattle.plan_items.proofs.Words.{word_at}
 
 -- ---- texts
@@ -40,7 +40,7 @@ text_size x p =
     omega arith
 
 module _ {S L : List ℕ} {at p : ℕ} (w : Within S L at p) (σ : ℕ) where
-  pub text_short : length S - at < 4 → AnyRoom (texts σ) S L at p Stop
+  pub text_short : length S - at < 4 → AnyRoom (texts σ) S L at p None
   text_short h = record {
     any = λ room. stop (record {
       none = λ x r m u.
@@ -59,7 +59,7 @@ module _ {S L : List ℕ} {at p : ℕ} (w : Within S L at p) (σ : ℕ) where
         let b = w.few in
         number_same 2 start p ws.fits (omega arith) (word_at bytes (omega arith) ws) (u.plan ∙ append_assoc (two p) (two (length x)) r)
 
-    pub text_elsewhere : (start ≡ p → ⊥) → AnyRoom (texts σ) S L at p Stop
+    pub text_elsewhere : (start ≡ p → ⊥) → AnyRoom (texts σ) S L at p None
     text_elsewhere n = record { any = λ room. stop (record { none = λ x r m u. n (text_start u).0 }) }
 
     module _ {n : ℕ} (wn : Word 2 S (at + 2) n) where
@@ -71,7 +71,7 @@ module _ {S L : List ℕ} {at p : ℕ} (w : Within S L at p) (σ : ℕ) where
           let c = length-drop p L in
           (number_same 2 n (length x) wn.fits (omega arith) (word_at bytes (omega arith) wn) (text_start u).1).0
 
-      pub text_long : length L - p < n → AnyRoom (texts σ) S L at p Stop
+      pub text_long : length L - p < n → AnyRoom (texts σ) S L at p None
       text_long l = record {
         any = λ room. stop (record {
           none = λ x r m u.
@@ -82,7 +82,7 @@ module _ {S L : List ℕ} {at p : ℕ} (w : Within S L at p) (σ : ℕ) where
         });
       }
 
-      pub text_wrong : is_utf8 (part L p n) ≡ false → AnyRoom (texts σ) S L at p Stop
+      pub text_wrong : is_utf8 (part L p n) ≡ false → AnyRoom (texts σ) S L at p None
       text_wrong f = record {
         any = λ room. stop (record {
           none = λ x r m u.
@@ -91,7 +91,7 @@ module _ {S L : List ℕ} {at p : ℕ} (w : Within S L at p) (σ : ℕ) where
         });
       }
 
-      pub text_found : start ≡ p → n ≤ length L - p → is_utf8 (part L p n) ≡ true → AnyRoom (texts σ) S L at p (Next (record { at = at + 4; p = p + n; h = 0; sort = σ }))
+      pub text_found : start ≡ p → n ≤ length L - p → is_utf8 (part L p n) ≡ true → AnyRoom (texts σ) S L at p (Some (record { at = at + 4; p = p + n; h = 0; sort = σ }))
       text_found e l g = record {
         any = λ room.
             let q = w.pool in
@@ -151,11 +151,11 @@ range_high n h g =
     (λ i. let b = leb-false 18437736874454810625 n i in lt-leb (suc (2 ^ 64 - suc n)) max_int (omega arith) ∙ sym i)))
 
 module _ {S : List ℕ} {at p : ℕ} (ok : ℤ → Bool) (σ : ℕ) where
-  pub integer_short : length S - at < 8 → AnyPool (integers ok σ) S at p Stop
+  pub integer_short : length S - at < 8 → AnyPool (integers ok σ) S at p None
   integer_short h = record { any = λ L room q. stop (record { none = λ z r m u. eight_short S r at (unsigned64 z) h u.plan }) }
 
   module _ (bytes : (i : ℕ) → get_or S i 0 < 256) (h : 8 ≤ length S - at) {n : ℕ} (w : Word 8 S at n) where
-    pub integer_wrong : ((z : ℤ) → ok z ≡ true → inside_i64 z ≡ true) → ok (signed64 n) ≡ false → AnyPool (integers ok σ) S at p Stop
+    pub integer_wrong : ((z : ℤ) → ok z ≡ true → inside_i64 z ≡ true) → ok (signed64 n) ≡ false → AnyPool (integers ok σ) S at p None
     integer_wrong inside f = record {
       any = λ L room q. stop (record {
         none = λ z r m u.
@@ -166,7 +166,7 @@ module _ {S : List ℕ} {at p : ℕ} (ok : ℤ → Bool) (σ : ℕ) where
       });
     }
 
-    pub integer_found : ok (signed64 n) ≡ true → AnyPool (integers ok σ) S at p (Next (record { at = at + 8; p = p; h = 0; sort = σ }))
+    pub integer_found : ok (signed64 n) ≡ true → AnyPool (integers ok σ) S at p (Some (record { at = at + 8; p = p; h = 0; sort = σ }))
     integer_found g = record {
       any = λ L room q.
           let k = w.fits in
@@ -185,11 +185,11 @@ module _ {S : List ℕ} {at p : ℕ} (ok : ℤ → Bool) (σ : ℕ) where
 -- ---- floats
 
 module _ {S : List ℕ} {at p : ℕ} where
-  pub float_short : length S - at < 8 → AnyPool (floats 2) S at p Stop
+  pub float_short : length S - at < 8 → AnyPool (floats 2) S at p None
   float_short h = record { any = λ L room q. stop (record { none = λ z r m u. eight_short S r at z h u.plan }) }
 
   module _ (bytes : (i : ℕ) → get_or S i 0 < 256) (h : 8 ≤ length S - at) {n : ℕ} (w : Word 8 S at n) where
-    pub float_wrong : is_finite n ≡ false → AnyPool (floats 2) S at p Stop
+    pub float_wrong : is_finite n ≡ false → AnyPool (floats 2) S at p None
     float_wrong f = record {
       any = λ L room q. stop (record {
         none = λ z r m u.
@@ -199,7 +199,7 @@ module _ {S : List ℕ} {at p : ℕ} where
       });
     }
 
-    pub float_found : is_finite n ≡ true → AnyPool (floats 2) S at p (Next (record { at = at + 8; p = p; h = 0; sort = 2 }))
+    pub float_found : is_finite n ≡ true → AnyPool (floats 2) S at p (Some (record { at = at + 8; p = p; h = 0; sort = 2 }))
     float_found g = record {
       any = λ L room q.
           let k = w.fits in
@@ -218,7 +218,7 @@ module _ {S : List ℕ} {at p : ℕ} where
 -- ---- one byte
 
 module _ {S : List ℕ} {at p : ℕ} (limit σ : ℕ) where
-  pub small_short : length S ≤ at → AnyPool (smalls limit σ) S at p Stop
+  pub small_short : length S ≤ at → AnyPool (smalls limit σ) S at p None
   small_short h = record {
     any = λ L room q. stop (record {
       none = λ z r m u.
@@ -228,7 +228,7 @@ module _ {S : List ℕ} {at p : ℕ} (limit σ : ℕ) where
     });
   }
 
-  pub small_wrong : at < length S → limit ≤ get_or S at 0 → AnyPool (smalls limit σ) S at p Stop
+  pub small_wrong : at < length S → limit ≤ get_or S at 0 → AnyPool (smalls limit σ) S at p None
   small_wrong h f = record {
     any = λ L room q. stop (record {
       none = λ z r m u.
@@ -240,7 +240,7 @@ module _ {S : List ℕ} {at p : ℕ} (limit σ : ℕ) where
     });
   }
 
-  pub small_found : at < length S → get_or S at 0 < limit → AnyPool (smalls limit σ) S at p (Next (record { at = at + 1; p = p; h = 0; sort = σ }))
+  pub small_found : at < length S → get_or S at 0 < limit → AnyPool (smalls limit σ) S at p (Some (record { at = at + 1; p = p; h = 0; sort = σ }))
   small_found h f = record {
     any = λ L room q.
         next {g = record { at = at + 1; p = p; h = 0; sort = σ }} (record {

@@ -12,8 +12,8 @@ use Rattle.plan_laws.specs.Parts.{Spelt}
 use Rattle.plan_laws.specs.Leaves.{smalls, operator_of, operator_low, operator_byte_lem}
 use Rattle.plan_laws.specs.Relations.{Relation, compares, matches, relations}
 use Rattle.plan_items.specs.Readings.{Kind, next, stop, AnyPool}
-use Rattle.plan_items.specs.declared.Step.{Step}
-use Rattle.plan_items.specs.declared.Step.TheVariants.{Next, Stop}
+use Rattle.plan_items.specs.declared.Got.{Got}
+use Rattle.std.specs.Prelude.{Option, Some, None}
 use Rattle.plan_items.proofs.Words.{kind_at, kind_in_at, kind_not}
 use Rattle.plan_items.proofs.Called.{Behind, behind}
 
@@ -33,11 +33,11 @@ operator_behind {room} {at} {p} {S} {L} f = record { make = λ b. compares (oper
     back (matches part) r m u = absurd (differ 0x1D 0x14 refl u.plan f)
 
 module _ {S : List ℕ} {at p k : ℕ} (e : Kind S at k) where
-  pub relation_compares : {r : Step} → k ≡ 0x14 → AnyPool (smalls 6 0) S (at + 1) p r → AnyPool relations S at p r
+  pub relation_compares : {r : Option Got} → k ≡ 0x14 → AnyPool (smalls 6 0) S (at + 1) p r → AnyPool relations S at p r
   relation_compares f a = record { any = λ L room q. behind (operator_behind (kind_at e f)) (a.any L room q) }
 
   -- match and search have no body
-  pub relation_match : k ≡ 0x1C → AnyPool relations S at p (Next (record { at = at + 1; p = p; h = 0; sort = 1 }))
+  pub relation_match : k ≡ 0x1C → AnyPool relations S at p (Some (record { at = at + 1; p = p; h = 0; sort = 1 }))
   unfolding scope_kind
   relation_match f = record {
     any = λ L room q.
@@ -53,7 +53,7 @@ module _ {S : List ℕ} {at p k : ℕ} (e : Kind S at k) where
         });
   }
 
-  pub relation_search : k ≡ 0x1D → AnyPool relations S at p (Next (record { at = at + 1; p = p; h = 0; sort = 1 }))
+  pub relation_search : k ≡ 0x1D → AnyPool relations S at p (Some (record { at = at + 1; p = p; h = 0; sort = 1 }))
   unfolding scope_kind
   relation_search f = record {
     any = λ L room q.
@@ -70,7 +70,7 @@ module _ {S : List ℕ} {at p k : ℕ} (e : Kind S at k) where
   }
 
   -- nothing else stands behind two values
-  pub relation_none : (k ≡ 0x14 → ⊥) → (k ≡ 0x1C → ⊥) → (k ≡ 0x1D → ⊥) → AnyPool relations S at p Stop
+  pub relation_none : (k ≡ 0x14 → ⊥) → (k ≡ 0x1C → ⊥) → (k ≡ 0x1D → ⊥) → AnyPool relations S at p None
   unfolding scope_kind
   relation_none a b c = record { any = λ L room q. stop (record { none = λ x r m u. go x r u.plan }) }
     where

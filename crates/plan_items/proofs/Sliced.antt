@@ -21,7 +21,7 @@ use Rattle.plan_laws.specs.Parts.{Spelt, plan_left}
 use Rattle.plan_laws.specs.Leaves.{slices, Bounds, bit, bit_low, flags, flags_bits, append_three, bound_same, unsigned_same}
 use Rattle.text.specs.Words.{Word}
 use Rattle.plan_items.specs.Readings.{next, stop, AnyPool, BoundAt, NoBound, IsBound, bound, no_bound}
-use Rattle.plan_items.specs.declared.Step.TheVariants.{Next, Stop}
+use Rattle.std.specs.Prelude.{Some, None}
 use Rattle.plan_items.proofs.Words.{word_at}
 use Rattle.plan_items.proofs.Laws.{signed_inside, unsigned_signed}
 
@@ -92,7 +92,7 @@ in_slice {r = r} {b = b} u =
     }
 
 module _ {S : List ℕ} {at : ℕ} where
-  pub slice_short : {p : ℕ} → length S - at < 25 → AnyPool slices S at p Stop
+  pub slice_short : {p : ℕ} → length S - at < 25 → AnyPool slices S at p None
   slice_short h = record {
     any = λ L room q. stop (record {
       none = λ b r m u.
@@ -115,10 +115,10 @@ module _ {S : List ℕ} {at : ℕ} where
         let f = u.flag in
         ((cc), same_tail a f)
 
-    pub slice_flags : {p : ℕ} → 7 < get_or S at 0 → AnyPool slices S at p Stop
+    pub slice_flags : {p : ℕ} → 7 < get_or S at 0 → AnyPool slices S at p None
     slice_flags g = record { any = λ L room q. stop (record { none = λ b r m u. let e = (flags_here (in_slice u)).0 in let f = (flag_bits b).0 in omega arith }) }
 
-    pub slice_start_lem : {p : ℕ} → NoBound S (at + 1) (get_or S at 0 % 2) → AnyPool slices S at p Stop
+    pub slice_start_lem : {p : ℕ} → NoBound S (at + 1) (get_or S at 0 % 2) → AnyPool slices S at p None
     slice_start_lem n = record {
       any = λ L room q. stop (record {
         none = λ b r m u.
@@ -135,7 +135,7 @@ module _ {S : List ℕ} {at : ℕ} where
           let c : at + 1 + 8 ≡ at + 9 = omega arith in
           bound_same x.bound b.start (x.given ∙ ap (λ k. k % 2) e.0 ∙ sym (flag_bits b).1) x.right v.one (x.is ∙ ap (λ k. eight_of x.bound ++ drop k S) c) e.1
 
-      pub slice_stop_lem : {p : ℕ} → NoBound S (at + 9) (get_or S at 0 / 2 % 2) → AnyPool slices S at p Stop
+      pub slice_stop_lem : {p : ℕ} → NoBound S (at + 9) (get_or S at 0 / 2 % 2) → AnyPool slices S at p None
       slice_stop_lem n = record {
         any = λ L room q. stop (record {
           none = λ b r m u.
@@ -150,7 +150,7 @@ module _ {S : List ℕ} {at : ℕ} where
             let c : at + 9 + 8 ≡ at + 17 = omega arith in
             (bound_same y.bound b.stop (y.given ∙ ap (λ k. k / 2 % 2) (flags_here v).0 ∙ sym (flag_bits b).2) y.right v.two (y.is ∙ ap (λ k. eight_of y.bound ++ drop k S) c) (stop_here v).1).1
 
-        pub slice_step_lem : {p : ℕ} → NoBound S (at + 17) (get_or S at 0 / 4) → AnyPool slices S at p Stop
+        pub slice_step_lem : {p : ℕ} → NoBound S (at + 17) (get_or S at 0 / 4) → AnyPool slices S at p None
         slice_step_lem n = record {
           any = λ L room q. stop (record {
             none = λ b r m u.
@@ -159,7 +159,7 @@ module _ {S : List ℕ} {at : ℕ} where
           });
         }
 
-        pub slice_found : (p : ℕ) → get_or S at 0 ≤ 7 → BoundAt S (at + 17) (get_or S at 0 / 4) → AnyPool slices S at p (Next (record { at = at + 25; p = p; h = 0; sort = 0 }))
+        pub slice_found : (p : ℕ) → get_or S at 0 ≤ 7 → BoundAt S (at + 17) (get_or S at 0 / 4) → AnyPool slices S at p (Some (record { at = at + 25; p = p; h = 0; sort = 0 }))
         slice_found p l z = record {
           any = λ L room q.
               let b : Bounds = record { start = x.bound; stop = y.bound; step = z.bound } in

@@ -9,8 +9,7 @@ use Rattle.plan_laws.specs.Parts.{Part, Spelt}
 use Rattle.plan_laws.specs.Leaves.{bit}
 use Rattle.plan_laws.specs.Operands.{Call, call_count, call_length, call_value, calls_part}
 use Rattle.plan_items.specs.declared.Got.{Got}
-use Rattle.plan_items.specs.declared.Step.{Step}
-use Rattle.plan_items.specs.declared.Step.TheVariants.{Next, Stop}
+use Rattle.std.specs.Prelude.{Option as Answer, Some, None}
 
 -- the kind of the item that a plan begins with, 0 at its end
 abbrev pub first_byte : List ℕ → ℕ
@@ -47,19 +46,19 @@ pub record Read {X : Type 0} (F : Part X) (room : ℕ) (S L : List ℕ) (at p : 
   pub sort : g.sort ≡ F.sort form
 
 -- no part is spelled at a place
-pub record None {X : Type 0} (F : Part X) (room : ℕ) (S L : List ℕ) (at p : ℕ) : Type 0 where
+pub record NoPart {X : Type 0} (F : Part X) (room : ℕ) (S L : List ℕ) (at p : ℕ) : Type 0 where
   pub none : (x : X) (r m : List ℕ) → Spelt F room (drop at S) (drop p L) p x r m → ⊥
 
-pub data Post {X : Type 0} (F : Part X) (room : ℕ) (S L : List ℕ) (at p : ℕ) : Step → Type 0 where
-  next : {g : Got} → Read F room S L at p g → Post F room S L at p (Next g)
-  stop : None F room S L at p → Post F room S L at p Stop
+pub data Post {X : Type 0} (F : Part X) (room : ℕ) (S L : List ℕ) (at p : ℕ) : Answer Got → Type 0 where
+  next : {g : Got} → Read F room S L at p g → Post F room S L at p (Some g)
+  stop : NoPart F room S L at p → Post F room S L at p None
 
 -- the same for parts that hold no other part: however many items stand around
-pub record AnyRoom {X : Type 0} (F : Part X) (S L : List ℕ) (at p : ℕ) (r : Step) : Type 0 where
+pub record AnyRoom {X : Type 0} (F : Part X) (S L : List ℕ) (at p : ℕ) (r : Answer Got) : Type 0 where
   pub any : (room : ℕ) → Post F room S L at p r
 
 -- and for parts without texts: whatever the pool
-pub record AnyPool {X : Type 0} (F : Part X) (S : List ℕ) (at p : ℕ) (r : Step) : Type 0 where
+pub record AnyPool {X : Type 0} (F : Part X) (S : List ℕ) (at p : ℕ) (r : Answer Got) : Type 0 where
   pub any : (L : List ℕ) (room : ℕ) → p ≤ length L → Post F room S L at p r
 
 -- eight bytes that are a bound, given or absent
@@ -81,5 +80,5 @@ unfoldable pub call_of : ℕ → Call
 call_of k = cond (eqb k 0x1A) call_length (cond (eqb k 0x19) call_count call_value)
 
 -- the calls on an operand that was read, whatever the pool
-pub record PostCalls (S : List ℕ) (g : Got) (room : ℕ) (r : Step) : Type 0 where
+pub record PostCalls (S : List ℕ) (g : Got) (room : ℕ) (r : Answer Got) : Type 0 where
   pub any : (L : List ℕ) → g.p ≤ length L → Post (calls_part g.h g.sort) room S L g.at g.p r

@@ -36,13 +36,6 @@ pub struct Got {
     pub sort: usize,
 }
 
-// A part that was read, or none.
-#[derive(Clone, Copy)]
-pub enum Step {
-    Next(Got),
-    Stop,
-}
-
 // The kind of the item at `at`, 0 at the plan's end.
 pub fn kind(plan: &[u8], at: usize) -> usize
     ensures { Kind plan.now at result }
@@ -61,25 +54,25 @@ pub fn most(a: usize, b: usize) -> usize
 }
 
 // A text: where it starts in the pool, which is where the pool stands, and its length.
-pub fn text(plan: &[u8], pool: &[u8], at: usize, p: usize, sort: usize) -> Step
+pub fn text(plan: &[u8], pool: &[u8], at: usize, p: usize, sort: usize) -> Option<Got>
     requires { Within plan.now pool.now at p }
     ensures { AnyRoom (texts sort) plan.now pool.now at p result }
 {
     if plan.len() - at < lengths::POOLED_BODY {
-        return Step::Stop;
+        return None;
     }
     let start = bytes::word16(plan, at);
     if start != p {
-        return Step::Stop;
+        return None;
     }
     let n = bytes::word16(plan, at + 2);
     if pool.len() - p < n {
-        return Step::Stop;
+        return None;
     }
     if !encoding::is_utf8_part(pool, p, n) {
-        return Step::Stop;
+        return None;
     }
-    Step::Next(Got {
+    Some(Got {
         at: at + lengths::POOLED_BODY,
         p: p + n,
         h: 0,
@@ -105,15 +98,15 @@ pub fn finite(n: u64) -> bool
 }
 
 // An integer.
-pub fn integer(plan: &[u8], at: usize, p: usize) -> Step
+pub fn integer(plan: &[u8], at: usize, p: usize) -> Option<Got>
     requires { at ≤ length plan.now }
     ensures { AnyPool (integers inside_i64 2) plan.now at p result }
 {
     if plan.len() - at < lengths::NUMBER_BODY {
-        return Step::Stop;
+        return None;
     }
     let n = bytes::word64(plan, at);
-    Step::Next(Got {
+    Some(Got {
         at: at + lengths::NUMBER_BODY,
         p,
         h: 0,
@@ -122,18 +115,18 @@ pub fn integer(plan: &[u8], at: usize, p: usize) -> Step
 }
 
 // An index.
-pub fn index(plan: &[u8], at: usize, p: usize) -> Step
+pub fn index(plan: &[u8], at: usize, p: usize) -> Option<Got>
     requires { at ≤ length plan.now }
     ensures { AnyPool (integers in_range 1) plan.now at p result }
 {
     if plan.len() - at < lengths::NUMBER_BODY {
-        return Step::Stop;
+        return None;
     }
     let n = bytes::word64(plan, at);
     if !in_range(n) {
-        return Step::Stop;
+        return None;
     }
-    Step::Next(Got {
+    Some(Got {
         at: at + lengths::NUMBER_BODY,
         p,
         h: 0,
@@ -142,18 +135,18 @@ pub fn index(plan: &[u8], at: usize, p: usize) -> Step
 }
 
 // A float.
-pub fn float(plan: &[u8], at: usize, p: usize) -> Step
+pub fn float(plan: &[u8], at: usize, p: usize) -> Option<Got>
     requires { at ≤ length plan.now }
     ensures { AnyPool (floats 2) plan.now at p result }
 {
     if plan.len() - at < lengths::NUMBER_BODY {
-        return Step::Stop;
+        return None;
     }
     let n = bytes::word64(plan, at);
     if !finite(n) {
-        return Step::Stop;
+        return None;
     }
-    Step::Next(Got {
+    Some(Got {
         at: at + lengths::NUMBER_BODY,
         p,
         h: 0,
@@ -162,17 +155,17 @@ pub fn float(plan: &[u8], at: usize, p: usize) -> Step
 }
 
 // A byte below a limit.
-pub fn small(plan: &[u8], at: usize, p: usize, limit: usize, sort: usize) -> Step
+pub fn small(plan: &[u8], at: usize, p: usize, limit: usize, sort: usize) -> Option<Got>
     ensures { AnyPool (smalls limit sort) plan.now at p result }
 {
     if plan.len() <= at {
-        return Step::Stop;
+        return None;
     }
     let n = plan[at] as usize;
     if limit <= n {
-        return Step::Stop;
+        return None;
     }
-    Step::Next(Got {
+    Some(Got {
         at: at + 1,
         p,
         h: 0,
@@ -193,27 +186,27 @@ pub fn bound(plan: &[u8], at: usize, flag: usize) -> bool
 }
 
 // A slice: which bounds are given, and the three.
-pub fn slice(plan: &[u8], at: usize, p: usize) -> Step
+pub fn slice(plan: &[u8], at: usize, p: usize) -> Option<Got>
     requires { at ≤ length plan.now }
     ensures { AnyPool slices plan.now at p result }
 {
     if plan.len() - at < lengths::SLICE_BODY {
-        return Step::Stop;
+        return None;
     }
     let flags = plan[at] as usize;
     if 7 < flags {
-        return Step::Stop;
+        return None;
     }
     if !bound(plan, at + 1, flags % 2) {
-        return Step::Stop;
+        return None;
     }
     if !bound(plan, at + 9, flags / 2 % 2) {
-        return Step::Stop;
+        return None;
     }
     if !bound(plan, at + 17, flags / 4) {
-        return Step::Stop;
+        return None;
     }
-    Step::Next(Got {
+    Some(Got {
         at: at + lengths::SLICE_BODY,
         p,
         h: 0,
@@ -222,7 +215,7 @@ pub fn slice(plan: &[u8], at: usize, p: usize) -> Step
 }
 
 // A literal: integer, float, text or constant.
-pub fn literal(plan: &[u8], pool: &[u8], at: usize, p: usize) -> Step
+pub fn literal(plan: &[u8], pool: &[u8], at: usize, p: usize) -> Option<Got>
     requires { Within plan.now pool.now at p }
     ensures { AnyRoom literals plan.now pool.now at p result }
 {
@@ -239,11 +232,11 @@ pub fn literal(plan: &[u8], pool: &[u8], at: usize, p: usize) -> Step
     if k == wide::CONSTANT {
         return small(plan, at + 1, p, words::HOW_MANY, 2);
     }
-    Step::Stop
+    None
 }
 
 // What is asked of two operands: a comparison with its operator, or match or search, for which the sort is 1.
-pub fn relation(plan: &[u8], at: usize, p: usize) -> Step
+pub fn relation(plan: &[u8], at: usize, p: usize) -> Option<Got>
     ensures { AnyPool relations plan.now at p result }
 {
     let k = kind(plan, at);
@@ -251,7 +244,7 @@ pub fn relation(plan: &[u8], at: usize, p: usize) -> Step
         return small(plan, at + 1, p, operators::HOW_MANY, 0);
     }
     if k == wide::MATCH {
-        return Step::Next(Got {
+        return Some(Got {
             at: at + 1,
             p,
             h: 0,
@@ -259,14 +252,14 @@ pub fn relation(plan: &[u8], at: usize, p: usize) -> Step
         });
     }
     if k == wide::SEARCH {
-        return Step::Next(Got {
+        return Some(Got {
             at: at + 1,
             p,
             h: 0,
             sort: 1,
         });
     }
-    Step::Stop
+    None
 }
 
 // Whether a function may be called on an operand of a sort: length on all but a query that is not singular, count and value on queries.
@@ -281,7 +274,7 @@ pub fn allows(sort: usize, k: usize) -> bool
 }
 
 // The functions called on an operand.
-pub fn calls(plan: &[u8], g: Got, room: usize) -> Step
+pub fn calls(plan: &[u8], g: Got, room: usize) -> Option<Got>
     requires { (g.at ≤ length plan.now) × (g.h ≤ room) × (room ≤ max_nesting) }
     ensures { PostCalls plan.now g room result }
 {
@@ -292,16 +285,16 @@ pub fn calls(plan: &[u8], g: Got, room: usize) -> Step
     loop {
         let k = kind(plan, at);
         if k < wide::COUNT {
-            return Step::Next(Got { at, p, h, sort });
+            return Some(Got { at, p, h, sort });
         }
         if wide::VALUE < k {
-            return Step::Next(Got { at, p, h, sort });
+            return Some(Got { at, p, h, sort });
         }
         if !allows(sort, k) {
-            return Step::Stop;
+            return None;
         }
         if room <= h {
-            return Step::Stop;
+            return None;
         }
         at += 1;
         h += 1;

@@ -1,7 +1,6 @@
--- The laws of counting: the length of a body, an item more, and sums place by place. Assumes nothing.
+-- The laws of counting: an item more, and sums place by place. Assumes nothing.
 use Prim.Native.Nat.{ℕ, zero, suc, ◌+◌, ◌≤◌, ◌<◌}
 use mathlib.Core.Path.{◌≡◌, refl, sym, ap, ◌∙◌}
-use mathlib.Core.Logic.{◌≢◌}
 use mathlib.Core.Bool.{Bool, true, false, cond, true≢false, ◌&&◌}
 use mathlib.Core.List.{List, [], ◌∷◌}
 use native.Mathlib.Numerals.{add-one}
@@ -9,39 +8,11 @@ use native.Mathlib.Omega.{arith}
 use lib.Dec.{eqb}
 use lib.ListN.{length, drop, get_or, set, replicate, length-set, length-replicate, get_or-replicate}
 use lib.Seq.{drop-cons, drop-drop, get_or-set_same, get_or-set_other}
-use borrow.Author.Tests.{ne_eqb, eqb-true, eqb-false}
+use borrow.Author.Tests.{eqb-true, eqb-false}
 use Rattle.utf8_laws.specs.Bytes.{by_test}
-use Rattle.tally_laws.specs.Items.{has_two, has_four, has_eight, has_one, body_length, kinds_within, kinds_of, occurrences}
+use Rattle.tally_laws.specs.Items.{body_length, kinds_within, kinds_of, occurrences}
 use Rattle.tally_laws.specs.Tallies.{every_below}
 use Rattle.tally.specs.Counts.{CountsOf, Sums}
-
--- ---- a body
-
-module _ (k : ℕ) where
-  pub body_two : has_two k ≡ true → 2 ≡ body_length k
-  unfolding body_length
-  body_two h = sym (rw h)
-
-  pub body_four : has_two k ≡ false → has_four k ≡ true → 4 ≡ body_length k
-  unfolding body_length
-  body_four g h = sym (rw (g, h))
-
-  pub body_eight : has_two k ≡ false → has_four k ≡ false → has_eight k ≡ true → 8 ≡ body_length k
-  unfolding body_length
-  body_eight f g h = sym (rw (f, g, h))
-
-  module _ (f : has_two k ≡ false) (g : has_four k ≡ false) (h : has_eight k ≡ false) where
-    pub body_one : has_one k ≡ true → 1 ≡ body_length k
-    unfolding body_length
-    body_one e = sym (rw (f, g, h, e))
-
-    pub body_slice : k ≡ 0x07 → 25 ≡ body_length k
-    unfolding body_length
-    body_slice e = sym (rw e refl)
-
-    pub body_none : has_one k ≡ false → k ≢ 0x07 → 0 ≡ body_length k
-    unfolding body_length
-    body_none e n = sym (rw (f, g, h, e, ne_eqb k 0x07 n))
 
 -- ---- an item more
 

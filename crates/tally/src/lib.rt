@@ -4,7 +4,7 @@
 #![tactic(auto)]
 
 ghost use Rattle.std.specs.Prelude.{◌≡◌, true, ◌≤◌, length};
-ghost use Rattle.tally_laws.specs.Items.{has_two, has_four, has_eight, has_one, body_length, kinds_of};
+ghost use Rattle.tally_laws.specs.Items.{body_length, kinds_of};
 ghost use Rattle.tally_laws.specs.Tallies.{TallyOutcome, Tallies};
 ghost use Rattle.tally.specs.Counts.{CountsOf, Fits, Sums, tallied};
 
@@ -15,74 +15,20 @@ use plan_format::{kinds, lengths};
 // As many counts as a byte has values.
 pub const KINDS: usize = 256;
 
-fn has_two(kind: u8) -> bool
-    ensures { result ≡ has_two kind }
-{
-    if kind == kinds::CHILD {
-        return true;
-    }
-    if kind == kinds::DESCENDANT {
-        return true;
-    }
-    if kind == kinds::FILTER {
-        return true;
-    }
-    if kind == kinds::AND {
-        return true;
-    }
-    kind == kinds::OR
-}
-
-fn has_four(kind: u8) -> bool
-    ensures { result ≡ has_four kind }
-{
-    if kind == kinds::NAME {
-        return true;
-    }
-    kind == kinds::TEXT
-}
-
-fn has_eight(kind: u8) -> bool
-    ensures { result ≡ has_eight kind }
-{
-    if kind == kinds::INDEX {
-        return true;
-    }
-    if kind == kinds::INTEGER {
-        return true;
-    }
-    kind == kinds::FLOAT
-}
-
-fn has_one(kind: u8) -> bool
-    ensures { result ≡ has_one kind }
-{
-    if kind == kinds::CONSTANT {
-        return true;
-    }
-    kind == kinds::COMPARE
-}
-
 // How many bytes follow the byte of a kind.
+#[tactic(auto, unfolding(tally_laws::specs::Items::body_length))]
 fn body_length(kind: u8) -> usize
     ensures { (result ≡ body_length kind) × (result ≤ 25) }
 {
-    if has_two(kind) {
-        return lengths::SIZE_BODY;
-    }
-    if has_four(kind) {
-        return lengths::POOLED_BODY;
-    }
-    if has_eight(kind) {
-        return lengths::NUMBER_BODY;
-    }
-    if has_one(kind) {
-        return lengths::BYTE_BODY;
-    }
-    if kind == kinds::SLICE {
-        lengths::SLICE_BODY
-    } else {
-        0
+    match kind {
+        kinds::CHILD | kinds::DESCENDANT | kinds::FILTER | kinds::AND | kinds::OR => {
+            lengths::SIZE_BODY
+        }
+        kinds::NAME | kinds::TEXT => lengths::POOLED_BODY,
+        kinds::INDEX | kinds::INTEGER | kinds::FLOAT => lengths::NUMBER_BODY,
+        kinds::CONSTANT | kinds::COMPARE => lengths::BYTE_BODY,
+        kinds::SLICE => lengths::SLICE_BODY,
+        _ => 0,
     }
 }
 
@@ -92,6 +38,7 @@ fn count_items(plan: &[u8]) -> [u64; KINDS]
     ensures { CountsOf (kinds_of plan.now) result }
 {
     let mut counts = [0u64; KINDS];
+    // A loop over the place: the kind says how far the next item is.
     let mut at = 0;
     while at < plan.len() {
         let kind = plan[at];
@@ -106,8 +53,7 @@ fn count_items(plan: &[u8]) -> [u64; KINDS]
 fn fits(more: [u64; KINDS], counts: &[u64; KINDS]) -> bool
     ensures { Fits more counts.now result }
 {
-    let mut i = 0;
-    while i < KINDS {
+    for i in 0..KINDS {
         let old = counts[i];
         if MAX_INT < old {
             return false;
@@ -115,7 +61,6 @@ fn fits(more: [u64; KINDS], counts: &[u64; KINDS]) -> bool
         if MAX_INT - old < more[i] {
             return false;
         }
-        i += 1;
     }
     true
 }
@@ -126,15 +71,14 @@ fn sums(more: [u64; KINDS], counts: &[u64; KINDS]) -> [u64; KINDS]
     ensures { Sums more counts.now result }
 {
     let mut all = [0u64; KINDS];
-    let mut i = 0;
-    while i < KINDS {
+    for i in 0..KINDS {
         all[i] = counts[i] + more[i];
-        i += 1;
     }
     all
 }
 
 // Takes a plan with its pool into the counts and the number of plans. 0, or the refusal: 11, or 21 where a count would pass 2^53-1; then nothing is counted.
+// The refusal is a number, as it is handed to C.
 pub fn tally(plan: &[u8], pool: &[u8], counts: &mut [u64; KINDS], plans: &mut u64) -> u8
     ensures answers { Tallies plan.now pool.now counts.old plans.old (tallied result counts.new plans.new) }
     ensures only { (o : TallyOutcome) → Tallies plan.now pool.now counts.old plans.old o → o ≡ tallied result counts.new plans.new }

@@ -10,7 +10,7 @@ use mathlib.Core.Path.{refl, ap}
 use mathlib.Core.Bool.{true, false}
 use Rattle.plan_check.proofs.LawsSegs.{sort_of_lem, segs_start, segs_end, segs_none, segs_short, segs_zero, segs_stop, segs_more, segs_behind}
 use Rattle.plan_check.proofs.+forms.Goals as goal
-use Rattle.plan_check.proofs.+forms.Goals.{more-then-k-ne-AND+else-k-ne-OR, more-else-k-ne-AND, segs-then-k-ne-CHILD+else-k-ne-DESCENDANT, segs-else-k-ne-CHILD}
+use Rattle.plan_check.proofs.+forms.Goals.{more-else-k-ne-AND-via-then-k-ne-AND+else-k-ne-OR, more-else-k-ne-AND-via-else-k-ne-AND, segs-else-k-ne-CHILD-via-then-k-ne-CHILD+else-k-ne-DESCENDANT, segs-else-k-ne-CHILD-via-else-k-ne-CHILD}
 
 -- base
 pub base-oper-requires : goal.base-oper-requires
@@ -18,23 +18,23 @@ base-oper-requires t c = (omega (arith, c.decreases), c.requires)
 
 -- base
 pub base-side-requires : goal.base-side-requires
-base-side-requires t c = (omega (arith, c.decreases, (read_of c.oper.ensures c.in-Next.is).to), (asks_on c.requires (read_of c.oper.ensures c.in-Next.is), low_of (read_of c.oper.ensures c.in-Next.is)))
+base-side-requires t c = (omega (arith, c.decreases, (read_of c.oper.ensures c.in_ok-a.was).to), (asks_on c.requires (read_of c.oper.ensures c.in_ok-a.was), low_of (read_of c.oper.ensures c.in_ok-a.was)))
 
 -- base
 pub base-returns-then-kind-ne-TEST : goal.base-returns-then-kind-ne-TEST
-base-returns-then-kind-ne-TEST t c = base_side (short_of c.requires) (read_of c.oper.ensures c.in-Next.is) c.kind.ensures c.if-kind-ne-TEST.true c.side.ensures
+base-returns-then-kind-ne-TEST t c = base_side (short_of c.requires) (read_of c.oper.ensures c.in_ok-a.was) c.kind.ensures c.if-kind-ne-TEST.true c.side.ensures
 
 -- base
 pub base-tested-requires : goal.base-tested-requires
-base-tested-requires t c = (kind_in_at c.kind.ensures c.if-kind-ne-TEST.false, low_of (read_of c.oper.ensures c.in-Next.is), c.requires.deep)
+base-tested-requires t c = (kind_in_at c.kind.ensures c.if-kind-ne-TEST.false, low_of (read_of c.oper.ensures c.in_ok-a.was), c.requires.deep)
 
 -- base
-pub base-returns-in-Stop : goal.base-returns-in-Stop
-base-returns-in-Stop t c = base_none (none_of c.oper.ensures c.in-Stop.is)
+pub base-returns-in_err-a : goal.base-returns-in_err-a
+base-returns-in_err-a t c = rw c.from_residual.ensures (base_none (none_of c.oper.ensures c.in_err-a.was))
 
 -- base
-pub base-returns-else-kind-ne-TEST : goal.base-returns-else-kind-ne-TEST
-base-returns-else-kind-ne-TEST t c = base_tested (short_of c.requires) (read_of c.oper.ensures c.in-Next.is) c.kind.ensures (read_of c.oper.ensures c.in-Next.is).held c.if-kind-ne-TEST.false c.tested.ensures
+pub base-returns : goal.base-returns
+base-returns t c = base_tested (short_of c.requires) (read_of c.oper.ensures c.in_ok-a.was) c.kind.ensures (read_of c.oper.ensures c.in_ok-a.was).held c.if-kind-ne-TEST.false c.tested.ensures
 
 -- basis
 pub basis-overflow_add-at : goal.basis-overflow_add-at
@@ -122,15 +122,15 @@ framed-test-requires t c = (omega (arith, c.decreases, lent_long c.requires (λ 
 
 -- framed
 pub framed-overflow_add-result : goal.framed-overflow_add-result
-framed-overflow_add-result t c = omega (arith, low_of (read_of c.test.ensures c.in-Next.is), c.requires.deep)
+framed-overflow_add-result t c = omega (arith, low_of (read_of c.test.ensures c.in_ok-g.was), c.requires.deep)
 
 -- framed
-pub framed-returns-in-Stop : goal.framed-returns-in-Stop
-framed-returns-in-Stop t c = framed_none c.requires (λ i. (c.type_inv.plan i).fits) c.if-plan-at-lt-SIZE_BODY.false c.word16-n.ensures c.if-plan-a.false refl (none_of c.test.ensures c.in-Stop.is)
+pub framed-returns-in_err-g : goal.framed-returns-in_err-g
+framed-returns-in_err-g t c = rw c.from_residual.ensures (framed_none c.requires (λ i. (c.type_inv.plan i).fits) c.if-plan-at-lt-SIZE_BODY.false c.word16-n.ensures c.if-plan-a.false refl (none_of c.test.ensures c.in_err-g.was))
 
 -- framed
-pub framed-returns-in-Next : goal.framed-returns-in-Next
-framed-returns-in-Next t c = framed_found c.requires (λ i. (c.type_inv.plan i).fits) c.if-plan-at-lt-SIZE_BODY.false c.word16-n.ensures c.if-plan-a.false refl c.if-room-eq0.false (read_of c.test.ensures c.in-Next.is)
+pub framed-returns : goal.framed-returns
+framed-returns t c = framed_found c.requires (λ i. (c.type_inv.plan i).fits) c.if-plan-at-lt-SIZE_BODY.false c.word16-n.ensures c.if-plan-a.false refl c.if-room-eq0.false (read_of c.test.ensures c.in_ok-g.was)
 
 -- more
 pub more-loop-at-init : goal.more-loop-at-init
@@ -166,19 +166,19 @@ more-overflow_add-at-else-k-eq-NOT t c = omega (arith, c.loop-at-test.true)
 
 -- more
 pub more-framed-requires : goal.more-framed-requires
-more-framed-requires t c = (omega (arith, c.decreases, c.loop-at.invariant.from, c.loop-at-test.true), more_behind c.loop-at.invariant c.kind-k.ensures c.if-k-eq-NOT.false (elim c.if-k-ne-AND.branch [ more-then-k-ne-AND+else-k-ne-OR w ↦ (false, w.if-k-ne-OR.false) | more-else-k-ne-AND w ↦ (true, w.if-k-ne-AND.false) ]))
+more-framed-requires t c = (omega (arith, c.decreases, c.loop-at.invariant.from, c.loop-at-test.true), more_behind c.loop-at.invariant c.kind-k.ensures c.if-k-eq-NOT.false (elim c.else-k-ne-AND.branch [ more-else-k-ne-AND-via-then-k-ne-AND+else-k-ne-OR w ↦ (false, w.if-k-ne-OR.false) | more-else-k-ne-AND-via-else-k-ne-AND w ↦ (true, w.if-k-ne-AND.false) ]))
 
 -- more
-pub more-returns-in-Stop : goal.more-returns-in-Stop
-more-returns-in-Stop t c = more_stop c.loop-at.invariant c.kind-k.ensures c.if-k-eq-NOT.false (elim c.if-k-ne-AND.branch [ more-then-k-ne-AND+else-k-ne-OR w ↦ (false, w.if-k-ne-OR.false) | more-else-k-ne-AND w ↦ (true, w.if-k-ne-AND.false) ]) (none_of c.framed.ensures c.in-Stop.is)
+pub more-returns-in_err-g : goal.more-returns-in_err-g
+more-returns-in_err-g t c = rw c.from_residual.ensures (more_stop c.loop-at.invariant c.kind-k.ensures c.if-k-eq-NOT.false (elim c.else-k-ne-AND.branch [ more-else-k-ne-AND-via-then-k-ne-AND+else-k-ne-OR w ↦ (false, w.if-k-ne-OR.false) | more-else-k-ne-AND-via-else-k-ne-AND w ↦ (true, w.if-k-ne-AND.false) ]) (none_of c.framed.ensures c.in_err-g.was))
 
 -- more
 pub more-loop-at-smaller : goal.more-loop-at-smaller
-more-loop-at-smaller t c = omega (arith, (read_of c.framed.ensures c.in-Next.is).from, c.loop-at-test.true)
+more-loop-at-smaller t c = omega (arith, (read_of c.framed.ensures c.in_ok-g.was).from, c.loop-at-test.true)
 
 -- more
 pub more-loop-at-preserved : goal.more-loop-at-preserved
-more-loop-at-preserved t c = more_right c.loop-at.invariant c.kind-k.ensures c.if-k-eq-NOT.false (elim c.if-k-ne-AND.branch [ more-then-k-ne-AND+else-k-ne-OR w ↦ (false, w.if-k-ne-OR.false) | more-else-k-ne-AND w ↦ (true, w.if-k-ne-AND.false) ]) c.most-h.ensures (read_of c.framed.ensures c.in-Next.is)
+more-loop-at-preserved t c = more_right c.loop-at.invariant c.kind-k.ensures c.if-k-eq-NOT.false (elim c.else-k-ne-AND.branch [ more-else-k-ne-AND-via-then-k-ne-AND+else-k-ne-OR w ↦ (false, w.if-k-ne-OR.false) | more-else-k-ne-AND-via-else-k-ne-AND w ↦ (true, w.if-k-ne-AND.false) ]) c.most-h.ensures (read_of c.framed.ensures c.in_ok-g.was)
 
 -- more
 pub more-returns : goal.more-returns
@@ -190,15 +190,15 @@ oper-basis-requires t c = (omega (arith, c.decreases), c.requires)
 
 -- oper
 pub oper-calls-requires : goal.oper-calls-requires
-oper-calls-requires t c = ((read_of c.basis.ensures c.in-Next.is).to, low_of (read_of c.basis.ensures c.in-Next.is), c.requires.deep)
+oper-calls-requires t c = ((read_of c.basis.ensures c.in_ok-g.was).to, low_of (read_of c.basis.ensures c.in_ok-g.was), c.requires.deep)
 
 -- oper
-pub oper-returns-in-Stop : goal.oper-returns-in-Stop
-oper-returns-in-Stop t c = oper_none (none_of c.basis.ensures c.in-Stop.is)
+pub oper-returns-in_err-g : goal.oper-returns-in_err-g
+oper-returns-in_err-g t c = rw c.from_residual.ensures (oper_none (none_of c.basis.ensures c.in_err-g.was))
 
 -- oper
-pub oper-returns-in-Next : goal.oper-returns-in-Next
-oper-returns-in-Next t c = oper_next (short_of c.requires) (read_of c.basis.ensures c.in-Next.is) c.calls.ensures
+pub oper-returns : goal.oper-returns
+oper-returns t c = oper_next (short_of c.requires) (read_of c.basis.ensures c.in_ok-g.was) c.calls.ensures
 
 -- segs
 pub segs-loop-from-init : goal.segs-loop-from-init
@@ -234,7 +234,7 @@ segs-word16-n-requires t c = omega (arith, c.if-plan-at-lt-SIZE_ITEM.false)
 
 -- segs
 pub segs-returns-then-n-eq0 : goal.segs-returns-then-n-eq0
-segs-returns-then-n-eq0 t c = segs_zero c.loop-from.invariant c.kind-k.ensures c.if-k-eq-END.false (λ i. (c.type_inv.plan i).fits) c.if-plan-at-lt-SIZE_ITEM.false c.word16-n.ensures (elim c.if-k-ne-CHILD.branch [ segs-then-k-ne-CHILD+else-k-ne-DESCENDANT w ↦ (false, w.if-k-ne-DESCENDANT.false) | segs-else-k-ne-CHILD w ↦ (true, w.if-k-ne-CHILD.false) ]) c.if-n-eq0.true
+segs-returns-then-n-eq0 t c = segs_zero c.loop-from.invariant c.kind-k.ensures c.if-k-eq-END.false (λ i. (c.type_inv.plan i).fits) c.if-plan-at-lt-SIZE_ITEM.false c.word16-n.ensures (elim c.else-k-ne-CHILD.branch [ segs-else-k-ne-CHILD-via-then-k-ne-CHILD+else-k-ne-DESCENDANT w ↦ (false, w.if-k-ne-DESCENDANT.false) | segs-else-k-ne-CHILD-via-else-k-ne-CHILD w ↦ (true, w.if-k-ne-CHILD.false) ]) c.if-n-eq0.true
 
 -- segs
 pub segs-overflow_add-at-in-loop-from : goal.segs-overflow_add-at-in-loop-from
@@ -245,20 +245,20 @@ pub segs-sels-requires : goal.segs-sels-requires
 segs-sels-requires t c = (omega (arith, c.decreases, c.loop-from.invariant.from, c.if-plan-at-lt-SIZE_ITEM.false), (segs_behind c.loop-from.invariant c.if-plan-at-lt-SIZE_ITEM.false, omega arith))
 
 -- segs
-pub segs-returns-in-Stop : goal.segs-returns-in-Stop
-segs-returns-in-Stop t c = segs_stop c.loop-from.invariant c.kind-k.ensures c.if-k-eq-END.false (λ i. (c.type_inv.plan i).fits) c.if-plan-at-lt-SIZE_ITEM.false c.word16-n.ensures (elim c.if-k-ne-CHILD.branch [ segs-then-k-ne-CHILD+else-k-ne-DESCENDANT w ↦ (false, w.if-k-ne-DESCENDANT.false) | segs-else-k-ne-CHILD w ↦ (true, w.if-k-ne-CHILD.false) ]) (none_of c.sels.ensures c.in-Stop.is)
+pub segs-returns-in_err-g : goal.segs-returns-in_err-g
+segs-returns-in_err-g t c = rw c.from_residual.ensures (segs_stop c.loop-from.invariant c.kind-k.ensures c.if-k-eq-END.false (λ i. (c.type_inv.plan i).fits) c.if-plan-at-lt-SIZE_ITEM.false c.word16-n.ensures (elim c.else-k-ne-CHILD.branch [ segs-else-k-ne-CHILD-via-then-k-ne-CHILD+else-k-ne-DESCENDANT w ↦ (false, w.if-k-ne-DESCENDANT.false) | segs-else-k-ne-CHILD-via-else-k-ne-CHILD w ↦ (true, w.if-k-ne-CHILD.false) ]) (none_of c.sels.ensures c.in_err-g.was))
 
 -- segs
 pub segs-single-sort-requires : goal.segs-single-sort-requires
-segs-single-sort-requires t c = (c.loop-from.invariant.bit, sort_of_lem c.word16-n.result (read_of c.sels.ensures c.in-Next.is))
+segs-single-sort-requires t c = (c.loop-from.invariant.bit, sort_of_lem c.word16-n.result (read_of c.sels.ensures c.in_ok-g.was))
 
 -- segs
 pub segs-loop-from-smaller : goal.segs-loop-from-smaller
-segs-loop-from-smaller t c = omega (arith, (read_of c.sels.ensures c.in-Next.is).from, c.if-plan-at-lt-SIZE_ITEM.false)
+segs-loop-from-smaller t c = omega (arith, (read_of c.sels.ensures c.in_ok-g.was).from, c.if-plan-at-lt-SIZE_ITEM.false)
 
 -- segs
 pub segs-loop-from-preserved : goal.segs-loop-from-preserved
-segs-loop-from-preserved t c = segs_more c.loop-from.invariant c.kind-k.ensures c.if-k-eq-END.false (λ i. (c.type_inv.plan i).fits) c.if-plan-at-lt-SIZE_ITEM.false c.word16-n.ensures (elim c.if-k-ne-CHILD.branch [ segs-then-k-ne-CHILD+else-k-ne-DESCENDANT w ↦ (false, w.if-k-ne-DESCENDANT.false) | segs-else-k-ne-CHILD w ↦ (true, w.if-k-ne-CHILD.false) ]) c.most-h.ensures c.single-sort.ensures (read_of c.sels.ensures c.in-Next.is)
+segs-loop-from-preserved t c = segs_more c.loop-from.invariant c.kind-k.ensures c.if-k-eq-END.false (λ i. (c.type_inv.plan i).fits) c.if-plan-at-lt-SIZE_ITEM.false c.word16-n.ensures (elim c.else-k-ne-CHILD.branch [ segs-else-k-ne-CHILD-via-then-k-ne-CHILD+else-k-ne-DESCENDANT w ↦ (false, w.if-k-ne-DESCENDANT.false) | segs-else-k-ne-CHILD-via-else-k-ne-CHILD w ↦ (true, w.if-k-ne-CHILD.false) ]) c.most-h.ensures c.single-sort.ensures (read_of c.sels.ensures c.in_ok-g.was)
 
 -- sel
 pub sel-overflow_add-at : goal.sel-overflow_add-at
@@ -329,12 +329,12 @@ pub sels-sel-requires : goal.sels-sel-requires
 sels-sel-requires t c = (omega (arith, c.decreases, c.loop-g.invariant.from), c.loop-g.invariant.start)
 
 -- sels
-pub sels-returns-in-Stop : goal.sels-returns-in-Stop
-sels-returns-in-Stop t c = sels_none c.loop-g.invariant (none_of c.sel.ensures c.in-Stop.is)
+pub sels-returns-in_err-g : goal.sels-returns-in_err-g
+sels-returns-in_err-g t c = rw c.from_residual.ensures (sels_none c.loop-g.invariant (none_of c.sel.ensures c.in_err-g.was))
 
 -- sels
 pub sels-returns-then-left-eq1 : goal.sels-returns-then-left-eq1
-sels-returns-then-left-eq1 t c = sels_last c.loop-g.invariant (read_of c.sel.ensures c.in-Next.is) c.most-h.ensures c.if-left-eq1.true
+sels-returns-then-left-eq1 t c = sels_last c.loop-g.invariant (read_of c.sel.ensures c.in_ok-g.was) c.most-h.ensures c.if-left-eq1.true
 
 -- sels
 pub sels-overflow_sub-left : goal.sels-overflow_sub-left
@@ -346,52 +346,52 @@ sels-loop-g-smaller t c = omega (arith, c.loop-g.invariant.some)
 
 -- sels
 pub sels-loop-g-preserved : goal.sels-loop-g-preserved
-sels-loop-g-preserved t c = sels_more c.loop-g.invariant (read_of c.sel.ensures c.in-Next.is) c.most-h.ensures c.if-left-eq1.false
+sels-loop-g-preserved t c = sels_more c.loop-g.invariant (read_of c.sel.ensures c.in_ok-g.was) c.most-h.ensures c.if-left-eq1.false
 
 -- side
-pub side-returns-then-left-eq0 : goal.side-returns-then-left-eq0
-side-returns-then-left-eq0 t c = side_flat c.args.a.h c.args.a.sort c.if-left-eq0.true
+pub side-returns-then-a-eq0 : goal.side-returns-then-a-eq0
+side-returns-then-a-eq0 t c = side_flat c.args.a.h c.args.a.sort c.if-a-eq0.true
 
 -- side
 pub side-oper-requires : goal.side-oper-requires
 side-oper-requires t c = (omega (arith, c.decreases), c.requires.0)
 
 -- side
-pub side-returns-then-right-eq0 : goal.side-returns-then-right-eq0
-side-returns-then-right-eq0 t c =
-    let rb = read_of c.oper.ensures c.in-Next.is in
-    side_plural c.args.a.h c.args.a.sort (short_of c.requires.0) rb c.if-right-eq0.true
+pub side-returns-then-b-eq0 : goal.side-returns-then-b-eq0
+side-returns-then-b-eq0 t c =
+    let rb = read_of c.oper.ensures c.in_ok-b.was in
+    side_plural c.args.a.h c.args.a.sort (short_of c.requires.0) rb c.if-b-eq0.true
 
 -- side
 pub side-overflow_add-h : goal.side-overflow_add-h
 side-overflow_add-h t c =
-    let rb = read_of c.oper.ensures c.in-Next.is in
-    let rc = small_read {L = c.args.pool.now} {room = c.args.room} c.relation.ensures c.in-Next-relation.is rb.held in
+    let rb = read_of c.oper.ensures c.in_ok-b.was in
+    let rc = small_read {L = c.args.pool.now} {room = c.args.room} c.relation.ensures c.in_ok-c.was rb.held in
     omega (arith, relation_small rc, c.most.ensures, low_of rb, c.requires.1, c.requires.0.deep)
 
 -- side
 pub side-returns-then-room-h : goal.side-returns-then-room-h
 side-returns-then-room-h t c =
-    let rb = read_of c.oper.ensures c.in-Next.is in
-    let rc = small_read c.relation.ensures c.in-Next-relation.is rb.held in
-    side_deep c.args.a.h c.args.a.sort (short_of c.requires.0) rb rc (ap (λ (z : ℕ). c.in-Next-relation.c.sort + z) c.most.ensures) c.if-room-h.true
+    let rb = read_of c.oper.ensures c.in_ok-b.was in
+    let rc = small_read c.relation.ensures c.in_ok-c.was rb.held in
+    side_deep c.args.a.h c.args.a.sort (short_of c.requires.0) rb rc (ap (λ (z : ℕ). c.in_ok-c.c.sort + z) c.most.ensures) c.if-room-h.true
 
 -- side
-pub side-returns-in-Stop : goal.side-returns-in-Stop
-side-returns-in-Stop t c = side_none c.args.a.h c.args.a.sort (none_of c.oper.ensures c.in-Stop.is)
+pub side-returns-in_err-b : goal.side-returns-in_err-b
+side-returns-in_err-b t c = rw c.from_residual.ensures (side_none c.args.a.h c.args.a.sort (none_of c.oper.ensures c.in_err-b.was))
 
 -- side
-pub side-returns-in-Stop-relation : goal.side-returns-in-Stop-relation
-side-returns-in-Stop-relation t c =
-    let rb = read_of c.oper.ensures c.in-Next.is in
-    side_unasked c.args.a.h c.args.a.sort (short_of c.requires.0) rb (none_of ((small_none c.relation.ensures c.in-Stop-relation.is).any _ _ rb.held) refl)
+pub side-returns-in_err-c : goal.side-returns-in_err-c
+side-returns-in_err-c t c =
+    let rb = read_of c.oper.ensures c.in_ok-b.was in
+    rw c.from_residual-in_err-c.ensures (side_unasked c.args.a.h c.args.a.sort (short_of c.requires.0) rb (none_of ((small_none c.relation.ensures c.in_err-c.was).any _ _ rb.held) refl))
 
 -- side
-pub side-returns-else-room-h : goal.side-returns-else-room-h
-side-returns-else-room-h t c =
-    let rb = read_of c.oper.ensures c.in-Next.is in
-    let rc = small_read c.relation.ensures c.in-Next-relation.is rb.held in
-    side_found c.args.a.h c.args.a.sort (short_of c.requires.0) rb rc (ap (λ (z : ℕ). c.in-Next-relation.c.sort + z) c.most.ensures) c.if-left-eq0.false c.if-right-eq0.false c.if-room-h.false
+pub side-returns : goal.side-returns
+side-returns t c =
+    let rb = read_of c.oper.ensures c.in_ok-b.was in
+    let rc = small_read c.relation.ensures c.in_ok-c.was rb.held in
+    side_found c.args.a.h c.args.a.sort (short_of c.requires.0) rb rc (ap (λ (z : ℕ). c.in_ok-c.c.sort + z) c.most.ensures) c.if-a-eq0.false c.if-b-eq0.false c.if-room-h.false
 
 -- test
 pub test-base-requires : goal.test-base-requires
@@ -399,12 +399,12 @@ test-base-requires t c = (omega (arith, c.decreases), c.requires)
 
 -- test
 pub test-more-requires : goal.test-more-requires
-test-more-requires t c = (omega (arith, c.decreases, (read_of c.base.ensures c.in-Next.is).to), (asks_on c.requires (read_of c.base.ensures c.in-Next.is), low_of (read_of c.base.ensures c.in-Next.is)))
+test-more-requires t c = (omega (arith, c.decreases, (read_of c.base.ensures c.in_ok-g.was).to), (asks_on c.requires (read_of c.base.ensures c.in_ok-g.was), low_of (read_of c.base.ensures c.in_ok-g.was)))
 
 -- test
-pub test-returns-in-Stop : goal.test-returns-in-Stop
-test-returns-in-Stop t c = test_none (none_of c.base.ensures c.in-Stop.is)
+pub test-returns-in_err-g : goal.test-returns-in_err-g
+test-returns-in_err-g t c = rw c.from_residual.ensures (test_none (none_of c.base.ensures c.in_err-g.was))
 
 -- test
-pub test-returns-in-Next : goal.test-returns-in-Next
-test-returns-in-Next t c = test_more (short_of c.requires) (read_of c.base.ensures c.in-Next.is) c.more.ensures
+pub test-returns : goal.test-returns
+test-returns t c = test_more (short_of c.requires) (read_of c.base.ensures c.in_ok-g.was) c.more.ensures

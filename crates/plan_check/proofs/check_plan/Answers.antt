@@ -2,6 +2,8 @@
 use Rattle.plan_check.proofs.LawsTop.{told, top_plan_long, top_pool_long, top_kind, top_start, top_stop, top_plan_rest, top_pool_end}
 use Rattle.plan_check.proofs.Steps.{read_of, none_of}
 use mathlib.Core.Path.{refl}
+use borrow.Author.Tests.{ne_eqb}
+use lib.ListN.{length}
 use Rattle.plan_check.proofs.check_plan.Goals as goal
 
 pub returns-then-plan-gt-MAX_PLAN : goal.returns-then-plan-gt-MAX_PLAN
@@ -16,11 +18,11 @@ returns-then-kind-ne-ROOT c = told (top_kind c.kind.ensures c.if-kind-ne-ROOT.tr
 pub segs-requires : goal.segs-requires
 segs-requires c = top_start c.kind.ensures c.if-kind-ne-ROOT.false c.if-plan-gt-MAX_PLAN.false c.if-pool-gt-MAX_PLAN.false
 
-pub returns-then-at-plan : goal.returns-then-at-plan
-returns-then-at-plan c = told (top_plan_rest c.kind.ensures c.if-kind-ne-ROOT.false c.if-plan-gt-MAX_PLAN.false c.if-pool-gt-MAX_PLAN.false (read_of c.segs.ensures c.in-Next.is) c.if-at-plan.true)
+pub returns-in-None : goal.returns-in-None
+returns-in-None c = told (top_stop c.kind.ensures c.if-kind-ne-ROOT.false (none_of c.segs.ensures c.in-None.is))
 
-pub returns-in-Stop : goal.returns-in-Stop
-returns-in-Stop c = told (top_stop c.kind.ensures c.if-kind-ne-ROOT.false (none_of c.segs.ensures c.in-Stop.is))
+pub returns-then-g-plan : goal.returns-then-g-plan
+returns-then-g-plan c = told (top_pool_end c.kind.ensures c.if-kind-ne-ROOT.false c.if-plan-gt-MAX_PLAN.false c.if-pool-gt-MAX_PLAN.false (read_of c.segs.ensures c.in-Some.is) c.if-g-plan.true _ refl)
 
-pub returns-else-at-plan : goal.returns-else-at-plan
-returns-else-at-plan c = told (top_pool_end c.kind.ensures c.if-kind-ne-ROOT.false c.if-plan-gt-MAX_PLAN.false c.if-pool-gt-MAX_PLAN.false (read_of c.segs.ensures c.in-Next.is) c.if-at-plan.false _ refl)
+pub returns-else-g-plan : goal.returns-else-g-plan
+returns-else-g-plan c = rw (ne_eqb c.in-Some.g.at (length c.args.plan.now) c.if-g-plan.false) (told (top_plan_rest c.kind.ensures c.if-kind-ne-ROOT.false c.if-plan-gt-MAX_PLAN.false c.if-pool-gt-MAX_PLAN.false (read_of c.segs.ensures c.in-Some.is) c.if-g-plan.false))

@@ -10,7 +10,7 @@ use Rattle.tally.proofs.Laws.{every_at, adding_start, adding_on, adding_end}
 use Rattle.tally.proofs.sums.Goals as goal
 
 pub loop-i-init : goal.loop-i-init
-loop-i-init c = (omega arith, adding_start c.args.more c.args.counts.now)
+loop-i-init c = (adding_start c.args.more c.args.counts.now)
 
 pub overflow_add-all : goal.overflow_add-all
 overflow_add-all c =
@@ -18,7 +18,7 @@ overflow_add-all c =
     omega (arith, h)
 
 pub loop-i-preserved : goal.loop-i-preserved
-loop-i-preserved c = (omega arith, adding_on c.args.more c.args.counts.now c.loop-i.all c.loop-i.i c.loop-i.invariant.1 c.loop-i-test.true)
+loop-i-preserved c = (adding_on c.args.more c.args.counts.now c.loop-i.all c.loop-i.i c.loop-i.invariant c.loop-i-test.true)
 
 pub returns : goal.returns
-returns c = adding_end c.args.more c.args.counts.now c.loop-i.all c.loop-i.i c.loop-i.invariant.1 c.loop-i-test.false
+returns c = adding_end c.args.more c.args.counts.now c.loop-i.all c.loop-i.i c.loop-i.invariant c.loop-i-test.false

@@ -1,9 +1,0 @@
--- `plan_check_vectors::find` meets its contract: the place never passes the end.
-use Rattle.std.proofs.Common.{◌≤◌, ◌-◌, length}
-use Rattle.plan_check_vectors.proofs.find.Given as goal
-
-abbrev pub invariant-loop-i : goal.invariant-loop-i
-invariant-loop-i l = (l.from ≤ l.i) × (l.i ≤ length l.s)
-
-abbrev pub decreases-loop-i : goal.decreases-loop-i
-decreases-loop-i l = length l.s - l.i
