@@ -6,22 +6,19 @@
 
 #![tactic(auto)]
 
-ghost use Rattle.std.specs.Prelude.{◌≤◌, length};
-
-use program_console::{input, output, rooms};
-use program_lines::{Decoded, Number};
+use program_console::input::Lines;
+use program_console::{output, rooms};
+use program_lines::WordError;
+use program_lines::words::Words;
+use std::alloc::Global;
 use std::io;
+use std::io::Read;
 
-const INPUT_ROOM: usize = 131072;
+// How much of the input is read.
+const INPUT_ROOM: u32 = 131072;
 
-const BLANK: u8 = b' ';
-
-const NEWLINE: u8 = b'\n';
-
-fn bad_line(rt: &impl Print) -> io::Result<bool> {
-    output::text(rt, b"bad line\n")?;
-    Ok(false)
-}
+// Room for a query.
+const QUERY_ROOM: usize = 65536;
 
 // Compiles a query and writes what it comes to. The answer is whether that is the refusal given.
 fn verdict(
@@ -31,8 +28,7 @@ fn verdict(
     plan: &mut [u8],
     pool: &mut [u8],
 ) -> io::Result<bool> {
-    let c = refusals::of_compile(compile::compile(query, plan, pool));
-    let refusal = c.refusal as usize;
+    let refusal = refusals::of_compile(compile::compile(query, plan, pool)).refusal as usize;
     if refusal == 0 {
         output::text(rt, b"ok")?;
     } else {
@@ -47,79 +43,43 @@ fn verdict(
     Ok(refusal == want)
 }
 
-// The verdict on the query whose digits stand between two places.
-fn decoded(
-    rt: &impl Print,
-    s: &[u8],
-    from: usize,
-    to: usize,
-    want: usize,
-    query: &mut [u8],
-    plan: &mut [u8],
-    pool: &mut [u8],
-) -> io::Result<bool>
-    requires { (from ≤ to) × (to ≤ length s.now) }
-{
-    match program_lines::decode(s, from, to, query) {
-        Decoded::Bytes(n) => verdict(rt, &query[..n], want, plan, pool),
-        Decoded::TooLong => bad_line(rt),
-        Decoded::Bad => bad_line(rt),
-    }
+// The query of a line and the refusal that is wanted. The number is the rest of the line.
+fn operands(alloc: Global, line: &[u8]) -> Result<(Vec<u8>, usize), WordError> {
+    let mut words = Words::new(line);
+    let query = words.next_word().ok_or(WordError::Bad)?;
+    let want = program_lines::read_number(words.rest().ok_or(WordError::Bad)?)?;
+    Ok((program_lines::decode(alloc, query, QUERY_ROOM)?, want))
 }
 
-// The verdict on the line between two places.
-fn line(
+// The verdict on a line.
+fn verdict_of_line(
     rt: &impl Print,
-    s: &[u8],
-    from: usize,
-    to: usize,
-    query: &mut [u8],
+    alloc: Global,
+    line: &[u8],
     plan: &mut [u8],
     pool: &mut [u8],
-) -> io::Result<bool>
-    requires { (from ≤ to) × (to ≤ length s.now) }
-{
-    let middle = program_lines::find(s, from, to, BLANK);
-    if middle == to {
-        return bad_line(rt);
+) -> io::Result<bool> {
+    match operands(alloc, line) {
+        Ok((query, want)) => verdict(rt, &query, want, plan, pool),
+        Err(error) => {
+            output::bad_line(rt, error)?;
+            Ok(false)
+        }
     }
-    match program_lines::read_number(s, middle + 1, to) {
-        Number::Is(want) => decoded(rt, s, from, middle, want, query, plan, pool),
-        Number::Not => bad_line(rt),
-    }
-}
-
-fn one_unless(same: bool) -> u64
-    ensures { result ≤ 1 }
-{
-    if same { 0 } else { 1 }
 }
 
 // The verdict on each line, and the counts.
-fn run(
-    rt: &impl Print,
-    s: &[u8],
-    query: &mut [u8],
-    plan: &mut [u8],
-    pool: &mut [u8],
-) -> io::Result<()> {
-    let mut at = 0;
-    let mut count = 0u64;
-    let mut other = 0u64;
-    while at < s.len() {
-        let end = program_lines::find(s, at, s.len(), NEWLINE);
-        other += one_unless(line(rt, s, at, end, query, plan, pool)?);
-        count += 1;
-        at = end + 1;
-    }
-    println!(rt; "{count} queries, {other} answers differ")
-}
-
 fn main(rt: HostRuntime) -> io::Result<()> {
-    let mut room = [0u8; INPUT_ROOM];
-    let mut query = rooms::large_buffer();
+    let alloc = rt.alloc();
     let mut plan = rooms::large_buffer();
     let mut pool = rooms::large_buffer();
-    let n = input::full(&mut rt.reader(), &mut room)?;
-    run(&rt, &room[..n], &mut query, &mut plan, &mut pool)
+    let mut count = 0u64;
+    let mut other = 0u64;
+    let input = rt.reader().take(u64::from(INPUT_ROOM));
+    for line in Lines::new(alloc, input, INPUT_ROOM)? {
+        let same = verdict_of_line(&rt, alloc, &line?, &mut plan, &mut pool)?;
+        other = other.saturating_add(u64::from(!same));
+        count = count.saturating_add(1);
+    }
+    println!(rt; "{count} queries, {other} answers differ")
 }

@@ -13,9 +13,12 @@ ghost use Rattle.std.specs.Prelude.{◌≤◌, length};
 
 use number_literals::Literal;
 use number_parse::{IntError, IntRead, NumberRead};
-use program_console::{input, output, rooms};
+use program_console::{input, output};
 use std::cmp::Ordering;
 use std::io;
+
+// How much of the input is read.
+const INPUT_ROOM: u32 = 65536;
 
 // The sign's weight, and the bits of an infinity.
 const SIGN: u64 = 9223372036854775808;
@@ -224,7 +227,6 @@ fn run(rt: &impl Print, s: &[u8]) -> io::Result<()> {
 }
 
 fn main(rt: HostRuntime) -> io::Result<()> {
-    let mut buffer = rooms::large_buffer();
-    let n = input::full(&mut rt.reader(), &mut buffer)?;
-    run(&rt, &buffer[..n])
+    let input = input::first(rt.alloc(), &mut rt.reader(), INPUT_ROOM)?;
+    run(&rt, &input)
 }

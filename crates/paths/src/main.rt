@@ -5,17 +5,15 @@
 
 #![tactic(auto)]
 
-use program_console::{input, output, rooms};
+use program_console::input::Lines;
+use program_console::output;
 use refusals::RunNumbers;
 use std::io;
-use std::io::Read;
 
-// Room for one byte more than a query may have: of a longer line so many bytes are taken, and the query is refused by its length all the same.
-const QUERY_ROOM: usize = 4097;
+// The most bytes that a query may have. Of a longer line one byte more is taken, and the query is refused by its length all the same.
+const QUERY_ROOM: u32 = 4096;
 // How many places the list of selected nodes has.
 const PLACES: usize = 4096;
-// How many lines are answered at most.
-const LINES: u64 = 0xffff_ffff_ffff_ffff;
 
 // Writes what a query came to.
 fn show(rt: &impl Print, outcome: RunNumbers, list: &[u32]) -> io::Result<()> {
@@ -47,39 +45,10 @@ fn answer(rt: &impl Print, query: &[u8]) -> io::Result<()> {
     show(rt, refusals::of_select(selection), &list)
 }
 
-// Answers the line of which so many bytes were read, or one more than its room has if it has more.
-fn end_line(rt: &impl Print, line: &[u8], used: usize) -> io::Result<()> {
-    if line.len() < used {
-        return answer(rt, line);
-    }
-    answer(rt, &line[0..used])
-}
-
 // Answers every line.
-fn run(
-    rt: &impl Print,
-    reader: &mut impl Read,
-    buffer: &mut [u8],
-    line: &mut [u8],
-) -> io::Result<()> {
-    let mut at = 0;
-    let mut end = 0;
-    let mut left = LINES;
-    while 0 < left {
-        let next = input::next(reader, buffer, at, end, line)?;
-        if !next.found {
-            return Ok(());
-        }
-        end_line(rt, line, next.used)?;
-        at = next.at;
-        end = next.end;
-        left -= 1;
+fn main(rt: HostRuntime) -> io::Result<()> {
+    for line in Lines::new(rt.alloc(), rt.reader(), QUERY_ROOM)? {
+        answer(&rt, &line?)?;
     }
     Ok(())
-}
-
-fn main(rt: HostRuntime) -> io::Result<()> {
-    let mut buffer = rooms::large_buffer();
-    let mut line = [0u8; QUERY_ROOM];
-    run(&rt, &mut rt.reader(), &mut buffer, &mut line)
 }

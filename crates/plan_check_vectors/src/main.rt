@@ -9,6 +9,9 @@ ghost use Rattle.std.specs.Prelude.{◌≡◌, ◌+◌, ◌≤◌, ◌<◌, leng
 use program_console::{input, output, rooms};
 use std::io;
 
+// How much of the input is read.
+const INPUT_ROOM: u32 = 65536;
+
 // The number of a hexadecimal digit, 0 of any other byte.
 fn digit(b: u8) -> usize
     ensures { result ≤ 15 }
@@ -102,9 +105,8 @@ fn lines(rt: &impl Print, s: &[u8], code: &mut [u8], pool: &mut [u8]) -> io::Res
 }
 
 fn main(rt: HostRuntime) -> io::Result<()> {
-    let mut room = rooms::large_buffer();
     let mut code = rooms::large_buffer();
     let mut pool = rooms::large_buffer();
-    let n = input::full(&mut rt.reader(), &mut room)?;
-    lines(&rt, &room[..n], &mut code, &mut pool)
+    let input = input::first(rt.alloc(), &mut rt.reader(), INPUT_ROOM)?;
+    lines(&rt, &input, &mut code, &mut pool)
 }

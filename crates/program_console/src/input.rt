@@ -1,132 +1,74 @@
-// Lines of an input. A line ends at a line feed, or where the input ends; every other byte belongs to it. Each function that reads fails where a read does.
-ghost use Rattle.std.specs.Prelude.{◌≤◌, length, IfOk};
+// What a program reads: its input line by line, or its first bytes. A line ends at a line feed, or where the input ends; every other byte belongs to it.
+ghost use Rattle.std.specs.Prelude.{◌≤◌, IfOk, vec_len};
 
+use std::alloc::Global;
 use std::io;
-use std::io::Read;
+use std::io::{BufRead, BufReader, Read};
 
 const NEWLINE: u8 = b'\n';
-// How many bytes of a line are taken at most.
-const BYTES: u64 = 0xffff_ffff_ffff_ffff;
 
-// The next byte of the input. Those that were read and not yet taken stand in the buffer between two places.
-#[derive(Clone, Copy)]
-struct Taken {
-    // Whether there is one.
-    more: bool,
-    byte: u8,
-    at: usize,
-    end: usize,
+// The lines of an input. Of a line of more than `room` bytes, one more than these are kept.
+#[derive(Drop)]
+pub struct Lines<R> {
+    reader: BufReader<R>,
+    alloc: Global,
+    room: u32,
+    // How many lines are still read at most.
+    left: u64,
 }
 
-// The next line of the input.
-#[derive(Clone, Copy)]
-pub struct Line {
-    // Whether there is one.
-    pub found: bool,
-    // How many bytes it has, or one more than there is room for.
-    pub used: usize,
-    // The places of the buffer between which the bytes of later lines stand.
-    pub at: usize,
-    pub end: usize,
+impl<R: Read + Drop> Lines<R> {
+    pub fn new(alloc: Global, reader: R, room: u32) -> io::Result<Self> {
+        Ok(Lines {
+            reader: BufReader::new(alloc, reader)?,
+            alloc,
+            room,
+            left: u64::MAX,
+        })
+    }
 }
 
-// Reads until a room is full or the input ends, and answers how many bytes stand at the start of the room then.
-pub fn full(reader: &mut impl Read, room: &mut [u8]) -> io::Result<usize>
-    ensures { IfOk result (λ n. n ≤ length room.new) }
+impl<R: Read + Drop> Iterator for Lines<R> {
+    type Item = io::Result<Vec<u8>>;
+
+    ghost use Rattle.std.specs.Iterator.{at_most};
+
+    ghost remaining = { λ s. at_most s.left };
+
+    fn next(&mut self) -> Option<io::Result<Vec<u8>>> {
+        if self.left == 0 {
+            return None;
+        }
+        self.left -= 1;
+        next_line(self.alloc, &mut self.reader, self.room).transpose()
+    }
+}
+
+// The next line, or nothing behind the last one.
+fn next_line(alloc: Global, reader: &mut impl BufRead, room: u32) -> io::Result<Option<Vec<u8>>> {
+    let mut line = Vec::new(alloc);
+    let most = u64::from(room) + 1;
+    if reader.by_ref().take(most).read_until(NEWLINE, &mut line)? == 0 {
+        return Ok(None);
+    }
+    if line.last() == Some(&NEWLINE) {
+        line.pop();
+    } else if (room as usize) < line.len() {
+        reader.skip_until(NEWLINE)?;
+    }
+    Ok(Some(line))
+}
+
+// The first `room` bytes of an input, or all if it has fewer.
+pub fn first(alloc: Global, reader: &mut impl Read, room: u32) -> io::Result<Vec<u8>>
+    ensures { IfOk result (λ bytes. vec_len bytes ≤ room) }
 {
-    let mut done = 0;
-    while done < room.len() {
-        let n = reader.read(&mut room[done..])?;
-        if n == 0 {
-            return Ok(done);
-        }
-        done += n;
-    }
-    Ok(done)
-}
-
-// Takes the byte at a place of what was read.
-fn take(buffer: &[u8], at: usize, end: usize) -> Taken {
-    if at < end {
-        if at < buffer.len() {
-            return Taken {
-                more: true,
-                byte: buffer[at],
-                at: at + 1,
-                end,
-            };
-        }
-    }
-    Taken {
-        more: false,
-        byte: 0,
-        at: 0,
-        end: 0,
-    }
-}
-
-// Takes the next byte, and reads where all that was read is taken.
-fn take_next(
-    reader: &mut impl Read,
-    buffer: &mut [u8],
-    at: usize,
-    end: usize,
-) -> io::Result<Taken> {
-    if at < end {
-        return Ok(take(buffer, at, end));
-    }
-    let n = reader.read(buffer)?;
-    Ok(take(buffer, 0, n))
-}
-
-// Puts a byte behind the first `used` of a line, and answers how many there are then, or one more than there is room for.
-fn put(line: &mut [u8], used: usize, b: u8) -> usize {
-    if used < line.len() {
-        line[used] = b;
-        return used + 1;
-    }
-    line.len() + 1
-}
-
-// Takes the next line: as many of its first bytes as there is room for.
-pub fn next(
-    reader: &mut impl Read,
-    buffer: &mut [u8],
-    from: usize,
-    to: usize,
-    line: &mut [u8],
-) -> io::Result<Line> {
-    let mut at = from;
-    let mut end = to;
-    let mut used = 0;
-    let mut left = BYTES;
-    while 0 < left {
-        let taken = take_next(reader, buffer, at, end)?;
-        at = taken.at;
-        end = taken.end;
-        if !taken.more {
-            return Ok(Line {
-                found: 0 < used,
-                used,
-                at,
-                end,
-            });
-        }
-        if taken.byte == NEWLINE {
-            return Ok(Line {
-                found: true,
-                used,
-                at,
-                end,
-            });
-        }
-        used = put(line, used, taken.byte);
-        left -= 1;
-    }
-    Ok(Line {
-        found: true,
-        used,
-        at,
-        end,
-    })
+    let mut bytes = Vec::new(alloc);
+    reader
+        .by_ref()
+        .take(u64::from(room))
+        .read_to_end(&mut bytes)?;
+    // No more were read, which `read_to_end` does not say.
+    bytes.truncate(room as usize);
+    Ok(bytes)
 }

@@ -1,4 +1,6 @@
 // The words of an answer, on standard output. Each function fails where a write does.
+use program_lines::WordError;
+use std::alloc::AllocError;
 use std::io;
 
 // Room for the digits of 65,536 bytes.
@@ -18,31 +20,20 @@ pub fn number(rt: &impl Print, n: usize) -> io::Result<()> {
 
 // A number behind a blank.
 pub fn next_number(rt: &impl Print, n: usize) -> io::Result<()> {
-    text(rt, b" ")?;
-    number(rt, n)
-}
-
-// A node behind a blank.
-fn node(rt: &impl Print, n: u32) -> io::Result<()> {
-    next_number(rt, n as usize)
+    print!(rt; " {n}")
 }
 
 // The nodes at the first n places of a list, each behind a blank.
 pub fn nodes(rt: &impl Print, list: &[u32], n: usize) -> io::Result<()> {
-    let mut i = 0;
-    while i < n {
-        if list.len() <= i {
-            return Ok(());
-        }
-        node(rt, list[i])?;
-        i += 1;
+    for node in list.iter().take(n) {
+        print!(rt; " {node}")?;
     }
     Ok(())
 }
 
 // A byte string in hexadecimal, or a dash if it is empty. Of more than 65,536 bytes three dots are written.
 pub fn bytes(rt: &impl Print, s: &[u8]) -> io::Result<()> {
-    if s.len() == 0 {
+    if s.is_empty() {
         return text(rt, b"-");
     }
     let mut digits = [0u8; DIGITS_ROOM];
@@ -50,5 +41,13 @@ pub fn bytes(rt: &impl Print, s: &[u8]) -> io::Result<()> {
         return text(rt, b"...");
     }
     let n = program_lines::encode(s, &mut digits);
-    text(rt, &digits[0..n])
+    text(rt, &digits[..n])
+}
+
+// Writes that a line is none that the program reads. It fails too where memory ran out.
+pub fn bad_line(rt: &impl Print, error: WordError) -> io::Result<()> {
+    match error {
+        WordError::OutOfMemory => Err(io::Error::from(AllocError)),
+        WordError::TooLong | WordError::Bad => text(rt, b"bad line\n"),
+    }
 }

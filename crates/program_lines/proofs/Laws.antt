@@ -1,14 +1,14 @@
 -- Laws for the loops over a line: a search goes on, bytes are stored one after the other, and a number is read digit by digit. Assumes nothing.
 use Prim.Native.Nat.{ℕ, suc, ◌+◌, ◌*◌, ◌-◌, ◌/◌, ◌%◌, ◌≤◌, ◌<◌}
 use mathlib.Core.Path.{◌≡◌, refl, sym, ap, ◌∙◌, subst}
-use mathlib.Core.List.{List, [], ◌∷◌}
+use mathlib.Core.List.{List, [], ◌∷◌, ◌++◌}
 use mathlib.Core.Bool.{Bool, true, false}
 use lib.Dec.{ltb}
-use lib.ListN.{length, get_or, set, take, drop, length-set}
-use lib.Seq.{drop-cons, get_or-set_same, get_or-set_other}
+use lib.ListN.{length, get_or, get_or-append, set, drop, length-set}
+use lib.Seq.{drop-cons, get_or-set_same, get_or-set_other, get_or-append_seam}
+use Rattle.std.proofs.Common.{drop_of_length-le}
 use native.Mathlib.Omega.{arith}
 use borrow.Author.Tests.{ltb-true, ltb-false}
-use Rattle.definition.specs.Bytes.{part}
 use Rattle.program_lines.specs.Words.{decimal, glyph}
 
 -- what holds below a place, and at it, holds below the next place
@@ -19,12 +19,12 @@ below_next P i h p k l = go (ltb k i) refl
     go true e = h k (ltb-true k i e)
     go false e = let m = ltb-false k i e in let s : i ≡ k = omega arith in subst P s p
 
--- what holds of the bytes that are stored below a place still holds after a store at it, and of the byte stored
-pub stored_next : (P : ℕ → ℕ → Type 0) (l : List ℕ) (i v : ℕ) → i < length l → ((k : ℕ) → k < i → P k (get_or l k 0)) → P i v → (k : ℕ) → k < i + 1 → P k (get_or (set l i v) k 0)
-stored_next P l i v r h p =
-    below_next (λ k. P k (get_or (set l i v) k 0)) i
-    (λ k m. let ne : k ≡ i → ⊥ = omega arith in subst (P k) (sym (get_or-set_other l i k v 0 ne)) (h k m))
-    (subst (P i) (sym (get_or-set_same l i v 0 r)) p)
+-- what holds of the bytes below a place still holds with one more byte behind them, and of that byte
+pub added_next : (P : ℕ → ℕ → Type 0) (l : List ℕ) (i v : ℕ) → length l ≡ i → ((k : ℕ) → k < i → P k (get_or l k 0)) → P i v → (k : ℕ) → k < i + 1 → P k (get_or (l ++ v ∷ []) k 0)
+added_next P l i v e h p =
+    below_next (λ k. P k (get_or (l ++ v ∷ []) k 0)) i
+    (λ k m. subst (P k) (sym (get_or-append l (v ∷ []) 0 k (omega arith))) (h k m))
+    (subst (λ (n : ℕ). P n (get_or (l ++ v ∷ []) n 0)) e (subst (P (length l)) (sym (get_or-append_seam l v [] 0)) (subst (λ (n : ℕ). P n v) (sym e) p)))
 
 -- the two digits of byte k stand at 2k and 2k + 1
 pub record Digits (s out : List ℕ) (k : ℕ) : Type 0 where
@@ -52,17 +52,10 @@ digits_next s l i a b r ea eb h = below_next (Digits s m) i old new
     }
 
 -- a number is read on by its next digit, and ends with its digits
-pub decimal_step : (s : List ℕ) (n i to : ℕ) → i < to → to ≤ length s → decimal (10 * n + (get_or s i 0 - 48)) (part s (i + 1) (to - (i + 1))) ≡ decimal n (part s i (to - i))
+pub decimal_step : (s : List ℕ) (n i : ℕ) → i < length s → decimal (10 * n + (get_or s i 0 - 48)) (drop (i + 1) s) ≡ decimal n (drop i s)
 unfolding decimal
-decimal_step s n i to l h =
-    let e : to - i ≡ suc (to - (i + 1)) = omega arith in
-    let d : suc i ≡ i + 1 = omega arith in
-    sym (ap (λ (x : ℕ). decimal n (take x (drop i s))) e ∙ ap (λ (x : List ℕ). decimal n (take (suc (to - (i + 1))) x)) (drop-cons s i 0 (omega arith) ∙ ap (λ (x : ℕ). get_or s i 0 ∷ drop x s) d))
+decimal_step s n i h = let d : suc i ≡ i + 1 = omega arith in sym (ap (decimal n) (drop-cons s i 0 h ∙ ap (λ (x : ℕ). get_or s i 0 ∷ drop x s) d))
 
-pub decimal_end : (s : List ℕ) (n i to : ℕ) → to ≤ i → decimal n (part s i (to - i)) ≡ n
+pub decimal_end : (s : List ℕ) (n i : ℕ) → length s ≤ i → decimal n (drop i s) ≡ n
 unfolding decimal
-decimal_end s n i to h = let e : to - i ≡ 0 = omega arith in ap (λ (x : ℕ). decimal n (take x (drop i s))) e ∙ go (drop i s)
-  where
-    go : (t : List ℕ) → decimal n (take 0 t) ≡ n
-    go [] = refl
-    go (x ∷ t) = refl
+decimal_end s n i h = ap (decimal n) (drop_of_length-le s {i = i} h)

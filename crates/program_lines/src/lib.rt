@@ -1,4 +1,4 @@
-// Words on a line of bytes: where a word ends, hexadecimal byte strings and decimal numbers, read and written.
+// Words on a line of bytes, hexadecimal byte strings and decimal numbers, read and written.
 //
 //     words    the words of a line one after the other
 
@@ -6,116 +6,70 @@
 
 pub mod words;
 
-ghost use Rattle.std.specs.Prelude.{◌≡◌, ◌+◌, ◌*◌, ◌-◌, ◌/◌, ◌%◌, ◌<◌, ◌≤◌, length};
-ghost use Rattle.program_lines.specs.Words.{digit_value, glyph as glyphOf, FoundAt, DecodedAs, Encoded, NumberAs};
+ghost use Rattle.std.specs.Prelude.{◌≡◌, ◌*◌, ◌<◌, ◌≤◌, length, IfOk};
+ghost use Rattle.program_lines.specs.Words.{HasDigit, Pair, glyph as glyphOf, DecodedAs, Encoded, NumberAs};
 
-const LAST_DIGIT: u8 = 15;
+use std::alloc::{AllocFailed, Global};
 
-const NO_DIGIT: u8 = 16;
 // A number is read on while it is below this.
 const NUMBER_LIMIT: usize = 1000000000000000000;
 
-// What a hexadecimal word holds.
-#[derive(Clone, Copy)]
-pub enum Decoded {
-    // So many bytes, at the start of the room.
-    Bytes(usize),
-    // More bytes than there is room for.
+// Why a word is not read.
+#[derive(Clone, Copy, Debug, PartialEq, Eq)]
+pub enum WordError {
+    // A byte string of more bytes than there is room for.
     TooLong,
-    // No hexadecimal byte string.
+    // No word, or none of the kind that is asked for.
     Bad,
+    OutOfMemory,
 }
 
-// What a decimal word holds.
-#[derive(Clone, Copy)]
-pub enum Number {
-    Is(usize),
-    Not,
+impl<T: Drop> From<AllocFailed<T>> for WordError {
+    fn from(_e: AllocFailed<T>) -> WordError {
+        WordError::OutOfMemory
+    }
 }
 
-// The place of the first byte b of s between two places, or the second place.
-pub fn find(s: &[u8], from: usize, to: usize, b: u8) -> usize
-    requires { (from ≤ to) × (to ≤ length s.now) }
-    ensures { FoundAt s.now from to b result }
+// The value of a hexadecimal digit of either case.
+pub fn digit(b: u8) -> Option<u8>
+    ensures { HasDigit b result }
 {
-    let mut i = from;
-    while i < to {
-        if s[i] == b {
-            return i;
-        }
-        i += 1;
+    match b {
+        b'0'..=b'9' => Some(b - b'0'),
+        b'A'..=b'F' => Some(b - b'A' + 10),
+        b'a'..=b'f' => Some(b - b'a' + 10),
+        _ => None,
     }
-    i
 }
 
-// The value of a hexadecimal digit of either case, or 16.
-pub fn digit(b: u8) -> u8
-    ensures { result ≡ digit_value b }
+// The byte of two hexadecimal digits.
+fn pair(high: u8, low: u8) -> Result<u8, WordError>
+    ensures { IfOk result (Pair high low) }
 {
-    if b < b'0' {
-        return NO_DIGIT;
+    match (digit(high), digit(low)) {
+        (Some(high), Some(low)) => Ok(16 * high + low),
+        _ => Err(WordError::Bad),
     }
-    if b <= b'9' {
-        return b - b'0';
-    }
-    if b < b'A' {
-        return NO_DIGIT;
-    }
-    if b <= b'F' {
-        return b - b'A' + 10;
-    }
-    if b < b'a' {
-        return NO_DIGIT;
-    }
-    if b <= b'f' {
-        return b - b'a' + 10;
-    }
-    NO_DIGIT
 }
 
-// The bytes of the hexadecimal word between two places, at the start of out. An empty string is written as a dash.
-pub fn decode(s: &[u8], from: usize, to: usize, out: &mut [u8]) -> Decoded
-    requires { (from ≤ to) × (to ≤ length s.now) }
-    ensures { DecodedAs s.now from out.new result }
+// The bytes of a hexadecimal word, if they are no more than `room`. An empty string is written as a dash.
+pub fn decode(alloc: Global, word: &[u8], room: usize) -> Result<Vec<u8>, WordError>
+    ensures { IfOk result (λ bytes. DecodedAs word.now bytes.items) }
 {
-    let size = to - from;
-    if size == 0 {
-        return Decoded::Bad;
+    let mut bytes = Vec::new(alloc);
+    if word == b"-".as_slice() {
+        return Ok(bytes);
     }
-    if size == 1 {
-        if s[from] == b'-' {
-            return Decoded::Bytes(0);
-        }
-        return Decoded::Bad;
+    if word.is_empty() || word.len() % 2 != 0 {
+        return Err(WordError::Bad);
     }
-    if size % 2 != 0 {
-        return Decoded::Bad;
+    if room < word.len() / 2 {
+        return Err(WordError::TooLong);
     }
-    if out.len() < size / 2 {
-        return Decoded::TooLong;
+    for i in 0..word.len() / 2 {
+        bytes.push(pair(word[2 * i], word[2 * i + 1])?)?;
     }
-    pairs(s, from, size / 2, out)
-}
-
-// The bytes of n pairs of hexadecimal digits.
-fn pairs(s: &[u8], from: usize, n: usize, out: &mut [u8]) -> Decoded
-    requires { (from + 2 * n ≤ length s.now) × (n ≤ length out.old) }
-    ensures { DecodedAs s.now from out.new result }
-{
-    let mut i = 0;
-    while i < n {
-        let high = digit(s[from + 2 * i]);
-        let low = digit(s[from + 2 * i + 1]);
-        if LAST_DIGIT < high {
-            return Decoded::Bad;
-        }
-        if LAST_DIGIT < low {
-            return Decoded::Bad;
-        }
-        out[i] = 16 * high + low;
-        i += 1;
-    }
-    Decoded::Bytes(n)
+    Ok(bytes)
 }
 
 // The hexadecimal digit of a value, in lower case.
@@ -131,39 +85,26 @@ pub fn encode(s: &[u8], out: &mut [u8]) -> usize
     requires { 2 * length s.now ≤ length out.old }
     ensures { Encoded s.now out.new result }
 {
-    let mut i = 0;
-    while i < s.len() {
-        let b = s[i];
-        out[2 * i] = glyph(b / 16);
-        out[2 * i + 1] = glyph(b % 16);
-        i += 1;
+    for (i, b) in s.iter().enumerate() {
+        out[2 * i] = glyph(*b / 16);
+        out[2 * i + 1] = glyph(*b % 16);
     }
     2 * s.len()
 }
 
-// The decimal number between two places.
-pub fn read_number(s: &[u8], from: usize, to: usize) -> Number
-    requires { (from ≤ to) × (to ≤ length s.now) }
-    ensures { NumberAs s.now from to result }
+// The number that a decimal word writes.
+pub fn read_number(word: &[u8]) -> Result<usize, WordError>
+    ensures { IfOk result (NumberAs word.now) }
 {
-    if from == to {
-        return Number::Not;
+    if word.is_empty() {
+        return Err(WordError::Bad);
     }
     let mut n: usize = 0;
-    let mut i = from;
-    while i < to {
-        let b = s[i];
-        if b < b'0' {
-            return Number::Not;
+    for b in word {
+        if !b.is_ascii_digit() || NUMBER_LIMIT <= n {
+            return Err(WordError::Bad);
         }
-        if b'9' < b {
-            return Number::Not;
-        }
-        if NUMBER_LIMIT <= n {
-            return Number::Not;
-        }
-        n = 10 * n + (b - b'0') as usize;
-        i += 1;
+        n = 10 * n + (*b - b'0') as usize;
     }
-    Number::Is(n)
+    Ok(n)
 }

@@ -1,85 +1,62 @@
-// The words of a line one after the other: each is read where it begins, and the answer says where the next one begins.
-ghost use Rattle.std.specs.Prelude.{◌≡◌, ◌+◌, ◌≤◌, length, take};
+// The words of a line one after the other, with one blank between them.
+ghost use Rattle.std.specs.Prelude.{◌+◌, ◌≤◌, length};
 
-use crate::{Decoded, Number, decode, find, read_number};
+use crate::{WordError, decode, read_number};
+use std::alloc::Global;
 
 const BLANK: u8 = b' ';
-
-// A hexadecimal word that was read.
-#[derive(Clone, Copy)]
-pub enum ByteWord {
-    // So many bytes, at the start of the room, and the place of the next word. Behind the last word that is past the line's end.
-    Bytes(usize, usize),
-    // More bytes than there is room for.
-    TooLong,
-    // No hexadecimal byte string.
-    Bad,
-}
-
-// A decimal word that was read.
-#[derive(Clone, Copy)]
-pub enum NumberWord {
-    // Its number, and the place of the next word.
-    Is(usize, usize),
-    Not,
-}
 
 // How many words a line has: one more than its blanks.
 pub fn count(line: &[u8]) -> usize
     ensures { result ≤ length line.now + 1 }
 {
-    let mut n = 1;
-    let mut i = 0;
-    while i < line.len() {
-        if line[i] == BLANK {
-            n += 1;
+    line.iter().filter(|b| **b == BLANK).count() + 1
+}
+
+// What is left of a line: the words from one on, or nothing behind the last word.
+#[derive(Clone, Copy)]
+pub struct Words<'a> {
+    rest: Option<&'a [u8]>,
+}
+
+impl<'a> Words<'a> {
+    pub fn new(line: &'a [u8]) -> Self {
+        Words { rest: Some(line) }
+    }
+
+    // Takes the next word.
+    pub fn next_word(&mut self) -> Option<&'a [u8]> {
+        let rest = self.rest?;
+        match rest.iter().position(|b| *b == BLANK) {
+            Some(end) => {
+                self.rest = Some(&rest[end + 1..]);
+                Some(&rest[..end])
+            }
+            None => {
+                self.rest = None;
+                Some(rest)
+            }
         }
-        i += 1;
     }
-    n
-}
 
-// The end of the word that begins at a place.
-pub fn end(line: &[u8], from: usize) -> usize
-    ensures { result ≤ length line.now }
-{
-    if line.len() < from {
-        return line.len();
+    // Takes the next word, a byte string of at most `room` bytes in hexadecimal.
+    pub fn bytes(&mut self, alloc: Global, room: usize) -> Result<Vec<u8>, WordError> {
+        match self.next_word() {
+            Some(word) => decode(alloc, word, room),
+            None => Err(WordError::Bad),
+        }
     }
-    find(line, from, line.len(), BLANK)
-}
 
-// The first n bytes of s, or all if it has fewer.
-pub fn first(s: &[u8], n: usize) -> &[u8]
-    ensures { result.now ≡ take n s.now }
-{
-    if n <= s.len() {
-        return &s[0..n];
+    // Takes the next word, a decimal number.
+    pub fn number(&mut self) -> Result<usize, WordError> {
+        match self.next_word() {
+            Some(word) => read_number(word),
+            None => Err(WordError::Bad),
+        }
     }
-    s
-}
 
-// Reads the hexadecimal word that begins at a place.
-pub fn bytes(line: &[u8], from: usize, out: &mut [u8]) -> ByteWord {
-    if line.len() < from {
-        return ByteWord::Bad;
-    }
-    let to = find(line, from, line.len(), BLANK);
-    match decode(line, from, to, out) {
-        Decoded::Bytes(n) => ByteWord::Bytes(n, to + 1),
-        Decoded::TooLong => ByteWord::TooLong,
-        Decoded::Bad => ByteWord::Bad,
-    }
-}
-
-// Reads the decimal word that begins at a place.
-pub fn number(line: &[u8], from: usize) -> NumberWord {
-    if line.len() < from {
-        return NumberWord::Not;
-    }
-    let to = find(line, from, line.len(), BLANK);
-    match read_number(line, from, to) {
-        Number::Is(n) => NumberWord::Is(n, to + 1),
-        Number::Not => NumberWord::Not,
+    // The words that are left, as they stand on the line.
+    pub fn rest(&self) -> Option<&'a [u8]> {
+        self.rest
     }
 }

@@ -8,14 +8,20 @@ ghost use Rattle.std.specs.Prelude.{◌≡◌, true};
 ghost use Rattle.definition.specs.Utf8.{is_utf8};
 
 use plan_format::kinds::{MATCH, SEARCH};
-use program_console::{input, output, rooms};
-use program_lines::words;
-use program_lines::words::ByteWord;
+use program_console::input::Lines;
+use program_console::output;
+use program_lines::WordError;
+use program_lines::words::Words;
+use std::alloc::Global;
 use std::io;
-use std::io::Read;
 
 // How many lines are answered at most.
-const LINES: u64 = 1048576;
+const LINES: usize = 1048576;
+
+// Room for a line, and for a word of it.
+const LINE_ROOM: usize = 65536;
+
+const WORD_ROOM: usize = 4096;
 
 fn bad_line(rt: &impl Print) -> io::Result<()> {
     output::text(rt, b"bad line\n")
@@ -55,53 +61,30 @@ fn verdict(rt: &impl Print, expression: &[u8], text: &[u8]) -> io::Result<()> {
     answer(rt, text, expression)
 }
 
-// Reads the text behind an expression.
-fn with_text(rt: &impl Print, line: &[u8], from: usize, expression: &[u8]) -> io::Result<()> {
-    let mut room = rooms::buffer();
-    match words::bytes(line, from, &mut room) {
-        ByteWord::Bytes(n, _) => verdict(rt, expression, words::first(&room, n)),
-        _ => bad_line(rt),
+// Answers a line.
+fn answer_line(rt: &impl Print, alloc: Global, line: &[u8]) -> io::Result<()> {
+    match operands(alloc, line) {
+        Ok((expression, text)) => verdict(rt, &expression, &text),
+        Err(error) => output::bad_line(rt, error),
     }
 }
 
-// The answer for a line of which so many bytes were read, or one more than its room has if it has more.
-fn end_line(rt: &impl Print, line: &[u8], used: usize) -> io::Result<()> {
-    let mut room = rooms::buffer();
-    if line.len() < used {
-        return bad_line(rt);
+// The expression and the text of a line.
+fn operands(alloc: Global, line: &[u8]) -> Result<(Vec<u8>, Vec<u8>), WordError> {
+    if LINE_ROOM < line.len() {
+        return Err(WordError::TooLong);
     }
-    match words::bytes(&line[0..used], 0, &mut room) {
-        ByteWord::Bytes(n, next) => with_text(rt, &line[0..used], next, words::first(&room, n)),
-        _ => bad_line(rt),
-    }
+    let mut words = Words::new(line);
+    let expression = words.bytes(alloc, WORD_ROOM)?;
+    let text = words.bytes(alloc, WORD_ROOM)?;
+    Ok((expression, text))
 }
 
-// The answer for each line.
-fn run(
-    rt: &impl Print,
-    reader: &mut impl Read,
-    buffer: &mut [u8],
-    line: &mut [u8],
-) -> io::Result<()> {
-    let mut at = 0;
-    let mut end = 0;
-    let mut left = LINES;
-    while 0 < left {
-        let next = input::next(reader, buffer, at, end, line)?;
-        if next.found {
-            end_line(rt, line, next.used)?;
-            at = next.at;
-            end = next.end;
-            left -= 1;
-        } else {
-            left = 0;
-        }
+// Answers each line.
+fn main(rt: HostRuntime) -> io::Result<()> {
+    let alloc = rt.alloc();
+    for line in Lines::new(alloc, rt.reader(), LINE_ROOM as u32)?.take(LINES) {
+        answer_line(&rt, alloc, &line?)?;
     }
     Ok(())
-}
-
-fn main(rt: HostRuntime) -> io::Result<()> {
-    let mut buffer = rooms::large_buffer();
-    let mut line = rooms::large_buffer();
-    run(&rt, &mut rt.reader(), &mut buffer, &mut line)
 }

@@ -1,14 +1,17 @@
-// An example: its words are read one after the other, each into a room of its own, and what select answers is compared with what is wanted.
-ghost use Rattle.std.specs.Prelude.{◌≤◌};
-
-use program_console::{output, rooms};
+// An example: its words are read, and what select answers is compared with what is wanted.
+use program_console::output;
+use program_lines::WordError;
 use program_lines::words;
-use program_lines::words::ByteWord;
+use program_lines::words::Words;
 use refusals::RunNumbers;
+use std::alloc::{AllocError, Global};
 use std::io;
-use text::parts;
 
-// Room for the list of nodes that are wanted.
+// Room for a query, for a table or a text, and for the list of nodes that are wanted.
+const QUERY_ROOM: usize = 4096;
+
+const TABLE_ROOM: usize = 65536;
+
 const WANTED_ROOM: usize = 2048;
 // How many places the list of selected nodes has.
 const PLACES: usize = 1024;
@@ -23,85 +26,108 @@ pub enum Verdict {
     Wrong,
 }
 
-// An answer that is wanted, by its word.
-#[derive(Clone, Copy)]
+// An answer that is wanted.
+#[derive(Drop)]
 enum Wanted {
-    List,
-    Members,
+    // These nodes in this order.
+    List(Vec<u32>),
+    // These nodes in any order.
+    Members(Vec<u32>),
     Accepted,
-    Refused,
+    // The refusal with this number, or any.
+    Refused(Option<u8>),
+    // Words that name no answer. Nothing fits them.
     Unknown,
 }
 
-// The name of an example: the first word of its line.
-fn name(line: &[u8]) -> &[u8] {
-    words::first(line, words::end(line, 0))
+// The words of an example behind its name.
+#[derive(Drop)]
+struct Example {
+    query: Vec<u8>,
+    table: Vec<u8>,
+    text: Vec<u8>,
+    here: Wanted,
+    rfc: Wanted,
 }
 
-fn bad_line(rt: &impl Print, line: &[u8]) -> io::Result<Verdict> {
-    output::text(rt, b"wrong ")?;
-    output::text(rt, name(line))?;
-    output::text(rt, b": bad line\n")?;
-    Ok(Verdict::Wrong)
+// The nodes of a byte string: two bytes each, the lower first.
+fn nodes_of(alloc: Global, bytes: &[u8]) -> Result<Vec<u32>, WordError> {
+    let mut nodes = Vec::new(alloc);
+    for pair in bytes.chunks_exact(2) {
+        nodes.push(256 * u32::from(pair[1]) + u32::from(pair[0]))?;
+    }
+    Ok(nodes)
+}
+
+// The answer of a kind, with its nodes or its number.
+fn wanted_of(alloc: Global, kind: &[u8], bytes: &[u8]) -> Result<Wanted, WordError> {
+    match kind {
+        b"list" => Ok(Wanted::List(nodes_of(alloc, bytes)?)),
+        b"members" => Ok(Wanted::Members(nodes_of(alloc, bytes)?)),
+        b"accepted" => Ok(Wanted::Accepted),
+        b"refused" => Ok(Wanted::Refused(bytes.first().copied())),
+        _ => Ok(Wanted::Unknown),
+    }
+}
+
+// Reads the two words of an answer.
+fn read_wanted(alloc: Global, words: &mut Words) -> Result<Wanted, WordError> {
+    let kind = words.next_word().ok_or(WordError::Bad)?;
+    match words.bytes(alloc, WANTED_ROOM) {
+        Ok(bytes) => wanted_of(alloc, kind, &bytes),
+        Err(WordError::OutOfMemory) => Err(WordError::OutOfMemory),
+        Err(_) => Ok(Wanted::Unknown),
+    }
+}
+
+// Reads the words of a line.
+fn read_example(alloc: Global, line: &[u8]) -> Result<Example, WordError> {
+    if words::count(line) != 8 {
+        return Err(WordError::Bad);
+    }
+    let mut words = Words::new(line);
+    words.next_word();
+    let query = words.bytes(alloc, QUERY_ROOM)?;
+    let table = words.bytes(alloc, TABLE_ROOM)?;
+    let text = words.bytes(alloc, TABLE_ROOM)?;
+    let here = read_wanted(alloc, &mut words)?;
+    let rfc = read_wanted(alloc, &mut words)?;
+    Ok(Example {
+        query,
+        table,
+        text,
+        here,
+        rfc,
+    })
 }
 
 // Runs the example of a line.
-pub fn run(rt: &impl Print, line: &[u8]) -> io::Result<Verdict> {
-    if words::count(line) != 8 {
-        return bad_line(rt, line);
-    }
-    let mut room = rooms::buffer();
-    let from = words::end(line, 0) + 1;
-    match words::bytes(line, from, &mut room) {
-        ByteWord::Bytes(n, next) => with_table(rt, line, next, words::first(&room, n)),
-        _ => bad_line(rt, line),
-    }
-}
-
-// Reads the table behind a query.
-fn with_table(rt: &impl Print, line: &[u8], from: usize, query: &[u8]) -> io::Result<Verdict> {
-    let mut room = rooms::large_buffer();
-    match words::bytes(line, from, &mut room) {
-        ByteWord::Bytes(n, next) => with_text(rt, line, next, query, words::first(&room, n)),
-        _ => bad_line(rt, line),
-    }
-}
-
-// Reads the text behind a table, and selects.
-fn with_text(
-    rt: &impl Print,
-    line: &[u8],
-    from: usize,
-    query: &[u8],
-    table: &[u8],
-) -> io::Result<Verdict> {
-    let mut room = rooms::large_buffer();
-    match words::bytes(line, from, &mut room) {
-        ByteWord::Bytes(n, next) => {
-            let mut list = [0u32; PLACES];
-            let selection = select::select(query, table, words::first(&room, n), &mut list, 0);
-            judge(rt, line, next, refusals::of_select(selection), &list)
+pub fn run(rt: &impl Print, alloc: Global, line: &[u8]) -> io::Result<Verdict> {
+    let name = Words::new(line).next_word().unwrap_or(line);
+    match read_example(alloc, line) {
+        Ok(example) => judge(rt, name, &example),
+        Err(WordError::OutOfMemory) => Err(io::Error::from(AllocError)),
+        Err(_) => {
+            output::text(rt, b"wrong ")?;
+            output::text(rt, name)?;
+            output::text(rt, b": bad line\n")?;
+            Ok(Verdict::Wrong)
         }
-        _ => bad_line(rt, line),
     }
 }
 
-// Compares what came with the two answers that begin at a place.
-fn judge(
-    rt: &impl Print,
-    line: &[u8],
-    from: usize,
-    outcome: RunNumbers,
-    list: &[u32],
-) -> io::Result<Verdict> {
-    let middle = words::end(line, words::end(line, from) + 1) + 1;
-    if !fits(line, from, outcome, list) {
-        show_wrong(rt, line, outcome, list)?;
+// Selects, and compares what came with the two answers.
+fn judge(rt: &impl Print, name: &[u8], example: &Example) -> io::Result<Verdict> {
+    let mut list = [0u32; PLACES];
+    let selection = select::select(&example.query, &example.table, &example.text, &mut list, 0);
+    let outcome = refusals::of_select(selection);
+    if !fits(&example.here, outcome, &list) {
+        show_wrong(rt, name, outcome, &list)?;
         return Ok(Verdict::Wrong);
     }
     output::text(rt, b"ok ")?;
-    output::text(rt, name(line))?;
-    if fits(line, middle, outcome, list) {
+    output::text(rt, name)?;
+    if fits(&example.rfc, outcome, &list) {
         output::newline(rt)?;
         return Ok(Verdict::Same);
     }
@@ -110,9 +136,9 @@ fn judge(
 }
 
 // Writes what came and is not wanted.
-fn show_wrong(rt: &impl Print, line: &[u8], outcome: RunNumbers, list: &[u32]) -> io::Result<()> {
+fn show_wrong(rt: &impl Print, name: &[u8], outcome: RunNumbers, list: &[u32]) -> io::Result<()> {
     output::text(rt, b"wrong ")?;
-    output::text(rt, name(line))?;
+    output::text(rt, name)?;
     if outcome.refusal == 0 {
         output::text(rt, b": ok")?;
         output::next_number(rt, outcome.count)?;
@@ -124,140 +150,39 @@ fn show_wrong(rt: &impl Print, line: &[u8], outcome: RunNumbers, list: &[u32]) -
     output::newline(rt)
 }
 
-// The kind of answer that a word names.
-fn kind_of(word: &[u8]) -> Wanted {
-    if parts::same_bytes(word, b"list") {
-        return Wanted::List;
-    }
-    if parts::same_bytes(word, b"members") {
-        return Wanted::Members;
-    }
-    if parts::same_bytes(word, b"accepted") {
-        return Wanted::Accepted;
-    }
-    if parts::same_bytes(word, b"refused") {
-        return Wanted::Refused;
-    }
-    Wanted::Unknown
-}
-
-// The bytes of a line between two places.
-fn between(line: &[u8], from: usize, to: usize) -> &[u8] {
-    if from <= to {
-        if to <= line.len() {
-            return &line[from..to];
-        }
-    }
-    &line[0..0]
-}
-
-// Whether what came is the answer whose two words begin at a place.
-fn fits(line: &[u8], from: usize, outcome: RunNumbers, list: &[u32]) -> bool {
-    let end = words::end(line, from);
-    let kind = kind_of(between(line, from, end));
-    let mut room = [0u8; WANTED_ROOM];
-    match words::bytes(line, end + 1, &mut room) {
-        ByteWord::Bytes(n, _) => fits_kind(kind, words::first(&room, n), outcome, list),
-        _ => false,
-    }
-}
-
-// Whether what came is the answer of a kind, with its nodes or its number.
-fn fits_kind(kind: Wanted, nodes: &[u8], outcome: RunNumbers, list: &[u32]) -> bool {
-    match kind {
-        Wanted::List => selected(nodes, outcome, list) && in_order(nodes, list),
-        Wanted::Members => selected(nodes, outcome, list) && in_any_order(nodes, list),
+// Whether what came is the answer that is wanted.
+fn fits(wanted: &Wanted, outcome: RunNumbers, list: &[u32]) -> bool {
+    match wanted {
+        Wanted::List(nodes) => match selected(outcome, list) {
+            Some(listed) => listed == nodes.as_slice(),
+            None => false,
+        },
+        Wanted::Members(nodes) => match selected(outcome, list) {
+            Some(listed) => same_in_any_order(nodes, listed),
+            None => false,
+        },
         Wanted::Accepted => outcome.refusal == 0,
-        Wanted::Refused => refused_by(nodes, outcome.refusal as usize),
+        Wanted::Refused(Some(number)) => *number == outcome.refusal,
+        Wanted::Refused(None) => outcome.refusal != 0,
         Wanted::Unknown => false,
     }
 }
 
-// Whether so many nodes were selected as are wanted.
-fn selected(nodes: &[u8], outcome: RunNumbers, list: &[u32]) -> bool {
-    outcome.refusal == 0 && outcome.count == nodes.len() / 2 && outcome.count <= list.len()
-}
-
-// Whether a refusal has the number that is wanted, or any if none is.
-fn refused_by(number: &[u8], refusal: usize) -> bool {
-    if number.len() == 0 {
-        return refusal != 0;
+// The nodes that were selected, if all of them have a place.
+fn selected(outcome: RunNumbers, list: &[u32]) -> Option<&[u32]> {
+    if outcome.refusal == 0 {
+        list.get(..outcome.count)
+    } else {
+        None
     }
-    byte(number[0]) == refusal
 }
 
-fn byte(b: u8) -> usize
-    ensures { result ≤ 255 }
-{
-    b as usize
+// Whether each node that is wanted was selected as often as it is wanted, and no other.
+fn same_in_any_order(nodes: &[u32], listed: &[u32]) -> bool {
+    nodes.len() == listed.len() && nodes.iter().all(|one| times(nodes, *one) == times(listed, *one))
 }
 
-fn wide(node: u32) -> usize {
-    node as usize
-}
-
-// The node at a place of those that are wanted.
-fn node(nodes: &[u8], i: usize) -> usize {
-    if nodes.len() / 2 <= i {
-        return 0;
-    }
-    256 * byte(nodes[2 * i + 1]) + byte(nodes[2 * i])
-}
-
-// Whether the list begins with the nodes that are wanted.
-fn in_order(nodes: &[u8], list: &[u32]) -> bool {
-    let mut i = 0;
-    while i < nodes.len() / 2 {
-        if list.len() <= i {
-            return false;
-        }
-        if wide(list[i]) != node(nodes, i) {
-            return false;
-        }
-        i += 1;
-    }
-    true
-}
-
-// Whether each node that is wanted stands as often at the first places of the list as it is wanted.
-fn in_any_order(nodes: &[u8], list: &[u32]) -> bool {
-    let n = nodes.len() / 2;
-    let mut i = 0;
-    while i < n {
-        let one = node(nodes, i);
-        if wanted_times(nodes, one) != listed_times(list, n, one) {
-            return false;
-        }
-        i += 1;
-    }
-    true
-}
-
-// How often a node is wanted.
-fn wanted_times(nodes: &[u8], one: usize) -> usize {
-    let mut times = 0;
-    let mut i = 0;
-    while i < nodes.len() / 2 {
-        if node(nodes, i) == one {
-            times += 1;
-        }
-        i += 1;
-    }
-    times
-}
-
-// How often a node stands at the first n places of the list.
-fn listed_times(list: &[u32], n: usize, one: usize) -> usize {
-    let mut times = 0;
-    let mut i = 0;
-    while i < n {
-        if list.len() <= i {
-            return times;
-        }
-        if wide(list[i]) == one {
-            times += 1;
-        }
-        i += 1;
-    }
-    times
+// How often a node stands in a list.
+fn times(list: &[u32], one: u32) -> usize {
+    list.iter().filter(|node| **node == one).count()
 }

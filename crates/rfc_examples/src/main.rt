@@ -20,12 +20,16 @@
 mod examples;
 
 use examples::Verdict;
-use program_console::{input, output, rooms};
+use program_console::input::Lines;
+use program_console::output;
+use std::alloc::Global;
 use std::io;
-use std::io::Read;
 
 // How many lines are answered at most.
-const LINES: u64 = 1048576;
+const LINES: usize = 1048576;
+
+// Room for a line.
+const LINE_ROOM: usize = 65536;
 
 // How many examples came to each verdict.
 #[derive(Clone, Copy)]
@@ -35,83 +39,37 @@ struct Tally {
     wrong: u64,
 }
 
-// Counts a verdict.
-fn counted(tally: Tally, verdict: Verdict) -> Tally {
-    let same = tally.same;
-    let other = tally.other;
-    let wrong = tally.wrong;
-    match verdict {
-        Verdict::Same => Tally {
-            same: more(same),
-            other,
-            wrong,
-        },
-        Verdict::Other => Tally {
-            same,
-            other: more(other),
-            wrong,
-        },
-        Verdict::Wrong => Tally {
-            same,
-            other,
-            wrong: more(wrong),
-        },
+impl Tally {
+    // Counts a verdict.
+    fn count(&mut self, verdict: Verdict) {
+        match verdict {
+            Verdict::Same => self.same = self.same.saturating_add(1),
+            Verdict::Other => self.other = self.other.saturating_add(1),
+            Verdict::Wrong => self.wrong = self.wrong.saturating_add(1),
+        }
     }
 }
 
-// One more, up to the number of lines.
-fn more(n: u64) -> u64 {
-    if n < LINES { n + 1 } else { n }
-}
-
-// Runs the example of which so many bytes were read, or one more than its room has if it has more.
-fn end_line(rt: &impl Print, line: &[u8], used: usize) -> io::Result<Verdict> {
-    if line.len() < used {
+// Runs the example of a line.
+fn verdict(rt: &impl Print, alloc: Global, line: &[u8]) -> io::Result<Verdict> {
+    if LINE_ROOM < line.len() {
         output::text(rt, b"wrong: too long\n")?;
         return Ok(Verdict::Wrong);
     }
-    examples::run(rt, &line[0..used])
+    examples::run(rt, alloc, line)
 }
 
-// Writes how many examples there were.
-fn show(rt: &impl Print, tally: Tally) -> io::Result<()> {
-    let same = tally.same;
-    let other = tally.other;
-    let wrong = tally.wrong;
-    println!(rt; "{same} as the RFC, {other} not as the RFC, {wrong} wrong")
-}
-
-// Runs every example.
-fn run(
-    rt: &impl Print,
-    reader: &mut impl Read,
-    buffer: &mut [u8],
-    line: &mut [u8],
-) -> io::Result<()> {
+// Runs every example, and writes how many there were.
+fn main(rt: HostRuntime) -> io::Result<()> {
+    let alloc = rt.alloc();
     let mut tally = Tally {
         same: 0,
         other: 0,
         wrong: 0,
     };
-    let mut at = 0;
-    let mut end = 0;
-    let mut left = LINES;
-    while 0 < left {
-        let next = input::next(reader, buffer, at, end, line)?;
-        if next.found {
-            tally = counted(tally, end_line(rt, line, next.used)?);
-            at = next.at;
-            end = next.end;
-            left -= 1;
-        } else {
-            left = 0;
-        }
+    for line in Lines::new(alloc, rt.reader(), LINE_ROOM as u32)?.take(LINES) {
+        tally.count(verdict(&rt, alloc, &line?)?);
     }
-    show(rt, tally)
-}
-
-fn main(rt: HostRuntime) -> io::Result<()> {
-    let mut buffer = rooms::large_buffer();
-    let mut line = rooms::large_buffer();
-    run(&rt, &mut rt.reader(), &mut buffer, &mut line)
+    let Tally { same, other, wrong } = tally;
+    println!(rt; "{same} as the RFC, {other} not as the RFC, {wrong} wrong")
 }

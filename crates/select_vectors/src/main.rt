@@ -11,57 +11,56 @@
 
 #![tactic(auto)]
 
-use program_console::{input, output, rooms};
-use program_lines::words;
-use program_lines::words::{ByteWord, NumberWord};
+use program_console::input::Lines;
+use program_console::output;
+use program_lines::WordError;
+use program_lines::words::Words;
 use refusals::RunNumbers;
+use std::alloc::Global;
 use std::io;
-use std::io::Read;
 
 // How many places the list of selected nodes has.
 const PLACES: usize = 1024;
 // What a place holds before the call. No node has this number.
 const NOT_SET: u32 = 0xffff_ffff;
 // How many lines are answered at most.
-const LINES: u64 = 1048576;
+const LINES: usize = 1048576;
 
-fn bad_line(rt: &impl Print) -> io::Result<bool> {
-    output::text(rt, b"bad line\n")?;
-    Ok(false)
+// Room for a line, and for a word of it.
+const LINE_ROOM: usize = 65536;
+
+const WORD_ROOM: usize = 4096;
+
+// What is selected, and from what.
+#[derive(Drop)]
+struct Case {
+    query: Vec<u8>,
+    table: Vec<u8>,
+    text: Vec<u8>,
 }
 
-fn wide(node: u32) -> usize {
-    node as usize
+// Reads the words of a case.
+fn read_case(alloc: Global, words: &mut Words) -> Result<Case, WordError> {
+    let query = words.bytes(alloc, WORD_ROOM)?;
+    let table = words.bytes(alloc, WORD_ROOM)?;
+    let text = words.bytes(alloc, WORD_ROOM)?;
+    Ok(Case { query, table, text })
 }
 
-// Whether the numbers from a place to the end of a line are the nodes at the first n places of a list.
-fn same_nodes(line: &[u8], from: usize, list: &[u32], n: usize) -> bool {
-    let mut at = from;
-    let mut i = 0;
-    while i < n {
-        if list.len() <= i {
+// Whether the words that are left are the nodes at the first n places of a list.
+fn same_nodes(mut words: Words, list: &[u32], n: usize) -> bool {
+    for node in list.iter().take(n) {
+        if words.number() != Ok(*node as usize) {
             return false;
         }
-        let NumberWord::Is(want, next) = words::number(line, at) else {
-            return false;
-        };
-        if wide(list[i]) != want {
-            return false;
-        }
-        at = next;
-        i += 1;
     }
-    line.len() < at
+    n <= list.len() && words.rest().is_none()
 }
 
-// Whether what came is the answer that begins at a place.
-fn fits(line: &[u8], from: usize, outcome: RunNumbers, list: &[u32]) -> bool {
-    match words::number(line, from) {
-        NumberWord::Is(refusal, next) => {
-            outcome.refusal as usize == refusal && same_nodes(line, next, list, outcome.count)
-        }
-        NumberWord::Not => false,
-    }
+// Whether what came is the answer behind the row, which the words begin with.
+fn fits(mut words: Words, outcome: RunNumbers, list: &[u32]) -> bool {
+    words.next_word();
+    words.number() == Ok(outcome.refusal as usize) && same_nodes(words, list, outcome.count)
 }
 
 fn show(rt: &impl Print, outcome: RunNumbers, list: &[u32]) -> io::Result<()> {
@@ -74,16 +73,13 @@ fn show(rt: &impl Print, outcome: RunNumbers, list: &[u32]) -> io::Result<()> {
     }
 }
 
-// Writes what came, and whether it is the answer behind the row that begins at a place. The answer is whether it is.
-fn judge(
-    rt: &impl Print,
-    line: &[u8],
-    from: usize,
-    outcome: RunNumbers,
-    list: &[u32],
-) -> io::Result<bool> {
-    let same = fits(line, words::end(line, from) + 1, outcome, list);
-    show(rt, outcome, list)?;
+// Selects, and writes what came and whether it is the answer that the words give. The answer is whether it is.
+fn judge(rt: &impl Print, case: &Case, words: Words) -> io::Result<bool> {
+    let mut list = [NOT_SET; PLACES];
+    let selection = select::select(&case.query, &case.table, &case.text, &mut list, 0);
+    let outcome = refusals::of_select(selection);
+    let same = fits(words, outcome, &list);
+    show(rt, outcome, &list)?;
     if same {
         output::newline(rt)?;
     } else {
@@ -92,93 +88,31 @@ fn judge(
     Ok(same)
 }
 
-// Reads the text behind a table, and selects.
-fn with_text(
-    rt: &impl Print,
-    line: &[u8],
-    from: usize,
-    query: &[u8],
-    table: &[u8],
-) -> io::Result<bool> {
-    let mut room = rooms::buffer();
-    match words::bytes(line, from, &mut room) {
-        ByteWord::Bytes(n, next) => {
-            let mut list = [NOT_SET; PLACES];
-            let selection = select::select(query, table, words::first(&room, n), &mut list, 0);
-            judge(rt, line, next, refusals::of_select(selection), &list)
-        }
-        _ => bad_line(rt),
-    }
-}
-
-// Reads the table behind a query.
-fn with_table(rt: &impl Print, line: &[u8], from: usize, query: &[u8]) -> io::Result<bool> {
-    let mut room = rooms::buffer();
-    match words::bytes(line, from, &mut room) {
-        ByteWord::Bytes(n, next) => with_text(rt, line, next, query, words::first(&room, n)),
-        _ => bad_line(rt),
-    }
-}
-
 // The verdict on a line.
-fn verdict(rt: &impl Print, line: &[u8]) -> io::Result<bool> {
-    let mut room = rooms::buffer();
-    match words::bytes(line, 0, &mut room) {
-        ByteWord::Bytes(n, next) => with_table(rt, line, next, words::first(&room, n)),
-        _ => bad_line(rt),
+fn verdict(rt: &impl Print, alloc: Global, line: &[u8]) -> io::Result<bool> {
+    if LINE_ROOM < line.len() {
+        output::bad_line(rt, WordError::TooLong)?;
+        return Ok(false);
     }
-}
-
-// The verdict on the line of which so many bytes were read, or one more than its room has if it has more.
-fn end_line(rt: &impl Print, line: &[u8], used: usize) -> io::Result<bool> {
-    if line.len() < used {
-        return bad_line(rt);
+    let mut words = Words::new(line);
+    match read_case(alloc, &mut words) {
+        Ok(case) => judge(rt, &case, words),
+        Err(error) => {
+            output::bad_line(rt, error)?;
+            Ok(false)
+        }
     }
-    verdict(rt, &line[0..used])
-}
-
-// One more unless so many lines were counted as are answered at most.
-fn more(n: u64) -> u64 {
-    if n < LINES { n + 1 } else { n }
-}
-
-fn more_unless(n: u64, same: bool) -> u64 {
-    if same { n } else { more(n) }
-}
-
-fn show_counts(rt: &impl Print, count: u64, other: u64) -> io::Result<()> {
-    println!(rt; "{count} cases, {other} answers differ")
 }
 
 // The verdict on each line, and the counts.
-fn run(
-    rt: &impl Print,
-    reader: &mut impl Read,
-    buffer: &mut [u8],
-    line: &mut [u8],
-) -> io::Result<()> {
+fn main(rt: HostRuntime) -> io::Result<()> {
+    let alloc = rt.alloc();
     let mut count = 0u64;
     let mut other = 0u64;
-    let mut at = 0;
-    let mut end = 0;
-    let mut left = LINES;
-    while 0 < left {
-        let next = input::next(reader, buffer, at, end, line)?;
-        if next.found {
-            other = more_unless(other, end_line(rt, line, next.used)?);
-            count = more(count);
-            at = next.at;
-            end = next.end;
-            left -= 1;
-        } else {
-            left = 0;
-        }
+    for line in Lines::new(alloc, rt.reader(), LINE_ROOM as u32)?.take(LINES) {
+        let same = verdict(&rt, alloc, &line?)?;
+        other = other.saturating_add(u64::from(!same));
+        count = count.saturating_add(1);
     }
-    show_counts(rt, count, other)
-}
-
-fn main(rt: HostRuntime) -> io::Result<()> {
-    let mut buffer = rooms::large_buffer();
-    let mut line = rooms::large_buffer();
-    run(&rt, &mut rt.reader(), &mut buffer, &mut line)
+    println!(rt; "{count} cases, {other} answers differ")
 }

@@ -96,7 +96,6 @@ fn show_lines(rt: &impl Print, s: &[u8], out: &mut [u8]) -> io::Result<()> {
 
 fn main(rt: HostRuntime) -> io::Result<()> {
     let mut out = rooms::buffer();
-    let mut buf = rooms::large_buffer();
-    let n = input::full(&mut rt.reader(), &mut buf)?;
-    show_lines(&rt, &buf[..n], &mut out)
+    let input = input::first(rt.alloc(), &mut rt.reader(), INPUT_ROOM)?;
+    show_lines(&rt, &input, &mut out)
 }

@@ -7,7 +7,7 @@
 
 ghost use Rattle.std.specs.Prelude.{◌+◌, ◌*◌, ◌^◌, ◌≤◌, ◌<◌, length};
 
-use program_console::{input, output, rooms};
+use program_console::{input, output};
 use std::io;
 
 // Bytes at which a rule for characters of three bytes changes, with some on either side.
@@ -19,6 +19,9 @@ const EDGES3: [u8; 16] = [
 const EDGES4: [u8; 16] = [
     0x7F, 0x80, 0x8F, 0x90, 0x9F, 0xA0, 0xBF, 0xC0, 0xE1, 0xED, 0xF0, 0xF1, 0xF3, 0xF4, 0xF5, 0xFF,
 ];
+
+// How much of the input is read.
+const INPUT_ROOM: u32 = 65536;
 
 // The texts that one line of output holds.
 const PER_LINE: usize = 256;
@@ -151,7 +154,6 @@ fn main(rt: HostRuntime) -> io::Result<()> {
     sweep(&rt, &all, 2, 256)?;
     sweep(&rt, &EDGES3, 3, 16)?;
     sweep(&rt, &EDGES4, 4, 256)?;
-    let mut room = rooms::large_buffer();
-    let n = input::full(&mut rt.reader(), &mut room)?;
-    verdicts(&rt, &room[..n])
+    let input = input::first(rt.alloc(), &mut rt.reader(), INPUT_ROOM)?;
+    verdicts(&rt, &input)
 }
