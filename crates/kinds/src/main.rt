@@ -8,7 +8,7 @@
 ghost use Rattle.std.specs.Prelude.{◌≡◌, ◌≤◌, length};
 ghost use Rattle.compile.specs.Outcomes.{outcome};
 
-use compile::Compiled;
+use compile::{CompileRefusal, Lengths};
 use program_console::input::Lines;
 use program_console::output;
 use std::io;
@@ -32,7 +32,7 @@ fn show(rt: &impl Print, counts: &[u64]) -> io::Result<()> {
 }
 
 // Compiles a query. The rooms are never too small, so no query is passed over for them.
-fn compile_query(query: &[u8], plan: &mut [u8], pool: &mut [u8]) -> Compiled
+fn compile_query(query: &[u8], plan: &mut [u8], pool: &mut [u8]) -> Result<Lengths, CompileRefusal>
     requires { (53248 ≤ length plan.old) × (4096 ≤ length pool.old) }
     ensures { (outcome result plan.new pool.new).refusal ≡ 12 → ⊥ }
 {
@@ -43,16 +43,11 @@ fn compile_query(query: &[u8], plan: &mut [u8], pool: &mut [u8]) -> Compiled
 fn take(query: &[u8], counts: &mut [u64; KINDS], plans: &mut u64) {
     let mut plan = [0u8; PLAN_ROOM];
     let mut pool = [0u8; POOL_ROOM];
-    let Compiled::Written(n, m) = compile_query(query, &mut plan, &mut pool) else {
-        return;
-    };
-    if PLAN_ROOM < n {
-        return;
+    if let Ok(lengths) = compile_query(query, &mut plan, &mut pool) {
+        if let (Some(plan), Some(pool)) = (plan.get(..lengths.plan), pool.get(..lengths.pool)) {
+            tally::tally(plan, pool, counts, plans);
+        }
     }
-    if POOL_ROOM < m {
-        return;
-    }
-    tally::tally(&plan[0..n], &pool[0..m], counts, plans);
 }
 
 // Takes every line.

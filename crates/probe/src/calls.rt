@@ -1,19 +1,54 @@
-// The words of a call, read one after the other. Each word has a room of its own here, and what it holds goes on to the next word's function.
+// The call of a line: its name, and the words behind it.
 use crate::{list_calls, path_calls, plan_calls, table_calls, tally_calls};
-use program_console::{output, rooms};
-use program_lines::words;
-use program_lines::words::ByteWord;
+use program_console::output;
+use program_lines::words::Words;
+use program_lines::{WordError, words};
+use std::alloc::{AllocError, Global};
 use std::io;
 
-// Room for a query twice as long as the longest that compiles, and for a table of 8,192 nodes. A plan, a pool and a text have a large buffer each, so that
-// a plan or a pool may be one byte longer than the longest that is accepted.
-const QUERY_ROOM: usize = 8192;
+// Room for a query twice as long as the longest that compiles, and for a table of 8,192 nodes. A plan, a pool and a text have room for one byte more than the
+// longest that is accepted.
+pub const QUERY_ROOM: usize = 8192;
 
 const TABLE_ROOM: usize = 196608;
 
+pub const LARGE_ROOM: usize = 65536;
+
+// Why a line has no answer.
+#[derive(Drop)]
+pub enum Fault {
+    BadLine,
+    // A word does not fit its room.
+    TooLong,
+    // Memory ran out, or a write failed.
+    Io(io::Error),
+}
+
+impl From<WordError> for Fault {
+    fn from(error: WordError) -> Fault {
+        match error {
+            WordError::Bad => Fault::BadLine,
+            WordError::TooLong => Fault::TooLong,
+            WordError::OutOfMemory => Fault::Io(io::Error::from(AllocError)),
+        }
+    }
+}
+
+impl From<io::Error> for Fault {
+    fn from(error: io::Error) -> Fault {
+        Fault::Io(error)
+    }
+}
+
+impl From<AllocError> for Fault {
+    fn from(error: AllocError) -> Fault {
+        Fault::Io(io::Error::from(error))
+    }
+}
+
 // What a line calls.
 #[derive(Clone, Copy)]
-pub enum Call {
+enum Call {
     Table,
     Records,
     Texts,
@@ -27,155 +62,84 @@ pub enum Call {
     Take,
 }
 
-pub fn bad_line(rt: &impl Print) -> io::Result<()> {
-    output::text(rt, b"bad line\n")
+impl TryFrom<&[u8]> for Call {
+    type Error = Fault;
+
+    fn try_from(name: &[u8]) -> Result<Call, Fault> {
+        match name {
+            b"table" => Ok(Call::Table),
+            b"records" => Ok(Call::Records),
+            b"texts" => Ok(Call::Texts),
+            b"text" => Ok(Call::Text),
+            b"key" => Ok(Call::Key),
+            b"path" => Ok(Call::Path),
+            b"compile" => Ok(Call::Compile),
+            b"plan" => Ok(Call::Plan),
+            b"run" => Ok(Call::Run),
+            b"select" => Ok(Call::Select),
+            b"take" => Ok(Call::Take),
+            _ => Err(Fault::BadLine),
+        }
+    }
 }
 
-pub fn too_long(rt: &impl Print) -> io::Result<()> {
-    output::text(rt, b"too long\n")
+impl Call {
+    // How many words its line has.
+    fn words(self) -> usize {
+        match self {
+            Call::Table | Call::Records | Call::Texts | Call::Plan => 3,
+            Call::Text | Call::Key | Call::Compile => 4,
+            Call::Path | Call::Take => 5,
+            Call::Select => 6,
+            Call::Run => 7,
+        }
+    }
 }
 
-// Answers a call whose words begin at a place.
-pub fn start(rt: &impl Print, line: &[u8], from: usize, call: Call) -> io::Result<()> {
+// A table and its text.
+#[derive(Drop)]
+pub struct Lent {
+    pub table: Vec<u8>,
+    pub text: Vec<u8>,
+}
+
+impl Lent {
+    // Reads both.
+    pub fn read(alloc: Global, words: &mut Words) -> Result<Lent, WordError> {
+        let table = words.bytes(alloc, TABLE_ROOM)?;
+        let text = words.bytes(alloc, LARGE_ROOM)?;
+        Ok(Lent { table, text })
+    }
+}
+
+// Answers a line.
+pub fn answer(rt: &impl Print, alloc: Global, line: &[u8]) -> Result<(), Fault> {
+    let mut words = Words::new(line);
+    let name = words.next_word().ok_or(WordError::Bad)?;
+    let call = Call::try_from(name)?;
+    if words::count(line) != call.words() {
+        return Err(Fault::BadLine);
+    }
     match call {
-        Call::Table => with_table(rt, line, from, b"", b"", call),
-        Call::Records => with_table(rt, line, from, b"", b"", call),
-        Call::Texts => with_table(rt, line, from, b"", b"", call),
-        Call::Text => with_table(rt, line, from, b"", b"", call),
-        Call::Key => with_table(rt, line, from, b"", b"", call),
-        Call::Path => with_table(rt, line, from, b"", b"", call),
-        Call::Compile => with_query(rt, line, from, call),
-        Call::Plan => with_plan(rt, line, from, call),
-        Call::Run => with_plan(rt, line, from, call),
-        Call::Select => with_query(rt, line, from, call),
-        Call::Take => tally_calls::answer(rt, line, from),
+        Call::Table => table_calls::check_table(rt, alloc, words),
+        Call::Records => table_calls::check_records(rt, alloc, words),
+        Call::Texts => table_calls::check_texts(rt, alloc, words),
+        Call::Text => table_calls::text(rt, alloc, words),
+        Call::Key => table_calls::key(rt, alloc, words),
+        Call::Path => path_calls::answer(rt, alloc, words),
+        Call::Compile => plan_calls::compile(rt, alloc, words),
+        Call::Plan => plan_calls::check(rt, alloc, words),
+        Call::Run => list_calls::run(rt, alloc, words),
+        Call::Select => list_calls::select(rt, alloc, words),
+        Call::Take => tally_calls::take(rt, alloc, words),
     }
 }
 
-// Reads the query of compile or select.
-fn with_query(rt: &impl Print, line: &[u8], from: usize, call: Call) -> io::Result<()> {
-    let mut room = [0u8; QUERY_ROOM];
-    match words::bytes(line, from, &mut room) {
-        ByteWord::Bytes(n, next) => {
-            let query = words::first(&room, n);
-            match call {
-                Call::Compile => plan_calls::answer(rt, line, next, query),
-                _ => with_table(rt, line, next, query, b"", call),
-            }
-        }
-        ByteWord::TooLong => too_long(rt),
-        ByteWord::Bad => bad_line(rt),
-    }
-}
-
-// Reads the plan of plan or run.
-fn with_plan(rt: &impl Print, line: &[u8], from: usize, call: Call) -> io::Result<()> {
-    let mut room = rooms::large_buffer();
-    match words::bytes(line, from, &mut room) {
-        ByteWord::Bytes(n, next) => with_pool(rt, line, next, words::first(&room, n), call),
-        ByteWord::TooLong => too_long(rt),
-        ByteWord::Bad => bad_line(rt),
-    }
-}
-
-// Reads the pool behind a plan.
-fn with_pool<'a>(
-    rt: &impl Print,
-    line: &[u8],
-    from: usize,
-    plan: &'a [u8],
-    call: Call,
-) -> io::Result<()> {
-    let mut room = rooms::large_buffer();
-    match words::bytes(line, from, &mut room) {
-        ByteWord::Bytes(n, next) => {
-            let pool = words::first(&room, n);
-            match call {
-                Call::Plan => plan_calls::check(rt, plan, pool),
-                _ => with_table(rt, line, next, plan, pool, call),
-            }
-        }
-        ByteWord::TooLong => too_long(rt),
-        ByteWord::Bad => bad_line(rt),
-    }
-}
-
-// Reads the table, behind a query or behind a plan and a pool where the call has them.
-fn with_table<'a>(
-    rt: &impl Print,
-    line: &[u8],
-    from: usize,
-    query: &'a [u8],
-    pool: &'a [u8],
-    call: Call,
-) -> io::Result<()> {
-    let mut room = [0u8; TABLE_ROOM];
-    match words::bytes(line, from, &mut room) {
-        ByteWord::Bytes(n, next) => with_text(
-            rt,
-            line,
-            next,
-            query,
-            pool,
-            words::first(&room, n),
-            call,
-        ),
-        ByteWord::TooLong => too_long(rt),
-        ByteWord::Bad => bad_line(rt),
-    }
-}
-
-// Reads the text behind a table.
-fn with_text<'a>(
-    rt: &impl Print,
-    line: &[u8],
-    from: usize,
-    query: &'a [u8],
-    pool: &'a [u8],
-    table: &'a [u8],
-    call: Call,
-) -> io::Result<()> {
-    let mut room = rooms::large_buffer();
-    match words::bytes(line, from, &mut room) {
-        ByteWord::Bytes(n, next) => {
-            finish(
-                rt,
-                line,
-                next,
-                query,
-                pool,
-                table,
-                words::first(&room, n),
-                call,
-            )
-        }
-        ByteWord::TooLong => too_long(rt),
-        ByteWord::Bad => bad_line(rt),
-    }
-}
-
-// Answers a call whose byte strings are read.
-fn finish<'a>(
-    rt: &impl Print,
-    line: &[u8],
-    from: usize,
-    query: &'a [u8],
-    pool: &'a [u8],
-    table: &'a [u8],
-    text: &'a [u8],
-    call: Call,
-) -> io::Result<()> {
-    match call {
-        Call::Table => table_calls::show(rt, table::check_table(table, text)),
-        Call::Records => table_calls::show(rt, table::check_records(table, text)),
-        Call::Texts => table_calls::show(rt, table::check_texts(table, text)),
-        Call::Text => table_calls::node(rt, line, from, table, text, false),
-        Call::Key => table_calls::node(rt, line, from, table, text, true),
-        Call::Path => path_calls::answer(rt, line, from, table, text),
-        Call::Run => list_calls::answer(rt, line, from, query, pool, table, text, false),
-        Call::Select => list_calls::answer(rt, line, from, query, pool, table, text, true),
-        Call::Compile => bad_line(rt),
-        Call::Plan => bad_line(rt),
-        Call::Take => bad_line(rt),
+// Writes that a line has no answer.
+pub fn show_fault(rt: &impl Print, fault: Fault) -> io::Result<()> {
+    match fault {
+        Fault::BadLine => output::text(rt, b"bad line\n"),
+        Fault::TooLong => output::text(rt, b"too long\n"),
+        Fault::Io(error) => Err(error),
     }
 }

@@ -1,48 +1,26 @@
 // The call path.
-use crate::{calls, plan_calls};
+use crate::calls::{Fault, Lent};
+use crate::rooms;
 use program_console::output;
-use program_lines::words;
-use program_lines::words::NumberWord;
-use std::io;
+use program_lines::words::Words;
+use std::alloc::Global;
 
 // The refusal that names the path's length.
 const SMALL_ROOM: u8 = 16;
 
-// Answers path, whose node and whose room begin at a place.
-pub fn answer(
-    rt: &impl Print,
-    line: &[u8],
-    from: usize,
-    table: &[u8],
-    text: &[u8],
-) -> io::Result<()> {
-    let NumberWord::Is(node, next) = words::number(line, from) else {
-        return calls::bad_line(rt);
-    };
-    let NumberWord::Is(size, _) = words::number(line, next) else {
-        return calls::bad_line(rt);
-    };
-    if plan_calls::ROOM < size {
-        return calls::too_long(rt);
-    }
-    let mut room = plan_calls::filled();
-    show(rt, table, text, node, &mut room[0..size])
-}
-
-// Writes the path into a room, and then the answer: the node of refusals 10 and 17, the length of refusal 16, and 0 otherwise.
-fn show(
-    rt: &impl Print,
-    table: &[u8],
-    text: &[u8],
-    node: usize,
-    room: &mut [u8],
-) -> io::Result<()> {
-    let numbers = refusals::of_path(table_path::path_of_node(table, text, node, room));
+// Answers path: the node of refusals 10 and 17, the length of refusal 16, and 0 otherwise.
+pub fn answer(rt: &impl Print, alloc: Global, mut words: Words) -> Result<(), Fault> {
+    let lent = Lent::read(alloc, &mut words)?;
+    let node = words.number()?;
+    let mut room = rooms::filled(alloc, words.number()?)?;
+    let written = table_path::path_of_node(&lent.table, &lent.text, node, &mut room);
+    let numbers = refusals::of_path(written);
     let size = numbers.size;
     if numbers.refusal == 0 {
         output::text(rt, b"ok ")?;
-        output::bytes(rt, words::first(room, size))?;
-        return show_changed(rt, room, size);
+        output::bytes(rt, rooms::first(&room, size))?;
+        rooms::show_changed(rt, rooms::is_changed(&room, size))?;
+        return Ok(());
     }
     output::text(rt, b"refused")?;
     output::next_number(rt, numbers.refusal as usize)?;
@@ -51,13 +29,6 @@ fn show(
     } else {
         output::next_number(rt, numbers.node)?;
     }
-    show_changed(rt, room, 0)
-}
-
-// Ends the answer, and says if a byte of the room behind its first bytes changed.
-fn show_changed(rt: &impl Print, room: &[u8], n: usize) -> io::Result<()> {
-    if !plan_calls::kept(room, n) {
-        return output::text(rt, b" changed\n");
-    }
-    output::newline(rt)
+    rooms::show_changed(rt, rooms::is_changed(&room, 0))?;
+    Ok(())
 }

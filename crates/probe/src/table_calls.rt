@@ -1,10 +1,10 @@
 // The calls records, texts, table, text and key.
-use crate::calls;
+use crate::calls::{Fault, Lent};
 use program_console::output;
-use program_lines::words;
-use program_lines::words::NumberWord;
+use program_lines::words::Words;
+use std::alloc::Global;
 use std::io;
-use table::TableChecked;
+use table::TableRefusal;
 
 // The refusal of a check that names no node.
 const WRONG_SIZE: u8 = 9;
@@ -12,8 +12,29 @@ const WRONG_SIZE: u8 = 9;
 // What the lent number holds before a call.
 const NOT_SET: u8 = 255;
 
+// Answers table.
+pub fn check_table(rt: &impl Print, alloc: Global, mut words: Words) -> Result<(), Fault> {
+    let lent = Lent::read(alloc, &mut words)?;
+    show(rt, table::check_table(&lent.table, &lent.text))?;
+    Ok(())
+}
+
+// Answers records.
+pub fn check_records(rt: &impl Print, alloc: Global, mut words: Words) -> Result<(), Fault> {
+    let lent = Lent::read(alloc, &mut words)?;
+    show(rt, table::check_records(&lent.table, &lent.text))?;
+    Ok(())
+}
+
+// Answers texts.
+pub fn check_texts(rt: &impl Print, alloc: Global, mut words: Words) -> Result<(), Fault> {
+    let lent = Lent::read(alloc, &mut words)?;
+    show(rt, table::check_texts(&lent.table, &lent.text))?;
+    Ok(())
+}
+
 // Writes what a check found.
-pub fn show(rt: &impl Print, checked: TableChecked) -> io::Result<()> {
+fn show(rt: &impl Print, checked: Result<(), TableRefusal>) -> io::Result<()> {
     let numbers = refusals::of_check(checked);
     if numbers.refusal == 0 {
         return output::text(rt, b"ok\n");
@@ -26,26 +47,24 @@ pub fn show(rt: &impl Print, checked: TableChecked) -> io::Result<()> {
     output::newline(rt)
 }
 
-// Answers text and key, whose node begins at a place.
-pub fn node(
-    rt: &impl Print,
-    line: &[u8],
-    from: usize,
-    table: &[u8],
-    text: &[u8],
-    key: bool,
-) -> io::Result<()> {
-    let NumberWord::Is(node, _) = words::number(line, from) else {
-        return calls::bad_line(rt);
-    };
+// Answers text.
+pub fn text(rt: &impl Print, alloc: Global, mut words: Words) -> Result<(), Fault> {
+    let lent = Lent::read(alloc, &mut words)?;
+    let node = words.number()?;
     let mut number = NOT_SET;
-    if key {
-        let part = table::key_of_node(table, text, node, &mut number);
-        show_part(rt, part, number)
-    } else {
-        let part = table::text_of_node(table, text, node, &mut number);
-        show_part(rt, part, number)
-    }
+    let part = table::text_of_node(&lent.table, &lent.text, node, &mut number);
+    show_part(rt, part, number)?;
+    Ok(())
+}
+
+// Answers key.
+pub fn key(rt: &impl Print, alloc: Global, mut words: Words) -> Result<(), Fault> {
+    let lent = Lent::read(alloc, &mut words)?;
+    let node = words.number()?;
+    let mut number = NOT_SET;
+    let part = table::key_of_node(&lent.table, &lent.text, node, &mut number);
+    show_part(rt, part, number)?;
+    Ok(())
 }
 
 // Writes a part, or the refusal.

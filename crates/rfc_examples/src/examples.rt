@@ -1,8 +1,7 @@
 // An example: its words are read, and what select answers is compared with what is wanted.
 use program_console::output;
-use program_lines::WordError;
-use program_lines::words;
 use program_lines::words::Words;
+use program_lines::{WordError, words};
 use refusals::RunNumbers;
 use std::alloc::{AllocError, Global};
 use std::io;
@@ -179,7 +178,10 @@ fn selected(outcome: RunNumbers, list: &[u32]) -> Option<&[u32]> {
 
 // Whether each node that is wanted was selected as often as it is wanted, and no other.
 fn same_in_any_order(nodes: &[u32], listed: &[u32]) -> bool {
-    nodes.len() == listed.len() && nodes.iter().all(|one| times(nodes, *one) == times(listed, *one))
+    nodes.len() == listed.len()
+        && nodes
+            .iter()
+            .all(|one| times(nodes, *one) == times(listed, *one))
 }
 
 // How often a node stands in a list.

@@ -13,6 +13,9 @@ use program_console::{input, output, rooms};
 use std::io;
 use text_quoted::Unescaped;
 
+// How much of the input is read.
+const INPUT_ROOM: u32 = 65536;
+
 // Writes bytes in hexadecimal.
 fn print_bytes(rt: &impl Print, s: &[u8]) -> io::Result<()> {
     for b in s {
