@@ -1,6 +1,6 @@
 -- A test of one member of a node, as the plan has it: `@` with one name, tested or compared with a literal. What its bytes are, and that what is found under the
 -- name takes what is left of a filter's code further. P is the plan, L the pool, S the table, X the text. Assumes nothing.
-use Rattle.std.specs.Prelude.{ℕ, ◌+◌, ◌≤◌, ◌<◌, ◌≡◌, refl, List, [], ◌∷◌, Bool as Bits, true, false, cond, eqb, ltb, length, get_or}
+use Rattle.std.specs.Prelude.{ℕ, ◌+◌, ◌≤◌, ◌<◌, ◌≡◌, refl, List, [], ◌∷◌, Bool as Bits, true, false, cond, eqb, ltb, length, get_or, Option, Some, None}
 use Rattle.std.proofs.Common.{sym, ap, ◌∙◌, subst, arith, eq-eqb, ne_eqb, eqb-true}
 use Rattle.std.proofs.lemmas.Bool.{eqb-false}
 use Rattle.definition.specs.Bytes.{number, part}
@@ -13,8 +13,6 @@ use Rattle.definition.specs.Tables.{node_count, node_at, low_word, child_count}
 use Rattle.definition.specs.Evaluation.{eval_segments, first_value}
 use Rattle.eval_laws.specs.Items.{SegmentsAt, Parts, parts, segments_in, end_long}
 use Rattle.eval_laws.specs.Todos.{Todo, todo_in, todo_to, at_query, QueryAt, at_literal}
-use Rattle.eval_values.specs.declared.members.Member.{Member}
-use Rattle.eval_values.specs.declared.members.Member.TheVariants.{At, Nothing as Absent}
 use Rattle.eval_values.specs.Near.{Near}
 use Rattle.eval_items.specs.Ends.{DoneLiteral}
 use Rattle.eval_items.specs.EndLaws.{past_constant, past_text, past_number}
@@ -74,10 +72,10 @@ module _ {P L S X : List ℕ} (given : Given P L S X) {node c : ℕ} (node_in : 
   pub name_one : AskOne P L S X (c + 3) node 5 5
   name_one = one_asked given name_start n.head
 
-  pub name_lost : (r : Member) → DoneOne P L S X (c + 3) node r → r ≡ Absent → DoneReach P L S X node c (record { node = node; pc = c; some = false })
+  pub name_lost : (r : Option ℕ) → DoneOne P L S X (c + 3) node r → r ≡ None → DoneReach P L S X node c (record { node = node; pc = c; some = false })
   name_lost r o e = record { node_in = node_in; deeper = omega arith; later = omega arith; front = reach_lost given name_start n.head r o e }
 
-  pub name_reached : (r : Member) → DoneOne P L S X (c + 3) node r → (m : ℕ) → r ≡ At m → DoneReach P L S X node c (record { node = m; pc = c + 8; some = true })
+  pub name_reached : (r : Option ℕ) → DoneOne P L S X (c + 3) node r → (m : ℕ) → r ≡ Some m → DoneReach P L S X node c (record { node = m; pc = c + 8; some = true })
   name_reached r o m e =
       let i = reach_next given name_start n.head r o m e (c + 8) (name_ends given.few_p n.head) in
       record { node_in = i.node_in; deeper = i.deeper; later = i.later; front = reach_found i }
@@ -98,9 +96,9 @@ module _ {P L S X : List ℕ} {p node : ℕ} (a : AskOne P L S X p node 5 5) whe
 
     -- the member that has it at a place is the one that it selects
     module _ {near : ℕ} (n : Near S X node near (part L start size)) (j : ℕ) (i : j ≡ low_word S node) where
-      pub name_near : DoneOne P L S X p node (At (j + near))
+      pub name_near : DoneOne P L S X p node (Some (j + near))
       name_near =
-          subst (λ (x : ℕ). DoneOne P L S X p node (At (x + near))) (sym i) (name_found a n.map (low_word S node) (child_count S node) refl refl start size u v _ n.looked)
+          subst (λ (x : ℕ). DoneOne P L S X p node (Some (x + near))) (sym i) (name_found a n.map (low_word S node) (child_count S node) refl refl start size u v _ n.looked)
 
       pub near_room : j + near < max_nodes
       near_room = omega (arith, name_near.inside (j + near) refl, a.tab.size.few)
@@ -246,7 +244,7 @@ module _ {P L S X : List ℕ} {root node q e : ℕ} (a : AskShort P L S X root n
   told_room = let h = a.within.few_p in omega (arith, b.room)
 
   -- nothing is found
-  plain_absent : (r : Member) → DoneOne P L S X (q + 1 + 3) node r → r ≡ Absent → DonePlain P L S X node q (record { n = 0; first = 0; z = q + 1 + 9; some = true })
+  plain_absent : (r : Option ℕ) → DoneOne P L S X (q + 1 + 3) node r → r ≡ None → DonePlain P L S X node q (record { n = 0; first = 0; z = q + 1 + 9; some = true })
   plain_absent r o i =
       let d = name_lost told_given a.within.node_in told_query b.here r o i in
       record {
@@ -257,7 +255,7 @@ module _ {P L S X : List ℕ} {root node q e : ℕ} (a : AskShort P L S X root n
       }
 
   -- node m is found
-  plain_found : (r : Member) → DoneOne P L S X (q + 1 + 3) node r → (m : ℕ) → r ≡ At m → DonePlain P L S X node q (record { n = 1; first = m; z = q + 1 + 9; some = true })
+  plain_found : (r : Option ℕ) → DoneOne P L S X (q + 1 + 3) node r → (m : ℕ) → r ≡ Some m → DonePlain P L S X node q (record { n = 1; first = m; z = q + 1 + 9; some = true })
   plain_found r o m i =
       let d = name_reached told_given a.within.node_in told_query b.here r o m i in
       let x : q + 1 + 8 + 1 ≡ q + 1 + 9 = omega arith in
@@ -299,7 +297,7 @@ module _ {P L S X : List ℕ} {root node q e : ℕ} (a : AskShort P L S X root n
           told_by r (against_node told_against y.more y.w y.past y.inside y.compare_is u r (subst (λ (o : ℕ). DoneNode P L S X v.first v.z o r) y.op_is g))
 
   -- under the name there is nothing
-  pub atom_absent : (r : Member) → DoneOne P L S X (q + 1 + 3) node r → r ≡ Absent → DoneShort P L S X root node q e (tells false t.next)
+  pub atom_absent : (r : Option ℕ) → DoneOne P L S X (q + 1 + 3) node r → r ≡ None → DoneShort P L S X root node q e (tells false t.next)
   atom_absent r o i = by (eqb t.form 1) refl
     where
       by : (x : Bits) → eqb t.form 1 ≡ x → DoneShort P L S X root node q e (tells false t.next)
@@ -307,7 +305,7 @@ module _ {P L S X : List ℕ} {root node q e : ℕ} (a : AskShort P L S X root n
       by false j = told_nothing _ (plain_absent r o i) refl refl (eqb-false t.form 1 j) refl
 
   -- there is node m
-  module _ (r : Member) (o : DoneOne P L S X (q + 1 + 3) node r) (m : ℕ) (i : r ≡ At m) where
+  module _ (r : Option ℕ) (o : DoneOne P L S X (q + 1 + 3) node r) (m : ℕ) (i : r ≡ Some m) where
     pub atom_has : t.form ≡ 1 → DoneShort P L S X root node q e (tells true t.next)
     atom_has j = told_tested _ (plain_found r o m i) refl refl j true refl
 

@@ -2,7 +2,7 @@
 -- what two such tests with `&&` or `||` between them say, and what the number of children says is what the whole test says. P is the plan, L the pool, S the table, X
 -- the text.
 -- Assumes nothing.
-use Rattle.std.specs.Prelude.{ℕ, ◌+◌, ◌≤◌, ◌<◌, ◌≡◌, refl, List, [], ◌∷◌, Bool as Bits, true, false, not, ◌&&◌, leb, ℤ, pos, length, get_or}
+use Rattle.std.specs.Prelude.{ℕ, ◌+◌, ◌≤◌, ◌<◌, ◌≡◌, refl, List, [], ◌∷◌, Bool as Bits, true, false, not, ◌&&◌, leb, ℤ, pos, length, get_or, Option, Some, None}
 use Rattle.std.proofs.Common.{sym, ap, ◌∙◌, subst, arith, leb-true, le-leb}
 use Rattle.std.proofs.lemmas.Bool.{lt-leb}
 use Rattle.definition.specs.Bytes.{number, part, signed64}
@@ -19,8 +19,6 @@ use Rattle.eval_laws.specs.Steps.{kept}
 use Rattle.eval_laws.specs.Bytes.{holds_in}
 use Rattle.eval_laws.specs.Items.{SegmentsAt, segments_in}
 use Rattle.eval_laws.specs.Todos.{todo_start, todo_end}
-use Rattle.eval_values.specs.declared.members.Member.{Member}
-use Rattle.eval_values.specs.declared.members.Member.TheVariants.{At, Nothing as Absent}
 use Rattle.eval_values.specs.Alike.{Compares}
 use Rattle.eval_values.specs.declared.Operand.TheVariants.{Int}
 use Rattle.eval_items.specs.LeafLaws.{literal_room, done_integer}
@@ -76,11 +74,11 @@ module _ {P L S X : List ℕ} {node rest len at cap : ℕ} (a : AskVisit P L S X
   pub pushed_end : get_or P rest 0 ≡ 0x0A → (l' : List ℕ) (r : ℕ) → st cap l' r ≡ push node (st cap l at) → DonePushed P L S X node rest cap l at l' r
   pushed_end e l' r p = settled (visit_end reached_here cap l at a.given.tab refl e l' r p) refl
 
-  module _ (n : NameAt P rest) (r : Member) (o : DoneOne P L S X (rest + 3) node r) where
-    pub pushed_lost : r ≡ Absent → DonePushed P L S X node rest cap l at l at
+  module _ (n : NameAt P rest) (r : Option ℕ) (o : DoneOne P L S X (rest + 3) node r) where
+    pub pushed_lost : r ≡ None → DonePushed P L S X node rest cap l at l at
     pushed_lost e = settled (visit_lost (name_lost a.given a.node_in a.query n r o e) cap l at refl a.room) refl
 
-    pub pushed_name : (m : ℕ) → r ≡ At m → (l' : List ℕ) (k : ℕ) → st cap l' k ≡ push m (st cap l at) → DonePushed P L S X node rest cap l at l' k
+    pub pushed_name : (m : ℕ) → r ≡ Some m → (l' : List ℕ) (k : ℕ) → st cap l' k ≡ push m (st cap l at) → DonePushed P L S X node rest cap l at l' k
     pushed_name m e l' k p = settled (visit_end (name_reached a.given a.node_in a.query n r o m e) cap l at a.given.tab refl n.end_is l' k p) refl
 
 -- ---- one test, or two with an operator between them

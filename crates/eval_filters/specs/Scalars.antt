@@ -1,6 +1,6 @@
 -- A test of one member is false for a node that is not a map, whatever the root is: under the name there is nothing, and nothing compares with no literal.
 -- P is the plan, L the pool, S the table, X the text. Assumes nothing.
-use Rattle.std.specs.Prelude.{ℕ, ◌+◌, ◌≤◌, ◌<◌, ◌≡◌, refl, List, [], ◌∷◌, Bool as Bits, true, false, eqb, length, get_or}
+use Rattle.std.specs.Prelude.{ℕ, ◌+◌, ◌≤◌, ◌<◌, ◌≡◌, refl, List, [], ◌∷◌, Bool as Bits, true, false, eqb, length, get_or, None}
 use Rattle.std.proofs.Common.{sym, ap, ◌∙◌, arith, eqb-true}
 use Rattle.std.proofs.lemmas.Bool.{eqb-false}
 use Rattle.definition.specs.Values.{Json}
@@ -11,7 +11,6 @@ use Rattle.definition.specs.Tables.{node_count, node_at, kind_at, kind_map}
 use Rattle.definition.specs.Evaluation.{eval_segments, eval_test}
 use Rattle.eval_laws.specs.Founds.{Found, found_test, found_none}
 use Rattle.eval_laws.specs.Todos.{Todo, todo_start, todo_end, todo_to, at_query, QueryAt}
-use Rattle.eval_values.specs.declared.members.Member.TheVariants.{Nothing as Absent}
 use Rattle.eval_items.specs.Leaves.{cap_for}
 use Rattle.eval_items.specs.LeafLaws.{name_else}
 use Rattle.eval_front.specs.Visits.{Query, Given}
@@ -38,7 +37,7 @@ module _ {P L S X : List ℕ} (given : Given P L S X) {m q e : ℕ} (node_in : m
         let y = scalar_query in
         let w : Query P L (q + 1) = record { f = y.f; k = y.k; at = y.at } in
         let o = name_else (name_one given node_in w b.here) other in
-        found_lost P L S X given.tab m q node_in _ (name_lost given node_in w b.here Absent o refl) refl 0x19 y.f y.k y.at
+        found_lost P L S X given.tab m q node_in _ (name_lost given node_in w b.here None o refl) refl 0x19 y.f y.k y.at
 
     scalar_tested : t.form ≡ 1 → Left P L t.next e R (node_at S X m) false want
     scalar_tested i =

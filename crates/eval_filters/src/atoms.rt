@@ -8,7 +8,6 @@ ghost use Rattle.eval_filters.specs.Atoms.{DoneName, AskCode, DoneBehind, DoneAt
 
 use eval_items::leaves;
 use eval_values::members;
-use eval_values::members::Member;
 use plan_format::heads::NAME_HEAD;
 use plan_format::kinds::{COMPARE, CONSTANT, CURRENT, END, INTEGER, TEST, TEXT};
 use plan_format::operators::EQ;
@@ -196,13 +195,13 @@ fn named(
     size: usize,
     node: usize,
     near: usize,
-) -> Member
+) -> Option<usize>
     requires ask_one { AskOne plan.now pool.now table.now text.now p node 5 5 }
     requires start_value { (start ≡ number (part plan.now (p + 1) 2)) × (size ≡ number (part plan.now (p + 3) 2)) }
     ensures { DoneOne plan.now pool.now table.now text.now p node result }
 {
     if members::is_near(table, text, node, near, pool, start, size) {
-        return Member::At(records::first_child(table, node) as usize + near);
+        return Some(records::first_child(table, node) as usize + near);
     }
     leaves::select_one(plan, pool, table, text, p, node)
 }
@@ -258,7 +257,7 @@ pub fn holds(
     let size = t.size;
     let c = q + 1;
     let found = named(plan, pool, table, text, c + 3, start, size, node, near);
-    let Member::At(m) = found else {
+    let Some(m) = found else {
         return Held { acc: false, near };
     };
     let there = m - records::first_child(table, node) as usize;
@@ -295,7 +294,7 @@ pub fn holds_next(
     let op = t.op;
     let c = q + 1;
     let found = leaves::select_one(plan, pool, table, text, c + 3, node);
-    let Member::At(m) = found else {
+    let Some(m) = found else {
         return false;
     };
     if form == HAS {

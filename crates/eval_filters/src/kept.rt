@@ -16,7 +16,6 @@ use crate::atoms::{Atom, Held};
 use crate::{atoms, counts, itself};
 use eval_items::{leaves, plans};
 use eval_values::members;
-use eval_values::members::Member;
 use plan_format::kinds::{AND, END, NOT, OR};
 use table::records;
 use text::bytes;
@@ -69,13 +68,13 @@ fn tail_named(
     size: usize,
     node: usize,
     near: usize,
-) -> Member
+) -> Option<usize>
     requires ask_one { AskOne plan.now pool.now table.now text.now p node 5 5 }
     requires start_value { (start ≡ number (part plan.now (p + 1) 2)) × (size ≡ number (part plan.now (p + 3) 2)) }
     ensures { DoneOne plan.now pool.now table.now text.now p node result }
 {
     if members::is_near(table, text, node, near, pool, start, size) {
-        return Member::At(records::first_child(table, node) as usize + near);
+        return Some(records::first_child(table, node) as usize + near);
     }
     leaves::select_one(plan, pool, table, text, p, node)
 }
@@ -106,7 +105,7 @@ pub fn push_tail(
     let start = bytes::word16(plan, p + 1);
     let size = bytes::word16(plan, p + 3);
     let found = tail_named(plan, pool, table, text, p, start, size, node, near);
-    let Member::At(m) = found else {
+    let Some(m) = found else {
         return Pushed { at, near };
     };
     let there = m - records::first_child(table, node) as usize;

@@ -1,5 +1,5 @@
 -- A segment of one name or index at the front of a query: what it is, and what follows where its node is found and where it is not. Assumes nothing.
-use Rattle.std.specs.Prelude.{ℕ, ◌+◌, ◌≤◌, ◌≡◌, refl, true, false, length}
+use Rattle.std.specs.Prelude.{ℕ, ◌+◌, ◌≤◌, ◌≡◌, refl, true, false, length, Option, Some, None}
 use Rattle.std.proofs.Math.Path.{sym, ap}
 use Rattle.std.proofs.Common.{◌∙◌, true≢false, arith}
 use mathlib.Core.List.{List, [], ◌∷◌}
@@ -16,8 +16,6 @@ use Rattle.eval_laws.specs.States.{State}
 use Rattle.eval_laws.specs.Emits.{go, go_nil}
 use Rattle.eval_laws.specs.Steps.{segment_child}
 use Rattle.eval_laws.specs.Items.{SegmentsAt, SelectorAt, parts, last}
-use Rattle.eval_values.specs.declared.members.Member.{Member}
-use Rattle.eval_values.specs.declared.members.Member.TheVariants.{At, Nothing as Absent}
 use Rattle.eval_items.specs.Ends.{DoneNext}
 use Rattle.eval_items.specs.Leaves.{member_nodes, AskOne, DoneOne}
 use Rattle.eval_front.specs.declared.Reached.{Reached}
@@ -60,11 +58,11 @@ single {P} {L} {q} {j} {g} few d at =
 -- ---- what it selects of a node
 
 module _ {P L : List ℕ} {q j : ℕ} {g : Segments} (y : Single P L q j g) (S X : List ℕ) (R N : Json) (s : State) where
-  single_some : (r : Member) (n : ℕ) → r ≡ At n → eval_selector y.x R N ≡ member_nodes S X r → go y.behind R (node_at S X n ∷ []) s ≡ go g R (N ∷ []) s
+  single_some : (r : Option ℕ) (n : ℕ) → r ≡ Some n → eval_selector y.x R N ≡ member_nodes S X r → go y.behind R (node_at S X n ∷ []) s ≡ go g R (N ∷ []) s
   unfolding eval_selectors
   single_some r n e d = ap (λ (l : List Json). go y.behind R l s) (ap (member_nodes S X) (sym e) ∙ sym d) ∙ segment_child (one y.x) y.behind g R N s y.made
 
-  single_none : (r : Member) → r ≡ Absent → eval_selector y.x R N ≡ member_nodes S X r → s ≡ go g R (N ∷ []) s
+  single_none : (r : Option ℕ) → r ≡ None → eval_selector y.x R N ≡ member_nodes S X r → s ≡ go g R (N ∷ []) s
   unfolding eval_selectors
   single_none r e d = sym (go_nil y.behind R s) ∙ ap (λ (l : List Json). go y.behind R l s) (ap (member_nodes S X) (sym e) ∙ sym d) ∙ segment_child (one y.x) y.behind g R N s y.made
 
@@ -90,7 +88,7 @@ module _ {P L S X : List ℕ} {node pc m q c : ℕ} (z : Given P L S X) (i : InR
       }
 
   -- there is no such node
-  pub reach_lost : (r : Member) → DoneOne P L S X (q + 3) m r → r ≡ Absent → (f : Segments) (k : ℕ) → SegmentsAt P L pc k f → Front P L S X node pc (record { node = m; pc = q; some = false }) f k
+  pub reach_lost : (r : Option ℕ) → DoneOne P L S X (q + 3) m r → r ≡ None → (f : Segments) (k : ℕ) → SegmentsAt P L pc k f → Front P L S X node pc (record { node = m; pc = q; some = false }) f k
   reach_lost r o a f k at =
       let w = i.front f k at in
       let y = single z.few_p d w.at in
@@ -103,11 +101,11 @@ module _ {P L S X : List ℕ} {node pc m q c : ℕ} (z : Given P L S X) (i : InR
         lost = λ u R s. single_none y S X R (node_at S X m) s r a (o.selects y.x w.j R y.here) ∙ w.same R s;
       }
 
-  pub done_lost : (r : Member) → DoneOne P L S X (q + 3) m r → r ≡ Absent → {w : Reached} → w ≡ record { node = m; pc = q; some = false } → DoneReach P L S X node pc w
+  pub done_lost : (r : Option ℕ) → DoneOne P L S X (q + 3) m r → r ≡ None → {w : Reached} → w ≡ record { node = m; pc = q; some = false } → DoneReach P L S X node pc w
   done_lost r o a e = rw e (record { node_in = i.node_in; deeper = i.deeper; later = i.later; front = reach_lost r o a })
 
   -- there is one
-  module _ (r : Member) (o : DoneOne P L S X (q + 3) m r) (n : ℕ) (a : r ≡ At n) (q' : ℕ) (v : DoneNext P (q + 3) q') where
+  module _ (r : Option ℕ) (o : DoneOne P L S X (q + 3) m r) (n : ℕ) (a : r ≡ Some n) (q' : ℕ) (v : DoneNext P (q + 3) q') where
     along_next : (f : Segments) (k : ℕ) → Along P L S X node pc m q f k → Along P L S X node pc n q' f k
     along_next f k w =
         let y = single z.few_p d w.at in

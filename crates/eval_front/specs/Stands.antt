@@ -1,8 +1,7 @@
 -- Where the selectors of a segment stand, and what each kind of selector comes to. Assumes nothing.
-use Rattle.std.specs.Prelude.{ℕ, ◌+◌, ◌-◌, ◌≤◌, ◌<◌, ◌≡◌, refl, List, [], ◌∷◌, Bool as Bits, true, false, eqb, leb, length, get_or}
+use Rattle.std.specs.Prelude.{ℕ, ◌+◌, ◌-◌, ◌≤◌, ◌<◌, ◌≡◌, refl, List, [], ◌∷◌, Bool as Bits, true, false, eqb, leb, length, get_or, Option, Some, None}
 use Rattle.std.proofs.Common.{sym, ap, ◌∙◌, arith, eqb-true, leb-true, leb-false}
 use Rattle.std.proofs.lemmas.Bool.{eqb-false}
-use Rattle.definition.specs.Bytes.{number}
 use Rattle.definition.specs.Values.{Json}
 use Rattle.definition.specs.Forms.{Segments, Selectors, Selector, many_selectors}
 use Rattle.definition.specs.Forms.Segments.{descendant}
@@ -20,8 +19,6 @@ use Rattle.eval_laws.specs.States.{State}
 use Rattle.eval_laws.specs.Emits.{go, go_nil}
 use Rattle.eval_laws.specs.Ranges.{Range, picked, picked_end, select_slice, select_slice_else}
 use Rattle.eval_laws.specs.Items.{SegmentsAt, SelectorsAt, SelectorAt, Parts, last, front, Sliced, Filtered, segments_in, selector_some, many_small, many_some, selector_kind, kind_of_selector}
-use Rattle.eval_values.specs.declared.members.Member.{Member}
-use Rattle.eval_values.specs.declared.members.Member.TheVariants.{At, Nothing as Absent}
 use Rattle.eval_items.specs.Ends.{DoneSkip, DoneNext}
 use Rattle.eval_items.specs.Leaves.{member_nodes, AskWalk, DoneWalk}
 
@@ -152,10 +149,10 @@ pub kind_high : {P L : List ℕ} {p rest : ℕ} {x : Selector} {q : Segments} {k
 kind_high {P = P} {p = p} {x = x} {k = k} a = omega (arith, kind_of_selector P p k x a.selector.holds, selector_high x)
 
 -- a name or an index: the node that is found, or none
-pub one_found : (S X : List ℕ) (x : Selector) (R N : Json) (q : Segments) (r : Member) (m : ℕ) (s s' : State) → r ≡ At m → eval_selector x R N ≡ member_nodes S X r → s' ≡ go q R (node_at S X m ∷ []) s → s' ≡ go q R (eval_selector x R N) s
+pub one_found : (S X : List ℕ) (x : Selector) (R N : Json) (q : Segments) (r : Option ℕ) (m : ℕ) (s s' : State) → r ≡ Some m → eval_selector x R N ≡ member_nodes S X r → s' ≡ go q R (node_at S X m ∷ []) s → s' ≡ go q R (eval_selector x R N) s
 one_found S X x R N q r m s s' e d h = h ∙ ap (λ (l : List Json). go q R l s) (ap (member_nodes S X) (sym e) ∙ sym d)
 
-pub one_absent : (S X : List ℕ) (x : Selector) (R N : Json) (q : Segments) (r : Member) (s : State) → r ≡ Absent → eval_selector x R N ≡ member_nodes S X r → s ≡ go q R (eval_selector x R N) s
+pub one_absent : (S X : List ℕ) (x : Selector) (R N : Json) (q : Segments) (r : Option ℕ) (s : State) → r ≡ None → eval_selector x R N ≡ member_nodes S X r → s ≡ go q R (eval_selector x R N) s
 one_absent S X x R N q r s e d = sym (go_nil q R s) ∙ ap (λ (l : List Json). go q R l s) (ap (member_nodes S X) (sym e) ∙ sym d)
 
 -- a slice: the elements at its places; of another node than a list there are none

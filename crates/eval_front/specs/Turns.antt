@@ -7,7 +7,7 @@ use Rattle.eval_laws.specs.States.{st, push}
 use Rattle.eval_laws.specs.Steps.{segment_end}
 use Rattle.eval_laws.specs.Items.{segments_in, is_end}
 use Rattle.eval_front.specs.declared.Reached.{Reached}
-use Rattle.eval_front.specs.Visits.{Query, over, DoneReach, DoneVisit}
+use Rattle.eval_front.specs.Visits.{Query, DoneReach, DoneVisit}
 use Rattle.eval_front.specs.Places.{push_bound}
 
 -- ---- one node

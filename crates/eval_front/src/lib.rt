@@ -10,7 +10,6 @@ ghost use Rattle.eval_laws.specs.States.{st, push as pushed, emit};
 ghost use Rattle.eval_front.specs.Visits.{AskPush, AskReach, DoneReach, AskVisit, DoneVisit, AskPlaced, DonePlaced, AskNumbers, numbers_from, AskWalked, AskContainer, DoneContainer, Further};
 
 use eval_items::leaves;
-use eval_values::members::Member;
 use plan_format::heads::{INDEX_HEAD, NAME_HEAD};
 use plan_format::kinds::END;
 use slices::Walk;
@@ -94,7 +93,7 @@ pub fn reach(plan: &[u8], pool: &[u8], table: &[u8], text: &[u8], node: usize, p
             let a = bytes::word16(plan, q + 4);
             let n = bytes::word16(plan, q + 6);
             let found = leaves::named(plan, pool, table, text, q + 3, a, n, m);
-            let Member::At(k) = found else {
+            let Some(k) = found else {
                 return came_to(m, q, false);
             };
             m = k;
@@ -104,7 +103,7 @@ pub fn reach(plan: &[u8], pool: &[u8], table: &[u8], text: &[u8], node: usize, p
                 return came_to(m, q, true);
             }
             let found = leaves::get_by_index(plan, pool, table, text, q + 3, m);
-            let Member::At(k) = found else {
+            let Some(k) = found else {
                 return came_to(m, q, false);
             };
             m = k;
@@ -127,7 +126,7 @@ pub fn front(plan: &[u8], pool: &[u8], table: &[u8], text: &[u8], node: usize, p
             let a = bytes::word16(plan, rest + 4);
             let n = bytes::word16(plan, rest + 6);
             let found = leaves::first_named(plan, pool, table, text, rest + 3, a, n, m);
-            let Member::At(k) = found else {
+            let Some(k) = found else {
                 return came_to(m, rest, false);
             };
             m = k;
@@ -137,7 +136,7 @@ pub fn front(plan: &[u8], pool: &[u8], table: &[u8], text: &[u8], node: usize, p
                 return came_to(m, rest, true);
             }
             let found = leaves::get_by_index(plan, pool, table, text, rest + 3, m);
-            let Member::At(k) = found else {
+            let Some(k) = found else {
                 return came_to(m, rest, false);
             };
             m = k;

@@ -1,11 +1,11 @@
 -- Signed numbers of 64 bits, as the machine holds them. Assumes nothing.
-use Prim.Native.Nat.{ℕ, suc, ◌≤◌, ◌^◌}
+use Prim.Native.Nat.{suc, ◌≤◌, ◌^◌}
 use mathlib.Core.Path.{◌≡◌, ap, ◌∙◌}
 use mathlib.Core.Bool.{true}
 use lib.IntN.{ℤ}
 use lib.Signed.{mag}
 use mir.Syntax.{w64}
-use mir.Val.{SFits, to_z, of_z}
+use mir.Val.{to_z, of_z}
 use Rattle.definition.specs.Literals.{in_range}
 use Rattle.number_integers.specs.Signs.{back}
 

@@ -1,7 +1,6 @@
 -- Where items end: laws over the bytes alone. Assumes nothing.
 use Rattle.std.specs.Prelude.{ℕ, suc, ◌+◌, ◌-◌, ◌≤◌, ◌<◌, ◌≡◌, refl, List, ◌∷◌, ◌++◌, length, get_or}
 use Rattle.std.proofs.Common.{sym, ◌∙◌, length-append, arith}
-use Rattle.std.proofs.Math.Option.{some}
 use Rattle.definition.specs.Bytes.{part, number, little_endian}
 use Rattle.definition.specs.Limits.{max_plan}
 use Rattle.definition.specs.Forms.{Literal, Segments, Selectors, Selector, many_selectors}

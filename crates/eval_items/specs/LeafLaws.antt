@@ -1,5 +1,5 @@
 -- Literals, names and indices: from the bytes that are read to what every form there says. Assumes nothing.
-use Rattle.std.specs.Prelude.{ℕ, ◌+◌, ◌-◌, ◌≤◌, ◌<◌, ◌^◌, refl, ltb, ℤ, Float as Floating, get_or, take, drop}
+use Rattle.std.specs.Prelude.{ℕ, ◌+◌, ◌-◌, ◌≤◌, ◌<◌, ◌^◌, refl, ltb, ℤ, Float as Floating, get_or, take, drop, Option, Some, None}
 use Rattle.std.proofs.Math.Path.{◌≡◌, sym, ap, subst}
 use Rattle.std.proofs.Common.{◌∙◌}
 use mathlib.Core.List.{List, [], ◌∷◌, append-nil}
@@ -40,8 +40,6 @@ use Rattle.eval_values.specs.Same.{members_of}
 use Rattle.eval_values.specs.Members.{Looked, Between, member_of, Members}
 use Rattle.eval_values.specs.declared.Operand.{Operand}
 use Rattle.eval_values.specs.declared.Operand.TheVariants.{Null, Bool, Int, Float, Pool}
-use Rattle.eval_values.specs.declared.members.Member.{Member}
-use Rattle.eval_values.specs.declared.members.Member.TheVariants.{At, Nothing as Absent}
 use Rattle.eval_items.specs.Leaves.{constant_of, ValueOf, AskValue, member_nodes, AskOne, DoneOne}
 
 -- ---- literals
@@ -166,10 +164,10 @@ module _ (P L : List ℕ) (q : ℕ) where
 
 -- ---- names and indices
 
-found_member : (S X : List ℕ) (r : Member) → found (member_of S X r) ≡ member_nodes S X r
+found_member : (S X : List ℕ) (r : Option ℕ) → found (member_of S X r) ≡ member_nodes S X r
 unfolding found
-found_member S X (At m) = refl
-found_member S X Absent = refl
+found_member S X (Some m) = refl
+found_member S X None = refl
 
 module _ {P L S X : List ℕ} {p i : ℕ} (a : AskOne P L S X p i 5 5) where
   kind_name : get_or P p 0 ≡ 5
@@ -181,7 +179,7 @@ module _ {P L S X : List ℕ} {p i : ℕ} (a : AskOne P L S X p i 5 5) where
   pub name_asked : Named P L p a.k a.x
   name_asked = name_here a.x a.k a.at
 
-  pub name_else : (kind_at S i ≡ kind_map → ⊥) → DoneOne P L S X p i Absent
+  pub name_else : (kind_at S i ≡ kind_map → ⊥) → DoneOne P L S X p i None
   unfolding eval_selector lookup found
   name_else n =
       record {
@@ -200,7 +198,7 @@ module _ {P L S X : List ℕ} {p i : ℕ} (a : AskOne P L S X p i 5 5) where
     pub name_members : Members S X j c
     name_members = members_of S X a.tab i a.node_in m j c member_range
 
-    pub name_found : (b n : ℕ) → b ≡ number (part P (p + 1) 2) → n ≡ number (part P (p + 3) 2) → (r : Member) → Looked S X j c (part L b n) r → DoneOne P L S X p i r
+    pub name_found : (b n : ℕ) → b ≡ number (part P (p + 1) 2) → n ≡ number (part P (p + 3) 2) → (r : Option ℕ) → Looked S X j c (part L b n) r → DoneOne P L S X p i r
     unfolding eval_selector
     name_found b n u v r l =
         record {
@@ -250,7 +248,7 @@ module _ {P L S X : List ℕ} {p i : ℕ} (a : AskOne P L S X p i 6 6) where
   unfolding eval_selector
   no_index z R n = ap (pick (index_places (length (elements (node_at S X i))) z)) (elements_none S X a.tab i a.node_in n) ∙ pick_nothing (index_places (length (elements (node_at S X i))) z)
 
-  pub index_else : (kind_at S i ≡ kind_list → ⊥) → DoneOne P L S X p i Absent
+  pub index_else : (kind_at S i ≡ kind_list → ⊥) → DoneOne P L S X p i None
   index_else n =
       record {
         selects = λ x k R at. let d = index_here x k at in ap (λ (y : Selector). eval_selector y R (node_at S X i)) d.made ∙ no_index d.z R n;
@@ -285,7 +283,7 @@ module _ {P L S X : List ℕ} {p i : ℕ} (a : AskOne P L S X p i 6 6) where
     pub index_room : (t : ℕ) → o ≡ place.At t → j + t < max_nodes
     index_room t u = omega (arith, element_in t u, a.tab.size.few)
 
-    pub index_found : kind_at S i ≡ kind_list → z ≡ signed64 (number (part P (p + 1) 8)) → (t : ℕ) → o ≡ place.At t → DoneOne P L S X p i (At (j + t))
+    pub index_found : kind_at S i ≡ kind_list → z ≡ signed64 (number (part P (p + 1) 8)) → (t : ℕ) → o ≡ place.At t → DoneOne P L S X p i (Some (j + t))
     index_found m w t u =
         record {
           selects = λ x k R at. index_places_lem m w x k R at ∙ ap (λ (ks : List ℕ). pick ks (nodes S X j c)) (at_means o t u) ∙ one_pick S X j c t (index_at c z o t l u);
@@ -294,7 +292,7 @@ module _ {P L S X : List ℕ} {p i : ℕ} (a : AskOne P L S X p i 6 6) where
           low = λ k y. let q : j + t ≡ k = cc in omega arith;
         }
 
-    pub index_nothing : kind_at S i ≡ kind_list → z ≡ signed64 (number (part P (p + 1) 8)) → o ≡ place.Nothing → DoneOne P L S X p i Absent
+    pub index_nothing : kind_at S i ≡ kind_list → z ≡ signed64 (number (part P (p + 1) 8)) → o ≡ place.Nothing → DoneOne P L S X p i None
     index_nothing m w u =
         record {
           selects = λ x k R at. index_places_lem m w x k R at ∙ ap (λ (ks : List ℕ). pick ks (nodes S X j c)) (nothing_means o u) ∙ no_pick S X j c;

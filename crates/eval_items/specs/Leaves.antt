@@ -1,6 +1,6 @@
 -- What an item says by itself. Each answer holds for every form whose code stands there. P is the plan, L the pool, S the table, X the text.
 -- Assumes nothing: these are definitions.
-use Rattle.std.specs.Prelude.{ℕ, ◌+◌, ◌≤◌, ◌<◌, ◌≡◌, List, [], ◌∷◌, Bool as Bits, true, false, cond, ◌&&◌, eqb, ℤ, length, get_or}
+use Rattle.std.specs.Prelude.{ℕ, ◌+◌, ◌≤◌, ◌<◌, ◌≡◌, List, [], ◌∷◌, Bool as Bits, true, false, cond, ◌&&◌, eqb, ℤ, length, get_or, Option as Maybe, Some, None}
 use Rattle.std.proofs.Math.Option.{Option}
 use Rattle.definition.specs.Limits.{max_plan, max_nodes}
 use Rattle.definition.specs.Values.{Json}
@@ -19,8 +19,6 @@ use Rattle.eval_laws.specs.Todos.{Todo}
 use Rattle.eval_values.specs.Means.{meaning, Fine, Pair}
 use Rattle.eval_values.specs.declared.Operand.{Operand}
 use Rattle.eval_values.specs.declared.Operand.TheVariants.{Null, Bool}
-use Rattle.eval_values.specs.declared.members.Member.{Member}
-use Rattle.eval_values.specs.declared.members.Member.TheVariants.{At, Nothing as Absent}
 use Rattle.eval_items.specs.declared.Regs.{Regs}
 
 -- ---- literals
@@ -46,9 +44,9 @@ DoneValue P L q r = (l : Literal) (k : ℕ) → Holds P q (code_literal l k) →
 
 -- ---- names and indices
 
-abbrev pub member_nodes : List ℕ → List ℕ → Member → List Json
-member_nodes S X (At m) = node_at S X m ∷ []
-member_nodes S X Absent = []
+abbrev pub member_nodes : List ℕ → List ℕ → Maybe ℕ → List Json
+member_nodes S X (Some m) = node_at S X m ∷ []
+member_nodes S X None = []
 
 pub record AskOne (P L S X : List ℕ) (p node low high : ℕ) : Type 0 where
   pub few_p : length P ≤ max_plan
@@ -61,11 +59,11 @@ pub record AskOne (P L S X : List ℕ) (p node low high : ℕ) : Type 0 where
   pub kind_low : low ≤ get_or P p 0
   pub kind_high : get_or P p 0 ≤ high
 
-pub record DoneOne (P L S X : List ℕ) (p node : ℕ) (r : Member) : Type 0 where
+pub record DoneOne (P L S X : List ℕ) (p node : ℕ) (r : Maybe ℕ) : Type 0 where
   pub selects : (x : Selector) (k : ℕ) (R : Json) → SelectorAt P L p k x → eval_selector x R (node_at S X node) ≡ member_nodes S X r
-  pub inside : (m : ℕ) → r ≡ At m → m < node_count S
-  pub deeper : (m : ℕ) → r ≡ At m → depth_at S m ≡ depth_at S node + 1
-  pub low : (m : ℕ) → r ≡ At m → low_word S node ≤ m
+  pub inside : (m : ℕ) → r ≡ Some m → m < node_count S
+  pub deeper : (m : ℕ) → r ≡ Some m → depth_at S m ≡ depth_at S node + 1
+  pub low : (m : ℕ) → r ≡ Some m → low_word S node ≤ m
 
 -- ---- slices
 

@@ -6,7 +6,6 @@ ghost use Rattle.table_laws.specs.Accepted.{Accepted};
 ghost use Rattle.eval_items.specs.Leaves.{AskValue, DoneValue, constant_of, AskOne, DoneOne, AskSlice, DoneSlice, AskWalk, DoneWalk, AskOp, DoneOp, begins_at, cap_for};
 
 use crate::{Regs, plans, regexes};
-use eval_values::members::Member;
 use eval_values::{Operand, members, operands};
 use plan_format::kinds::{
     AND, COMPARE, CONSTANT, COUNT, FLOAT, INTEGER, LENGTH, NAME, NOT, OR, ROOT, TEST, TEXT, VALUE,
@@ -67,13 +66,13 @@ pub fn named(
     start: usize,
     size: usize,
     node: usize,
-) -> Member
+) -> Option<usize>
     requires ask_one { AskOne plan.now pool.now table.now text.now p node 5 5 }
     requires start_value { (start ≡ number (part plan.now (p + 1) 2)) × (size ≡ number (part plan.now (p + 3) 2)) }
     ensures { DoneOne plan.now pool.now table.now text.now p node result }
 {
     if records::kind(table, node) != KIND_MAP {
-        return Member::Nothing;
+        return None;
     }
     let first = records::first_child(table, node) as usize;
     let count = records::child_count(table, node) as usize;
@@ -93,13 +92,13 @@ pub fn first_named(
     start: usize,
     size: usize,
     node: usize,
-) -> Member
+) -> Option<usize>
     requires ask_one { AskOne plan.now pool.now table.now text.now p node 5 5 }
     requires start_value { (start ≡ number (part plan.now (p + 1) 2)) × (size ≡ number (part plan.now (p + 3) 2)) }
     ensures { DoneOne plan.now pool.now table.now text.now p node result }
 {
     if records::kind(table, node) != KIND_MAP {
-        return Member::Nothing;
+        return None;
     }
     let first = records::first_child(table, node) as usize;
     let count = records::child_count(table, node) as usize;
@@ -110,12 +109,19 @@ pub fn first_named(
 }
 
 // The member that the name at p selects of a node.
-fn by_name(plan: &[u8], pool: &[u8], table: &[u8], text: &[u8], p: usize, node: usize) -> Member
+fn by_name(
+    plan: &[u8],
+    pool: &[u8],
+    table: &[u8],
+    text: &[u8],
+    p: usize,
+    node: usize,
+) -> Option<usize>
     requires { AskOne plan.now pool.now table.now text.now p node 5 5 }
     ensures { DoneOne plan.now pool.now table.now text.now p node result }
 {
     if records::kind(table, node) != KIND_MAP {
-        return Member::Nothing;
+        return None;
     }
     let first = records::first_child(table, node) as usize;
     let count = records::child_count(table, node) as usize;
@@ -135,19 +141,19 @@ pub fn get_by_index(
     text: &[u8],
     p: usize,
     node: usize,
-) -> Member
+) -> Option<usize>
     requires { AskOne plan.now pool.now table.now text.now p node 6 6 }
     ensures { DoneOne plan.now pool.now table.now text.now p node result }
 {
     if records::kind(table, node) != KIND_LIST {
-        return Member::Nothing;
+        return None;
     }
     let first = records::first_child(table, node) as usize;
     let count = records::child_count(table, node) as usize;
     let i = bytes::int64(plan, p + 1);
     match slices::index_place(count, i) {
-        Place::At(k) => Member::At(first + k),
-        Place::Nothing => Member::Nothing,
+        Place::At(k) => Some(first + k),
+        Place::Nothing => None,
     }
 }
 
@@ -159,7 +165,7 @@ pub fn select_one(
     text: &[u8],
     p: usize,
     node: usize,
-) -> Member
+) -> Option<usize>
     requires { AskOne plan.now pool.now table.now text.now p node 5 6 }
     ensures { DoneOne plan.now pool.now table.now text.now p node result }
 {

@@ -1,4 +1,5 @@
 -- The members of one map in turn, and those of another that have their names. Assumes nothing.
+use Rattle.std.specs.Prelude.{Option, Some, None}
 use Prim.Native.Nat.{ℕ, ◌+◌, ◌≤◌, ◌<◌}
 use mathlib.Core.Path.{◌≡◌, refl}
 use mathlib.Core.List.{List}
@@ -11,8 +12,6 @@ use Rattle.eval_laws.specs.Ranges.{Range, range_of_lem, range_in, child_at, kids
 use Rattle.eval_values.specs.Alike.{Both, AskMember, same_at, member_at}
 use Rattle.eval_values.specs.Members.{Looked}
 use Rattle.eval_values.specs.Same.{child_key, found_node, found_nothing, found_in}
-use Rattle.eval_values.specs.declared.members.Member.{Member}
-use Rattle.eval_values.specs.declared.members.Member.TheVariants.{At, Nothing as Absent}
 
 module _ {S X : List ℕ} (tab : Accepted S X) {i j : ℕ} (m : Both S i j × (kind_at S i ≡ kind_map) × (kind_at S j ≡ kind_map)) {a b c n : ℕ} (pa : a ≡ low_word S i) (pb : b ≡ low_word S j) (pc : c ≡ child_count S i) (pn : n ≡ child_count S j) where
   -- the members of the first map, and of the second
@@ -36,12 +35,12 @@ module _ {S X : List ℕ} (tab : Accepted S X) {i j : ℕ} (m : Both S i j × (k
     pub turn_asks : AskMember S X (a + k) j
     turn_asks = record { first = turn_in; second = m.0.second; key = child_key S X tab i m.0.first m.1 a c firsts k l; map = m.2 }
 
-    module _ {o : Member} (f : Looked S X b n (key_bytes S X (a + k)) o) where
+    module _ {o : Option ℕ} (f : Looked S X b n (key_bytes S X (a + k)) o) where
       -- its name is not there
-      pub turn_missing : o ≡ Absent → false ≡ member_at S X (a + k) j
+      pub turn_missing : o ≡ None → false ≡ member_at S X (a + k) j
       turn_missing u = found_nothing S X (a + k) j b n (key_bytes S X (a + k)) o second_kids f u refl
 
-      module _ {h : ℕ} (u : o ≡ At h) where
+      module _ {h : ℕ} (u : o ≡ Some h) where
         -- or is that of a member of the second map
         pub turn_between : (b ≤ h) × (h < node_count S)
         turn_between =

@@ -8,8 +8,7 @@ use lib.Dec.{eqb, eqb-suc-zero}
 use lib.IntN.{ℤ, pos, negsuc, nat_abs}
 use lib.Signed.{mag}
 use mir.Syntax.{w64}
-use mir.Val.{to_z, of_z}
-use mir.ValLaws.{to_z-of_z}
+use mir.Val.{of_z}
 
 -- its bits are 0 where it is 0
 pub zero_bits : (z : ℤ) → suc (mag z) ≤ 2 ^ 63 → not (eqb (of_z w64 z) 0) ≡ not (eqb (nat_abs z) 0)

@@ -1,7 +1,7 @@
 -- Finite floats by their bits, and numbers in the two ways in which they are put in order. Assumes nothing.
 use Prim.Native.Nat.compare
 use Prim.Native.Nat.{ℕ, zero, suc, ◌*◌, ◌/◌, ◌%◌, ◌^◌, ◌<◌, Ordering}
-use Rattle.std.specs.Prelude.{◌≡◌, refl, Bool, true, false, not, T, eqb, ℤ, pos, negsuc, neg_ℤ, nat_abs, ◌*ℤ◌, Float}
+use Rattle.std.specs.Prelude.{◌≡◌, refl, Bool, true, false, not, T, eqb, ℤ, pos, negsuc, neg_ℤ, nat_abs, ◌*ℤ◌, Float, Some}
 use Rattle.std.proofs.Common.{ap, ◌∙◌, mul-one, zero-mul, arith, ltb-true, le-ltb}
 use Rattle.std.proofs.Math.Dec.{eqb-suc-zero}
 use Rattle.std.specs.Float.{binary64}
@@ -15,7 +15,7 @@ use Rattle.number_order.specs.Finite.{bits_finite as finite_bits}
 use Rattle.number_order.specs.Exact.{of_integer, of_float, order_of, answer}
 use Rattle.number_order.specs.declared.Order.{Order}
 use Rattle.number_order.specs.declared.Order.TheVariants as number
-use Rattle.eval_values.specs.declared.ranks.Rank.{Rank}
+use Rattle.std.specs.declared.cmp.Ordering.{Ordering as Rank}
 use Rattle.eval_values.specs.Ranks.{ranked, ordered}
 
 -- bits whose exponent's field is not all ones
@@ -46,14 +46,14 @@ one_float x = refl
 order_same : (r s : Fraction) (a b : Fraction) → One r a → One s b → order_of r s ≡ order_fractions a b
 order_same r s a b x y = ap (λ (z : Fraction). order_fractions z s) x ∙ ap (λ (z : Fraction). order_fractions a z) y
 
-ordered_answer : (o : Ordering) → ordered (answer o) ≡ ranked o
+ordered_answer : (o : Ordering) → Some (ordered (answer o)) ≡ ranked o
 ordered_answer Ordering.lt = refl
 ordered_answer Ordering.eq = refl
 ordered_answer Ordering.gt = refl
 
 -- the rank of two numbers, from the answer of `number_order`
-pub rank_answer : (r s : Fraction) (a b : Fraction) (o : Order) (k : Rank) → One r a → One s b → o ≡ answer (order_of r s) → k ≡ ordered o → k ≡ ranked (order_fractions a b)
-rank_answer r s a b o k x y e f = f ∙ ap ordered (e ∙ ap answer (order_same r s a b x y)) ∙ ordered_answer (order_fractions a b)
+pub rank_answer : (r s : Fraction) (a b : Fraction) (o : Order) (k : Rank) → One r a → One s b → o ≡ answer (order_of r s) → k ≡ ordered o → Some k ≡ ranked (order_fractions a b)
+rank_answer r s a b o k x y e f = ap Some (f ∙ ap ordered (e ∙ ap answer (order_same r s a b x y))) ∙ ordered_answer (order_fractions a b)
 
 -- ---- zeros
 

@@ -1,5 +1,5 @@
 -- What an operand stands for. T is the table, X the text, L the pool. Assumes nothing: these are definitions.
-use Rattle.std.specs.Prelude.{ℕ, ◌+◌, ◌-◌, ◌*◌, ◌≤◌, ◌<◌, ◌≡◌, List, T, length, Bool as Bits, true, false, not, eqb, nat_abs}
+use Rattle.std.specs.Prelude.{ℕ, ◌+◌, ◌-◌, ◌*◌, ◌≤◌, ◌<◌, ◌≡◌, List, T, length, Bool as Bits, true, false, not, eqb, nat_abs, Option as Maybe, Some, None}
 use Rattle.std.specs.Float.Ieee.Scale.{finite}
 use Rattle.definition.specs.Bytes.{part}
 use Rattle.definition.specs.Utf8.{is_utf8, scalars_of}
@@ -7,8 +7,6 @@ use Rattle.std.specs.Bool.{beq}
 use Rattle.std.proofs.Math.Option.{Option, none, some}
 use Rattle.definition.specs.Compare.{Value, Fraction, node_value, whole_fraction, float_fraction}
 use Rattle.definition.specs.Tables.{node_count, node_at, kind_at, kind_list, child_count, depth_at}
-use Rattle.eval_values.specs.declared.members.Member.{Member}
-use Rattle.eval_values.specs.declared.members.Member.TheVariants.{At, Nothing as Absent}
 use Rattle.eval_values.specs.declared.Operand.{Operand}
 use Rattle.eval_values.specs.declared.Operand.TheVariants.{Nothing, Null, Bool, Int, Float, Pool, Text, Node}
 
@@ -170,15 +168,15 @@ is_that b (Pool a n) = false
 is_that b (Text a n) = false
 is_that b (Node i) = false
 
-abbrev pub node_in_lem : Operand → Member
-node_in_lem Nothing = Absent
-node_in_lem Null = Absent
-node_in_lem (Bool d) = Absent
-node_in_lem (Int z) = Absent
-node_in_lem (Float x) = Absent
-node_in_lem (Pool a n) = Absent
-node_in_lem (Text a n) = Absent
-node_in_lem (Node i) = At i
+abbrev pub node_in_lem : Operand → Maybe ℕ
+node_in_lem Nothing = None
+node_in_lem Null = None
+node_in_lem (Bool d) = None
+node_in_lem (Int z) = None
+node_in_lem (Float x) = None
+node_in_lem (Pool a n) = None
+node_in_lem (Text a n) = None
+node_in_lem (Node i) = Some i
 
 abbrev pub truth_in : List ℕ → Operand → Bits
 truth_in S Nothing = false

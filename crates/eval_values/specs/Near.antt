@@ -1,5 +1,5 @@
 -- A member at a place where its name is looked for first: members of one map have different names, so that it is the one that a search finds. Assumes nothing.
-use Rattle.std.specs.Prelude.{ℕ, ◌+◌, ◌≤◌, ◌<◌, ◌≡◌, refl, List, Bool, true, false, length}
+use Rattle.std.specs.Prelude.{ℕ, ◌+◌, ◌≤◌, ◌<◌, ◌≡◌, refl, List, Bool, true, false, length, Some}
 use Rattle.std.proofs.Common.{sym, ap, ◌∙◌, subst, arith}
 use Rattle.std.proofs.lemmas.Bool.{false≢true}
 use Rattle.definition.specs.Bytes.{same_bytes}
@@ -10,13 +10,12 @@ use Rattle.table_laws.specs.Rights.{count_map}
 use Rattle.eval_laws.specs.Ranges.{Range, range_of_lem}
 use Rattle.eval_values.specs.Members.{Members, Looked, lookup_passed, lookup_found}
 use Rattle.eval_values.specs.Same.{members_of}
-use Rattle.eval_values.specs.declared.members.Member.TheVariants.{At}
 
 -- the node is a map, and its member at place near is the one of the name k
 pub record Near (S X : List ℕ) (node near : ℕ) (k : List ℕ) : Type 0 where
   pub map : kind_at S node ≡ kind_map
   pub less : near < child_count S node
-  pub looked : Looked S X (low_word S node) (child_count S node) k (At (low_word S node + near))
+  pub looked : Looked S X (low_word S node) (child_count S node) k (Some (low_word S node + near))
 
 abbrev pub DoneNear : List ℕ → List ℕ → ℕ → ℕ → List ℕ → Bool → Type 0
 DoneNear S X node near k r = r ≡ true → Near S X node near k
@@ -56,8 +55,8 @@ module _ {S X : List ℕ} (tab : Accepted S X) {node : ℕ} (h : node < node_cou
 
 -- a member at a place of a map is found there by its name
 pub near_found : {S X : List ℕ} → Accepted S X → {node : ℕ} → node < node_count S → kind_at S node ≡ kind_map → (k : List ℕ) (first count near : ℕ) → first ≡ low_word S node → count ≡ child_count S node → near < count → true ≡ same_bytes (key_bytes S X (first + near)) k
-    → Looked S X first count k (At (first + near))
+    → Looked S X first count k (Some (first + near))
 near_found {S} {X} tab {node} h m k first count near p q l d =
     let g : near < child_count S node = omega (arith, q) in
     let w = near_is tab h m (count_map S node m) g k (low_word S node + near) refl true (d ∙ ap (λ (f : ℕ). same_bytes (key_bytes S X (f + near)) k) p) refl in
-    subst (λ (c : ℕ). Looked S X first c k (At (first + near))) (sym q) (subst (λ (f : ℕ). Looked S X f (child_count S node) k (At (f + near))) (sym p) w.looked)
+    subst (λ (c : ℕ). Looked S X first c k (Some (first + near))) (sym q) (subst (λ (f : ℕ). Looked S X f (child_count S node) k (Some (f + near))) (sym p) w.looked)

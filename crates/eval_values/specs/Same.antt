@@ -1,5 +1,5 @@
 -- Equality of nodes, element by element and member by member: what is left to compare gives the whole. Assumes nothing.
-use Rattle.std.specs.Prelude.{ℕ, zero, suc, ◌+◌, ◌-◌, ◌*◌, ◌≤◌, ◌<◌, refl, List, Bool as Bits, true, ◌||◌, ◌&&◌, length, ℤ, Float as Floating}
+use Rattle.std.specs.Prelude.{ℕ, zero, suc, ◌+◌, ◌-◌, ◌*◌, ◌≤◌, ◌<◌, refl, List, Bool as Bits, true, ◌||◌, ◌&&◌, length, ℤ, Float as Floating, Option as Maybe, Some, None}
 use Rattle.std.proofs.Math.Path.{◌≡◌, sym, ap}
 use Rattle.std.proofs.Common.{◌∙◌, subst, arith, ne_eqb, eq-eqb}
 use Rattle.std.proofs.Math.Bool.{false, not}
@@ -18,8 +18,6 @@ use Rattle.table_laws.specs.Nodes.{kids, kids_at, many_kids}
 use Rattle.eval_laws.specs.Ranges.{Range, kids_at_lem, child_at}
 use Rattle.eval_values.specs.declared.Operand.{Operand}
 use Rattle.eval_values.specs.declared.Operand.TheVariants.{Nothing, Null, Bool, Int, Float, Pool, Text, Node}
-use Rattle.eval_values.specs.declared.members.Member.{Member}
-use Rattle.eval_values.specs.declared.members.Member.TheVariants.{At, Nothing as Absent}
 use Rattle.definition.specs.Bytes.{part}
 use Rattle.eval_values.specs.Means.{meaning, Fine, Pair, OfNode, IsNode, height, null_is, is_that, node_in_lem}
 use Rattle.eval_values.specs.Ranks.{rank, rank_in, ranked_is, is_rank_equal}
@@ -313,7 +311,7 @@ module _ (S X L : List ℕ) (tab : Accepted S X) (x y : Operand) (p : Pair S X L
   pub not_ranked : (q : Bits) → q ≡ ranked_is x → q ≡ false → (z : Operand) → x ≡ z → ranked_is z ≡ true → ⊥
   not_ranked q u v z e w = false≢true (sym v ∙ u ∙ ap ranked_is e ∙ w)
 
-  node_back : (z : Operand) (j : ℕ) → node_in_lem z ≡ At j → z ≡ Node j
+  node_back : (z : Operand) (j : ℕ) → node_in_lem z ≡ Some j → z ≡ Node j
   node_back Nothing j e = cc
   node_back Null j e = cc
   node_back (Bool b) j e = cc
@@ -324,17 +322,17 @@ module _ (S X L : List ℕ) (tab : Accepted S X) (x y : Operand) (p : Pair S X L
   node_back (Node i) j e = cc
 
   -- both are nodes
-  pub with_node : (i j : ℕ) → x ≡ Node i → (m : Member) → m ≡ node_in_lem y → m ≡ At j → Both S i j
+  pub with_node : (i j : ℕ) → x ≡ Node i → (m : Maybe ℕ) → m ≡ node_in_lem y → m ≡ Some j → Both S i j
   with_node i j e m t u =
       let f = subst (Fine S X L) e p.first in
       let g = subst (Fine S X L) (node_back y j (sym t ∙ u)) p.second in
       record { first = f.0; second = g.0; nested_i = f.1; nested_j = g.1 }
 
-  pub node_node : (i j : ℕ) → x ≡ Node i → (m : Member) → m ≡ node_in_lem y → m ≡ At j → (r : Bits) → r ≡ same_at S X i j → r ≡ same (meaning S X L x) (meaning S X L y)
+  pub node_node : (i j : ℕ) → x ≡ Node i → (m : Maybe ℕ) → m ≡ node_in_lem y → m ≡ Some j → (r : Bits) → r ≡ same_at S X i j → r ≡ same (meaning S X L x) (meaning S X L y)
   node_node i j e m t u r w = w ∙ ap (λ (o : Operand). same (meaning S X L o) (node_value (node_at S X j))) (sym e) ∙ ap (λ (o : Operand). same (meaning S X L x) (meaning S X L o)) (sym (node_back y j (sym t ∙ u)))
 
   -- a list or a map is equal to no other value
-  none_like : (ks : Kids) (z : Operand) → node_in_lem z ≡ Absent → (same (Value.list ks) (meaning S X L z) ≡ false) × (same (Value.map ks) (meaning S X L z) ≡ false)
+  none_like : (ks : Kids) (z : Operand) → node_in_lem z ≡ None → (same (Value.list ks) (meaning S X L z) ≡ false) × (same (Value.map ks) (meaning S X L z) ≡ false)
   unfolding same list_of map_of
   none_like ks Nothing e = (refl, refl)
   none_like ks Null e = (refl, refl)
@@ -345,7 +343,7 @@ module _ (S X L : List ℕ) (tab : Accepted S X) (x y : Operand) (p : Pair S X L
   none_like ks (Text a n) e = (refl, refl)
   none_like ks (Node i) e = let z : ◌≡◌ {A = ℕ} 0 1 = cc in absurd (omega arith)
 
-  pub node_else : (i : ℕ) → x ≡ Node i → (m : Member) → m ≡ node_in_lem y → m ≡ Absent → false ≡ same (meaning S X L x) (meaning S X L y)
+  pub node_else : (i : ℕ) → x ≡ Node i → (m : Maybe ℕ) → m ≡ node_in_lem y → m ≡ None → false ≡ same (meaning S X L x) (meaning S X L y)
   node_else i e m t u =
       let f = subst (Fine S X L) e p.first in
       sym (ap (λ (o : Operand). same (meaning S X L o) (meaning S X L y)) e
@@ -376,16 +374,16 @@ pub at_nodes : (S X L : List ℕ) (i j : ℕ) (x y : Operand) → OfNode S X i x
 at_nodes S X L i j x y a b r e = e ∙ ap (λ (v : Value). same v (meaning S X L y)) (a.means L) ∙ ap (same (node_value (node_at S X i))) (b.means L)
 
 -- a member and what its name finds
-pub found_node : (S X : List ℕ) (m j b c : ℕ) (k : List ℕ) (o : Member) (h : ℕ) → kids S X b c ≡ kids_at S X j → Looked S X b c k o → o ≡ At h → k ≡ key_bytes S X m → (r : Bits) → r ≡ same_at S X m h → r ≡ member_at S X m j
+pub found_node : (S X : List ℕ) (m j b c : ℕ) (k : List ℕ) (o : Maybe ℕ) (h : ℕ) → kids S X b c ≡ kids_at S X j → Looked S X b c k o → o ≡ Some h → k ≡ key_bytes S X m → (r : Bits) → r ≡ same_at S X m h → r ≡ member_at S X m j
 found_node S X m j b c k o h e l u q r w =
     w ∙ sym (node_same (node_at S X m) (node_value (node_at S X h)))
     ∙ ap (found_same (node_at S X m)) (ap (member_of S X) (sym u) ∙ sym l.is ∙ ap (λ (z : List ℕ). lookup z (kids S X b c)) q ∙ ap (lookup (key_bytes S X m)) e)
 
-pub found_nothing : (S X : List ℕ) (m j b c : ℕ) (k : List ℕ) (o : Member) → kids S X b c ≡ kids_at S X j → Looked S X b c k o → o ≡ Absent → k ≡ key_bytes S X m → false ≡ member_at S X m j
+pub found_nothing : (S X : List ℕ) (m j b c : ℕ) (k : List ℕ) (o : Maybe ℕ) → kids S X b c ≡ kids_at S X j → Looked S X b c k o → o ≡ None → k ≡ key_bytes S X m → false ≡ member_at S X m j
 found_nothing S X m j b c k o e l u q =
     ap (found_same (node_at S X m)) (ap (member_of S X) (sym u) ∙ sym l.is ∙ ap (λ (z : List ℕ). lookup z (kids S X b c)) q ∙ ap (lookup (key_bytes S X m)) e)
 
-pub found_in : (S X : List ℕ) (b c : ℕ) (k : List ℕ) (o : Member) (h : ℕ) → Looked S X b c k o → o ≡ At h → (b ≤ h) × (h < b + c)
+pub found_in : (S X : List ℕ) (b c : ℕ) (k : List ℕ) (o : Maybe ℕ) (h : ℕ) → Looked S X b c k o → o ≡ Some h → (b ≤ h) × (h < b + c)
 found_in S X b c k o h l u = subst (Between b c) u l.inside
 
 -- the children that the code compares are those of the nodes

@@ -1,6 +1,6 @@
 -- The operand that a node is, and what an operand says of its value. Assumes nothing.
 use Prim.Native.Nat.{ℕ, ◌≤◌, ◌<◌, compare, Ordering}
-use Rattle.std.specs.Prelude.{◌≡◌, List, [], ◌∷◌, Bool as Bits, ◌||◌, ◌&&◌, eqb, ℤ, Float as Floating}
+use Rattle.std.specs.Prelude.{◌≡◌, List, [], ◌∷◌, Bool as Bits, ◌||◌, ◌&&◌, eqb, ℤ, Float as Floating, None}
 use Rattle.std.proofs.Math.Path.{refl, sym, ap, subst}
 use Rattle.std.proofs.Common.{◌∙◌}
 use Rattle.std.proofs.Math.Bool.{true, false, not}
@@ -11,7 +11,7 @@ use Rattle.std.specs.Float.{binary64}
 use Rattle.std.specs.Float.Ieee.{of_bits}
 use Rattle.std.specs.Float.Ieee.Scale.{finite}
 use Rattle.definition.specs.Bytes.{part, signed64, same_bytes, order_bytes}
-use Rattle.definition.specs.Values.{Kids, many}
+use Rattle.definition.specs.Values.{Kids}
 use Rattle.definition.specs.Tables.{node_count, kind_at, kind_float, kind_text, kind_list, kind_map, payload, low_word, high_word, child_count, node_at}
 use Rattle.definition.specs.Compare.{Value, Fraction, node_value, number_of, text_of, same, same_number_lem, same_text, same_boolean, is_null, is_some, is_boolean, boolean_of, less, is_less, numbers_less, texts_less, order_fractions, whole_fraction, float_fraction}
 use Rattle.definition.specs.Evaluation.{truth, length_of_value}
@@ -21,8 +21,6 @@ use Rattle.table_laws.specs.Rights.{good_inside, good_utf8}
 use Rattle.table_laws.specs.Nodes.{kids_at, unrolled, kind_of, Kind, many_kids, by_null, by_false, by_true, by_integer, by_float, by_text_lem, by_list, by_map}
 use Rattle.eval_values.specs.declared.Operand.{Operand}
 use Rattle.eval_values.specs.declared.Operand.TheVariants.{Nothing, Null, Bool, Int, Float, Pool, Text, Node}
-use Rattle.eval_values.specs.declared.ranks.Rank.{Rank}
-use Rattle.eval_values.specs.declared.ranks.Rank.TheVariants.{Unlike}
 use Rattle.eval_values.specs.Means.{meaning, Fine, OfNode, Pair, Ranked, Finite, Parts, Inside, number_in, text_in, some_of, boolean_is, null_is, is_that, truth_in, length_in}
 use Rattle.eval_values.specs.Ranks.{rank, rank_in, rank_numbers, rank_texts, ranked, is_rank_less, is_rank_equal}
 use Rattle.eval_values.specs.Floats.{bits_finite}
@@ -195,7 +193,7 @@ module _ (S X L : List ℕ) (tab : Accepted S X) where
   rank_means (Float x) y f = ap (rank_numbers (some (float_fraction x))) (number_means y f.second)
   rank_means (Pool a n) y f = ap (rank_texts (some (part L a n))) (text_means y f.second)
   rank_means (Text a n) y f = ap (rank_texts (some (part X a n))) (text_means y f.second)
-  rank_means (Node i) y f = let g = f.first in sym (nested_value S X tab i g.0 (λ v. rank v (meaning S X L y)) Unlike (λ ks. refl) (λ ks. refl) g.1)
+  rank_means (Node i) y f = let g = f.first in sym (nested_value S X tab i g.0 (λ v. rank v (meaning S X L y)) None (λ ks. refl) (λ ks. refl) g.1)
 
   pub truth_means : (x : Operand) → Fine S X L x → truth_in S x ≡ truth (meaning S X L x)
   unfolding truth

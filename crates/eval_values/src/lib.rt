@@ -15,9 +15,7 @@ ghost use Rattle.table_laws.specs.Accepted.{Accepted};
 ghost use Rattle.eval_values.specs.Means.{meaning, Fine, Pair};
 ghost use Rattle.eval_values.specs.Alike.{Compares, Both, same_at, same_elements_at, same_members_at, differ};
 
-use members::Member;
 use plan_format::operators::{EQ, GT, LE, LT, NE};
-use ranks::Rank;
 use table::records;
 use table::records::KIND_LIST;
 
@@ -58,8 +56,8 @@ pub fn same_values(table: &[u8], text: &[u8], pool: &[u8], x: Operand, y: Operan
         Operand::Pool(_, _) => false,
         Operand::Text(_, _) => false,
         Operand::Node(i) => match operands::as_node(y) {
-            Member::At(j) => same_nodes(table, text, pool, i, j),
-            Member::Nothing => false,
+            Some(j) => same_nodes(table, text, pool, i, j),
+            None => false,
         },
     }
 }
@@ -94,14 +92,12 @@ fn same_elements(table: &[u8], text: &[u8], pool: &[u8], i: usize, j: usize) -> 
     let a = records::first_child(table, i) as usize;
     let b = records::first_child(table, j) as usize;
     let count = records::child_count(table, i) as usize;
-    let mut k = 0;
-    while k < count {
+    for k in 0..count {
         let x = operands::get_value(table, text, a + k);
         let y = operands::get_value(table, text, b + k);
         if !same_values(table, text, pool, x, y) {
             return false;
         }
-        k += 1;
     }
     true
 }
@@ -118,10 +114,9 @@ fn same_members(table: &[u8], text: &[u8], pool: &[u8], i: usize, j: usize) -> b
     let count = records::child_count(table, i) as usize;
     let many = records::child_count(table, j) as usize;
     let mut near = 0;
-    let mut k = 0;
-    while k < count {
+    for k in 0..count {
         let found = members::partner(table, text, a + k, j, b, many, near);
-        let Member::At(h) = found else {
+        let Some(h) = found else {
             return false;
         };
         let x = operands::get_value(table, text, a + k);
@@ -130,7 +125,6 @@ fn same_members(table: &[u8], text: &[u8], pool: &[u8], i: usize, j: usize) -> b
             return false;
         }
         near = h - b + 1;
-        k += 1;
     }
     true
 }

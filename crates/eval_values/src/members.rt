@@ -11,13 +11,6 @@ use table::records;
 use table::records::KIND_MAP;
 use text::parts;
 
-// What a name finds.
-#[derive(Clone, Copy)]
-pub enum Member {
-    At(usize),
-    Nothing,
-}
-
 // Whether the name of a node is the `n` bytes of s from `a` on.
 pub fn is_named(table: &[u8], text: &[u8], node: usize, s: &[u8], a: usize, n: usize) -> bool
     requires node_bound { (node < node_count table.now) × (key_start table.now node + key_length table.now node ≤ length text.now) }
@@ -38,30 +31,25 @@ pub fn get_by_key(
     s: &[u8],
     a: usize,
     n: usize,
-) -> Member
+) -> Option<usize>
     requires members { Members table.now text.now first count }
     requires n_in_bounds { a + n ≤ length s.now }
     ensures { Looked table.now text.now first count (part s.now a n) result }
 {
-    let mut i = 0;
-    while i < count {
+    for i in 0..count {
         let node = first + i;
         if is_named(table, text, node, s, a, n) {
-            return Member::At(node);
+            return Some(node);
         }
-        i += 1;
     }
-    Member::Nothing
+    None
 }
 
 // Whether a name has four to eight bytes.
 pub fn is_short(n: usize) -> bool
     ensures { result ≡ true → (4 ≤ n) × (n ≤ 8) }
 {
-    if n < 4 {
-        return false;
-    }
-    n <= 8
+    matches!(n, 4..=8)
 }
 
 // As get_by_key, for a name of four to eight bytes, whose ends are read once.
@@ -73,7 +61,7 @@ pub fn find_short(
     s: &[u8],
     a: usize,
     n: usize,
-) -> Member
+) -> Option<usize>
     requires members { Members table.now text.now first count }
     requires n_in_bounds { a + n ≤ length s.now }
     requires le_n { (4 ≤ n) × (n ≤ 8) }
@@ -82,17 +70,15 @@ pub fn find_short(
     let ends = parts::part_ends(s, a, n);
     let low = ends.low;
     let high = ends.high;
-    let mut i = 0;
-    while i < count {
+    for i in 0..count {
         let node = first + i;
         let start = records::key_start(table, node) as usize;
         let size = records::key_length(table, node) as usize;
         if parts::part_has_ends(text, start, size, n, low, high) {
-            return Member::At(node);
+            return Some(node);
         }
-        i += 1;
     }
-    Member::Nothing
+    None
 }
 
 // Whether a node is a map with more than `near` members, and the n bytes of s from a on are the name of its member at place `near`. Members of one map have different names, so that this is the one
@@ -150,7 +136,7 @@ pub fn partner(
     first: usize,
     count: usize,
     near: usize,
-) -> Member
+) -> Option<usize>
     requires accepted { Accepted table.now text.now × AskMember table.now text.now m j }
     requires first_value { (first ≡ low_word table.now j) × (count ≡ child_count table.now j) }
     ensures { Looked table.now text.now first count (key_bytes table.now text.now m) result }
@@ -158,7 +144,7 @@ pub fn partner(
     let start = records::key_start(table, m) as usize;
     let size = records::key_length(table, m) as usize;
     if is_at(table, text, first, count, near, start, size) {
-        return Member::At(first + near);
+        return Some(first + near);
     }
     if is_short(size) {
         return find_short(table, text, first, count, text, start, size);

@@ -7,7 +7,6 @@ ghost use Rattle.definition.specs.Compare.{float_fraction};
 ghost use Rattle.eval_values.specs.Means.{OfNode, Inside, Parts, some_of, boolean_is, null_is, is_that, node_in_lem, truth_in, length_in};
 
 use crate::Operand;
-use crate::members::Member;
 use number_order::Order;
 use table::records;
 use table::records::{KIND_FALSE, KIND_FLOAT, KIND_INTEGER, KIND_NULL, KIND_TEXT, KIND_TRUE};
@@ -46,48 +45,21 @@ pub fn get_value(table: &[u8], text: &[u8], node: usize) -> Operand
 pub fn is_some(x: Operand) -> bool
     ensures { result ≡ some_of x }
 {
-    match x {
-        Operand::Nothing => false,
-        Operand::Null => true,
-        Operand::Bool(_) => true,
-        Operand::Int(_) => true,
-        Operand::Float(_) => true,
-        Operand::Pool(_, _) => true,
-        Operand::Text(_, _) => true,
-        Operand::Node(_) => true,
-    }
+    !matches!(x, Operand::Nothing)
 }
 
 // Whether it is a boolean.
 pub fn is_boolean(x: Operand) -> bool
     ensures { result ≡ boolean_is x }
 {
-    match x {
-        Operand::Bool(_) => true,
-        Operand::Nothing => false,
-        Operand::Null => false,
-        Operand::Int(_) => false,
-        Operand::Float(_) => false,
-        Operand::Pool(_, _) => false,
-        Operand::Text(_, _) => false,
-        Operand::Node(_) => false,
-    }
+    matches!(x, Operand::Bool(_))
 }
 
 // Whether it is null.
 pub fn is_null(x: Operand) -> bool
     ensures { result ≡ null_is x }
 {
-    match x {
-        Operand::Null => true,
-        Operand::Nothing => false,
-        Operand::Bool(_) => false,
-        Operand::Int(_) => false,
-        Operand::Float(_) => false,
-        Operand::Pool(_, _) => false,
-        Operand::Text(_, _) => false,
-        Operand::Node(_) => false,
-    }
+    matches!(x, Operand::Null)
 }
 
 // Whether it is the boolean b.
@@ -96,29 +68,17 @@ pub fn is_bool(b: bool, x: Operand) -> bool
 {
     match x {
         Operand::Bool(d) => b == d,
-        Operand::Nothing => false,
-        Operand::Null => false,
-        Operand::Int(_) => false,
-        Operand::Float(_) => false,
-        Operand::Pool(_, _) => false,
-        Operand::Text(_, _) => false,
-        Operand::Node(_) => false,
+        _ => false,
     }
 }
 
 // The node of a list or a map.
-pub fn as_node(x: Operand) -> Member
+pub fn as_node(x: Operand) -> Option<usize>
     ensures { result ≡ node_in_lem x }
 {
     match x {
-        Operand::Node(i) => Member::At(i),
-        Operand::Nothing => Member::Nothing,
-        Operand::Null => Member::Nothing,
-        Operand::Bool(_) => Member::Nothing,
-        Operand::Int(_) => Member::Nothing,
-        Operand::Float(_) => Member::Nothing,
-        Operand::Pool(_, _) => Member::Nothing,
-        Operand::Text(_, _) => Member::Nothing,
+        Operand::Node(i) => Some(i),
+        _ => None,
     }
 }
 
@@ -144,11 +104,7 @@ fn is_nonzero(f: f64) -> bool
     requires { T (finite f) }
     ensures { result ≡ not (eqb (nat_abs (float_fraction f).num) 0) }
 {
-    match number_order::compare_i64_num(0, f) {
-        Order::Less => true,
-        Order::Equal => false,
-        Order::Greater => true,
-    }
+    !matches!(number_order::compare_i64_num(0, f), Order::Equal)
 }
 
 // The length of a text in scalar values, the number of children of a list or a map, 0 of anything else.
@@ -160,10 +116,6 @@ pub fn length(table: &[u8], text: &[u8], pool: &[u8], x: Operand) -> usize
         Operand::Pool(start, size) => encoding::count_scalars(pool, start, size),
         Operand::Text(start, size) => encoding::count_scalars(text, start, size),
         Operand::Node(i) => records::child_count(table, i) as usize,
-        Operand::Nothing => 0,
-        Operand::Null => 0,
-        Operand::Bool(_) => 0,
-        Operand::Int(_) => 0,
-        Operand::Float(_) => 0,
+        _ => 0,
     }
 }

@@ -9,94 +9,71 @@ ghost use Rattle.eval_values.specs.Means.{Finite, Parts, Ranked, number_in, text
 
 use crate::Operand;
 use number_order::Order;
+use std::cmp::Ordering;
 use text::parts;
 
-// How one value stands to another; `Unlike` where there is no order between them.
-#[derive(Clone, Copy)]
-pub enum Rank {
-    Unlike,
-    Less,
-    Equal,
-    Greater,
-}
-
-// The rank of two numbers.
-fn of_numbers(o: Order) -> Rank
+// The order of two numbers.
+fn of_numbers(o: Order) -> Ordering
     ensures { result ≡ ordered o }
 {
     match o {
-        Order::Less => Rank::Less,
-        Order::Equal => Rank::Equal,
-        Order::Greater => Rank::Greater,
+        Order::Less => Ordering::Less,
+        Order::Equal => Ordering::Equal,
+        Order::Greater => Ordering::Greater,
     }
 }
 
-// The rank of two texts.
-fn of_texts(o: parts::Order) -> Rank
+// The order of two texts.
+fn of_texts(o: parts::Order) -> Ordering
     ensures { result ≡ spelled o }
 {
     match o {
-        parts::Order::Less => Rank::Less,
-        parts::Order::Equal => Rank::Equal,
-        parts::Order::Greater => Rank::Greater,
+        parts::Order::Less => Ordering::Less,
+        parts::Order::Equal => Ordering::Equal,
+        parts::Order::Greater => Ordering::Greater,
     }
 }
 
 // An integer against a value.
-fn rank_int(a: i64, y: Operand) -> Rank
+fn rank_int(a: i64, y: Operand) -> Option<Ordering>
     requires { Finite y }
     ensures { result ≡ rank_numbers (some (whole_fraction a)) (number_in y) }
 {
     match y {
-        Operand::Int(b) => of_numbers(number_order::compare_i64(a, b)),
-        Operand::Float(b) => of_numbers(number_order::compare_i64_num(a, b)),
-        Operand::Nothing => Rank::Unlike,
-        Operand::Null => Rank::Unlike,
-        Operand::Bool(_) => Rank::Unlike,
-        Operand::Pool(_, _) => Rank::Unlike,
-        Operand::Text(_, _) => Rank::Unlike,
-        Operand::Node(_) => Rank::Unlike,
+        Operand::Int(b) => Some(of_numbers(number_order::compare_i64(a, b))),
+        Operand::Float(b) => Some(of_numbers(number_order::compare_i64_num(a, b))),
+        _ => None,
     }
 }
 
 // A float against a value.
-fn rank_float(a: f64, y: Operand) -> Rank
+fn rank_float(a: f64, y: Operand) -> Option<Ordering>
     requires t { T (finite a) }
     requires finite { Finite y }
     ensures { result ≡ rank_numbers (some (float_fraction a)) (number_in y) }
 {
     match y {
-        Operand::Int(b) => of_numbers(number_order::compare_num_i64(a, b)),
-        Operand::Float(b) => of_numbers(number_order::compare_nums(a, b)),
-        Operand::Nothing => Rank::Unlike,
-        Operand::Null => Rank::Unlike,
-        Operand::Bool(_) => Rank::Unlike,
-        Operand::Pool(_, _) => Rank::Unlike,
-        Operand::Text(_, _) => Rank::Unlike,
-        Operand::Node(_) => Rank::Unlike,
+        Operand::Int(b) => Some(of_numbers(number_order::compare_num_i64(a, b))),
+        Operand::Float(b) => Some(of_numbers(number_order::compare_nums(a, b))),
+        _ => None,
     }
 }
 
 // The n bytes of s from a on against a value.
-fn rank_text(text: &[u8], pool: &[u8], s: &[u8], a: usize, n: usize, y: Operand) -> Rank
+fn rank_text(text: &[u8], pool: &[u8], s: &[u8], a: usize, n: usize, y: Operand) -> Option<Ordering>
     requires n_in_bounds { a + n ≤ length s.now }
     requires parts { Parts text.now pool.now y }
     ensures { result ≡ rank_texts (some (part s.now a n)) (text_in text.now pool.now y) }
 {
     match y {
-        Operand::Pool(b, m) => of_texts(parts::order_part(s, a, n, pool, b, m)),
-        Operand::Text(b, m) => of_texts(parts::order_part(s, a, n, text, b, m)),
-        Operand::Nothing => Rank::Unlike,
-        Operand::Null => Rank::Unlike,
-        Operand::Bool(_) => Rank::Unlike,
-        Operand::Int(_) => Rank::Unlike,
-        Operand::Float(_) => Rank::Unlike,
-        Operand::Node(_) => Rank::Unlike,
+        Operand::Pool(b, m) => Some(of_texts(parts::order_part(s, a, n, pool, b, m))),
+        Operand::Text(b, m) => Some(of_texts(parts::order_part(s, a, n, text, b, m))),
+        _ => None,
     }
 }
 
-// How one value stands to another.
-pub fn rank_of(text: &[u8], pool: &[u8], x: Operand, y: Operand) -> Rank
+// How one value stands to another, where there is an order between them.
+pub fn rank_of(text: &[u8], pool: &[u8], x: Operand, y: Operand) -> Option<Ordering>
     requires { Ranked text.now pool.now x y }
     ensures { result ≡ rank_in text.now pool.now x y }
 {
@@ -105,10 +82,7 @@ pub fn rank_of(text: &[u8], pool: &[u8], x: Operand, y: Operand) -> Rank
         Operand::Float(a) => rank_float(a, y),
         Operand::Pool(a, n) => rank_text(text, pool, pool, a, n, y),
         Operand::Text(a, n) => rank_text(text, pool, text, a, n, y),
-        Operand::Nothing => Rank::Unlike,
-        Operand::Null => Rank::Unlike,
-        Operand::Bool(_) => Rank::Unlike,
-        Operand::Node(_) => Rank::Unlike,
+        _ => None,
     }
 }
 
@@ -117,40 +91,24 @@ pub fn is_less(text: &[u8], pool: &[u8], x: Operand, y: Operand) -> bool
     requires { Ranked text.now pool.now x y }
     ensures { result ≡ is_rank_less (rank_in text.now pool.now x y) }
 {
-    match rank_of(text, pool, x, y) {
-        Rank::Less => true,
-        Rank::Unlike => false,
-        Rank::Equal => false,
-        Rank::Greater => false,
-    }
+    matches!(rank_of(text, pool, x, y), Some(Ordering::Less))
 }
 
 // Whether a value is a number or a text.
 pub fn is_ranked(x: Operand) -> bool
     ensures { result ≡ ranked_is x }
 {
-    match x {
-        Operand::Int(_) => true,
-        Operand::Float(_) => true,
-        Operand::Pool(_, _) => true,
-        Operand::Text(_, _) => true,
-        Operand::Nothing => false,
-        Operand::Null => false,
-        Operand::Bool(_) => false,
-        Operand::Node(_) => false,
-    }
+    matches!(
+        x,
+        Operand::Int(_) | Operand::Float(_) | Operand::Pool(_, _) | Operand::Text(_, _)
+    )
 }
 
 // Whether a rank is that of equal values.
-fn is_same(k: Rank) -> bool
+fn is_same(k: Option<Ordering>) -> bool
     ensures { result ≡ is_rank_equal k }
 {
-    match k {
-        Rank::Equal => true,
-        Rank::Unlike => false,
-        Rank::Less => false,
-        Rank::Greater => false,
-    }
+    matches!(k, Some(Ordering::Equal))
 }
 
 // Whether the n bytes of s from a on are the text of a value.
@@ -162,12 +120,7 @@ fn is_text(s: &[u8], a: usize, n: usize, text: &[u8], pool: &[u8], y: Operand) -
     match y {
         Operand::Pool(b, m) => parts::same_part(s, a, n, pool, b, m),
         Operand::Text(b, m) => parts::same_part(s, a, n, text, b, m),
-        Operand::Nothing => false,
-        Operand::Null => false,
-        Operand::Bool(_) => false,
-        Operand::Int(_) => false,
-        Operand::Float(_) => false,
-        Operand::Node(_) => false,
+        _ => false,
     }
 }
 
@@ -181,9 +134,6 @@ pub fn is_equal(text: &[u8], pool: &[u8], x: Operand, y: Operand) -> bool
         Operand::Float(a) => is_same(rank_float(a, y)),
         Operand::Pool(a, n) => is_text(pool, a, n, text, pool, y),
         Operand::Text(a, n) => is_text(text, a, n, text, pool, y),
-        Operand::Nothing => false,
-        Operand::Null => false,
-        Operand::Bool(_) => false,
-        Operand::Node(_) => false,
+        _ => false,
     }
 }

@@ -1,11 +1,7 @@
 -- `front` meets its contract: the query from the node that is reached is the query from the first. The first four bytes of a segment say what it is.
 --
-use Prim.Native.Nat.{◌-◌}
 use native.Mathlib.Omega.{arith}
-use borrow.Author.Rules.{rules}
-use lib.ListN.{length}
 use Rattle.eval_laws.specs.Items.{segments_in}
-use Rattle.eval_front.specs.Loops.{InReach}
 use Rattle.eval_front.specs.Fronts.{along_start, one_asked, done_lost, done_found, reach_next}
 use Rattle.eval_front.specs.Heads.{head_of, name_read, name_ends, index_ends}
 use Rattle.eval_front.proofs.front.Goals as goal
@@ -29,7 +25,7 @@ returns-in_default c =
 pub loop-rest-preserved-then-head-eq-NAME_HEAD : goal.loop-rest-preserved-then-head-eq-NAME_HEAD
 loop-rest-preserved-then-head-eq-NAME_HEAD c =
     let d = head_of 5 (λ k. (c.type_inv.plan k).fits) c.loop-rest-test.true c.word32-head.ensures.is c.if-head-eq-NAME_HEAD.true in
-    reach_next c.requires.given c.loop-rest.invariant d _ c.first_named-found.ensures _ c.in-At.is _ (name_ends c.requires.given.few_p d)
+    reach_next c.requires.given c.loop-rest.invariant d _ c.first_named-found.ensures _ c.in-Some.is _ (name_ends c.requires.given.few_p d)
 
 pub returns-then-head-ne-INDEX_HEAD : goal.returns-then-head-ne-INDEX_HEAD
 returns-then-head-ne-INDEX_HEAD c = done_found c.loop-rest.invariant c.came_to-then-head-ne-INDEX_HEAD.ensures
@@ -47,7 +43,7 @@ returns-in_default-found c =
 pub loop-rest-preserved : goal.loop-rest-preserved
 loop-rest-preserved c =
     let d = head_of 6 (λ k. (c.type_inv.plan k).fits) c.loop-rest-test.true c.word32-head.ensures.is c.if-head-ne-INDEX_HEAD.false in
-    reach_next c.requires.given c.loop-rest.invariant d _ c.get_by_index-found.ensures _ c.in-At-found.is _ (index_ends c.requires.given.few_p d)
+    reach_next c.requires.given c.loop-rest.invariant d _ c.get_by_index-found.ensures _ c.in-Some-found.is _ (index_ends c.requires.given.few_p d)
 
 pub returns : goal.returns
 returns c = done_found c.loop-rest.invariant c.came_to-2.ensures

@@ -1,7 +1,5 @@
 -- `further` meets its contract: the places of the next walk say where it stands.
-use borrow.Author.Rules.{rules}
 use Rattle.eval_front.specs.Places.{further_last, further_next}
-use Rattle.eval_front.proofs.further.Lts as lts
 use Rattle.eval_front.proofs.further.Goals as goal
 
 -- src/lib.rt:230:9

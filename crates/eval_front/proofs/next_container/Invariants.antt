@@ -1,9 +1,6 @@
 -- `next_container` meets its contract: each node that is passed is neither list nor map.
 use Prim.Native.Nat.{◌-◌}
-use native.Mathlib.Omega.{arith}
-use borrow.Author.Rules.{rules}
 use Rattle.eval_front.specs.Loops.{InPassed}
-use Rattle.eval_front.specs.Places.{passed_next}
 use Rattle.eval_front.proofs.next_container.Given as goal
 
 abbrev pub invariant-loop-j : goal.invariant-loop-j

@@ -1,5 +1,4 @@
 -- `eval_front::push` meets its contract: past the cap, at a place, behind the places.
-use borrow.Author.Rules.{rules}
 use Rattle.eval_laws.specs.States.{push_in, push_out, push_full}
 use Rattle.eval_front.proofs.push.Goals as goal
 

@@ -1,9 +1,6 @@
 -- `push_each` meets its contract: the numbers that are left give the whole.
-use Prim.Native.Nat.{◌-◌}
 use mathlib.Core.Path.{refl, ◌∙◌}
 use native.Mathlib.Omega.{arith}
-use borrow.Author.Rules.{rules}
-use Rattle.eval_front.specs.Loops.{InNumbers}
 use Rattle.eval_front.specs.Places.{numbers_step, numbers_end, push_bound}
 use Rattle.eval_front.proofs.push_each.Goals as goal
 

@@ -3,7 +3,6 @@ use mathlib.Core.Path.{refl, ◌∙◌}
 use native.Mathlib.Omega.{arith}
 use Rattle.definition.specs.Limits.{max_nodes}
 use Rattle.slices.specs.Laws.{inside_at}
-use Rattle.eval_front.specs.Loops.{InWalked}
 use Rattle.eval_front.specs.Places.{push_bound, walked_step, walked_end}
 use Rattle.eval_front.proofs.push_places.Goals as goal
 

@@ -1,10 +1,5 @@
 -- `push_places` meets its contract: the places that are left give the whole.
-use mathlib.Core.Path.{refl, ◌∙◌}
-use native.Mathlib.Omega.{arith}
-use Rattle.definition.specs.Limits.{max_nodes}
-use Rattle.slices.specs.Laws.{inside_at}
 use Rattle.eval_front.specs.Loops.{InWalked}
-use Rattle.eval_front.specs.Places.{push_bound, walked_step, walked_end}
 use Rattle.eval_front.proofs.push_places.Given as goal
 
 abbrev pub invariant-loop-w : goal.invariant-loop-w

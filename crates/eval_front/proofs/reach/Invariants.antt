@@ -1,13 +1,8 @@
 -- `reach` meets its contract: the query from the node that is reached is the query from the first. The first four bytes of a segment say what it is.
 --
 use Prim.Native.Nat.{◌-◌}
-use native.Mathlib.Omega.{arith}
-use borrow.Author.Rules.{rules}
 use lib.ListN.{length}
-use Rattle.eval_laws.specs.Items.{segments_in}
 use Rattle.eval_front.specs.Loops.{InReach}
-use Rattle.eval_front.specs.Fronts.{along_start, one_asked, done_lost, done_found, reach_next}
-use Rattle.eval_front.specs.Heads.{head_of, name_read, name_ends, index_ends}
 use Rattle.eval_front.proofs.reach.Given as goal
 
 abbrev pub invariant-loop-q : goal.invariant-loop-q

@@ -1,15 +1,9 @@
 -- The answers of the cycle of calls {same_elements, same_members, same_nodes, same_values}.
-use Prim.Native.Nat.{ℕ, ◌+◌, ◌-◌, ◌*◌, ◌<◌, ◌≤◌}
-use Rattle.definition.specs.Tables.{depth_at}
-use Rattle.eval_values.specs.Means.{height}
-use Rattle.eval_values.specs.Same.{not_taken, not_left, with_nothing, with_null, with_bool, with_int, with_float, with_pool, with_text, with_node, node_node, node_else, node_height, child_height, of_nodes, at_nodes, found_node, found_nothing, found_in, members_of, kinds_differ, counts_differ, lists_same, maps_same, map_else, kids_start, elements_start, elements_step, elements_stop, elements_end, members_step, members_stop, members_end, elements_are, members_are, child_key, key_read, members_start, with_ranked, not_ranked}
+use Rattle.eval_values.specs.Same.{not_taken, not_left, with_nothing, with_null, with_bool, with_node, node_node, node_else, node_height, child_height, of_nodes, at_nodes, kinds_differ, counts_differ, lists_same, maps_same, map_else, elements_start, elements_step, elements_stop, elements_end, members_step, members_stop, members_end, elements_are, members_are, members_start, with_ranked, not_ranked}
 use Rattle.eval_laws.specs.Ranges.{range_of_lem, child_at}
-use Rattle.table_laws.specs.Nodes.{kids, kids_at}
-use Rattle.definition.specs.Compare.{same_elements, same_members}
 use mathlib.Core.Bool.{true, not}
-use borrow.Author.Rules.{rules}
 use native.Mathlib.Omega.{arith}
-use mathlib.Core.Path.{◌≡◌, ◌∙◌, refl, ap}
+use mathlib.Core.Path.{◌∙◌, refl, ap}
 use Rattle.eval_values.proofs.Partners.{firsts, turn_in, turn_deeper, turn_asks, turn_missing, turn_between, turn_found}
 use Rattle.eval_values.specs.Values.{ranked_of}
 use Rattle.eval_values.proofs.+equality.Goals as goal
@@ -107,7 +101,7 @@ same_members-get_value-x-requires t c = (c.requires.accepted, turn_in c.requires
 
 -- same_members
 pub same_members-get_value-y-requires : goal.same_members-get_value-y-requires
-same_members-get_value-y-requires t c = (c.requires.accepted, omega (arith, turn_in c.requires.accepted c.requires.both c.first_child-a.ensures c.first_child-b.ensures c.child_count-count.ensures c.child_count-many.ensures c.loop-k-test.true, (turn_between c.requires.accepted c.requires.both c.first_child-a.ensures c.first_child-b.ensures c.child_count-count.ensures c.child_count-many.ensures c.loop-k-test.true c.partner-found.ensures c.in-At.is).1))
+same_members-get_value-y-requires t c = (c.requires.accepted, omega (arith, turn_in c.requires.accepted c.requires.both c.first_child-a.ensures c.first_child-b.ensures c.child_count-count.ensures c.child_count-many.ensures c.loop-k-test.true, (turn_between c.requires.accepted c.requires.both c.first_child-a.ensures c.first_child-b.ensures c.child_count-count.ensures c.child_count-many.ensures c.loop-k-test.true c.partner-found.ensures c.in-Some.is).1))
 
 -- same_members
 pub same_members-same_values-requires : goal.same_members-same_values-requires
@@ -119,7 +113,7 @@ same_members-same_values-requires t c = (
 -- same_members
 pub same_members-returns-then-not-same_values : goal.same_members-returns-then-not-same_values
 same_members-returns-then-not-same_values t c =
-    let w = turn_found c.requires.accepted c.requires.both c.first_child-a.ensures c.first_child-b.ensures c.child_count-count.ensures c.child_count-many.ensures c.loop-k-test.true c.partner-found.ensures c.in-At.is
+    let w = turn_found c.requires.accepted c.requires.both c.first_child-a.ensures c.first_child-b.ensures c.child_count-count.ensures c.child_count-many.ensures c.loop-k-test.true c.partner-found.ensures c.in-Some.is
     (at_nodes c.args.table.now c.args.text.now c.args.pool.now _ _ _ _ c.get_value-x.ensures c.get_value-y.ensures _ c.same_values.ensures) in
     members_stop c.args.table.now c.args.text.now _ _ _ _ c.loop-k.k c.loop-k-test.true _ w (not_taken _ (ap not c.if-not-same_values.true)) c.loop-k.invariant.0
     ∙ members_are c.args.table.now c.args.text.now c.requires.accepted _ _ c.requires.both.0 _ _ (firsts c.requires.accepted c.requires.both c.first_child-a.ensures c.first_child-b.ensures c.child_count-count.ensures c.child_count-many.ensures)
@@ -127,19 +121,19 @@ same_members-returns-then-not-same_values t c =
 -- same_members
 pub same_members-overflow_sub-near : goal.same_members-overflow_sub-near
 same_members-overflow_sub-near t c =
-    let g = turn_between c.requires.accepted c.requires.both c.first_child-a.ensures c.first_child-b.ensures c.child_count-count.ensures c.child_count-many.ensures c.loop-k-test.true c.partner-found.ensures c.in-At.is in
+    let g = turn_between c.requires.accepted c.requires.both c.first_child-a.ensures c.first_child-b.ensures c.child_count-count.ensures c.child_count-many.ensures c.loop-k-test.true c.partner-found.ensures c.in-Some.is in
     g.0
 
 -- same_members
 pub same_members-overflow_add-near : goal.same_members-overflow_add-near
 same_members-overflow_add-near t c =
-    let g = turn_between c.requires.accepted c.requires.both c.first_child-a.ensures c.first_child-b.ensures c.child_count-count.ensures c.child_count-many.ensures c.loop-k-test.true c.partner-found.ensures c.in-At.is in
+    let g = turn_between c.requires.accepted c.requires.both c.first_child-a.ensures c.first_child-b.ensures c.child_count-count.ensures c.child_count-many.ensures c.loop-k-test.true c.partner-found.ensures c.in-Some.is in
     omega (arith, g.0, g.1)
 
 -- same_members
 pub same_members-loop-k-preserved : goal.same_members-loop-k-preserved
 same_members-loop-k-preserved t c =
-    let w = turn_found c.requires.accepted c.requires.both c.first_child-a.ensures c.first_child-b.ensures c.child_count-count.ensures c.child_count-many.ensures c.loop-k-test.true c.partner-found.ensures c.in-At.is
+    let w = turn_found c.requires.accepted c.requires.both c.first_child-a.ensures c.first_child-b.ensures c.child_count-count.ensures c.child_count-many.ensures c.loop-k-test.true c.partner-found.ensures c.in-Some.is
     (at_nodes c.args.table.now c.args.text.now c.args.pool.now _ _ _ _ c.get_value-x.ensures c.get_value-y.ensures _ c.same_values.ensures) in
     (members_step c.args.table.now c.args.text.now _ _ _ _ c.loop-k.k c.loop-k-test.true _ w (not_left _ (ap not c.if-not-same_values.false)) c.loop-k.invariant.0, omega arith)
 
@@ -199,7 +193,7 @@ same_values-returns-then-is_ranked t c = with_ranked c.args.table.now c.args.tex
 
 -- same_values
 pub same_values-same_nodes-requires : goal.same_values-same_nodes-requires
-same_values-same_nodes-requires t c = (node_height c.args.table.now c.args.text.now c.args.pool.now c.requires.accepted c.args.x c.args.y c.requires.pair _ _ c.in-Node.is c.decreases, (c.requires.accepted, with_node c.args.table.now c.args.text.now c.args.pool.now c.requires.accepted c.args.x c.args.y c.requires.pair _ _ c.in-Node.is _ c.as_node.ensures c.in-At.is))
+same_values-same_nodes-requires t c = (node_height c.args.table.now c.args.text.now c.args.pool.now c.requires.accepted c.args.x c.args.y c.requires.pair _ _ c.in-Node.is c.decreases, (c.requires.accepted, with_node c.args.table.now c.args.text.now c.args.pool.now c.requires.accepted c.args.x c.args.y c.requires.pair _ _ c.in-Node.is _ c.as_node.ensures c.in-Some.is))
 
 -- same_values
 pub same_values-returns-in-Nothing : goal.same_values-returns-in-Nothing
@@ -230,9 +224,9 @@ pub same_values-returns-in-Text : goal.same_values-returns-in-Text
 same_values-returns-in-Text t c = absurd (not_ranked c.args.table.now c.args.text.now c.args.pool.now c.requires.accepted c.args.x c.args.y c.requires.pair _ c.is_ranked.ensures c.if-is_ranked.false _ c.in-Text.is refl)
 
 -- same_values
-pub same_values-returns-in-At : goal.same_values-returns-in-At
-same_values-returns-in-At t c = node_node c.args.table.now c.args.text.now c.args.pool.now c.requires.accepted c.args.x c.args.y c.requires.pair _ _ c.in-Node.is _ c.as_node.ensures c.in-At.is _ c.same_nodes.ensures
+pub same_values-returns-in-Some : goal.same_values-returns-in-Some
+same_values-returns-in-Some t c = node_node c.args.table.now c.args.text.now c.args.pool.now c.requires.accepted c.args.x c.args.y c.requires.pair _ _ c.in-Node.is _ c.as_node.ensures c.in-Some.is _ c.same_nodes.ensures
 
 -- same_values
-pub same_values-returns-in-Nothing-as_node : goal.same_values-returns-in-Nothing-as_node
-same_values-returns-in-Nothing-as_node t c = node_else c.args.table.now c.args.text.now c.args.pool.now c.requires.accepted c.args.x c.args.y c.requires.pair _ c.in-Node.is _ c.as_node.ensures c.in-Nothing-as_node.is
+pub same_values-returns-in-None : goal.same_values-returns-in-None
+same_values-returns-in-None t c = node_else c.args.table.now c.args.text.now c.args.pool.now c.requires.accepted c.args.x c.args.y c.requires.pair _ c.in-Node.is _ c.as_node.ensures c.in-None.is

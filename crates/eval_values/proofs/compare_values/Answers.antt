@@ -1,11 +1,9 @@
-use Rattle.eval_values.specs.Same.{says_eq, says_ne, says_lt, says_le, says_gt, says_ge, order_less, order_same, order_else, differ_left, differ_right, differ_both}
-use Rattle.eval_values.specs.Same.{says_eq, says_ne, says_lt, says_le, says_gt, says_ge, order_less, order_same, order_else, differ_left, differ_right, differ_both}
+use Rattle.eval_values.specs.Same.{says_eq, says_ne, says_lt, says_le, says_gt, says_ge}
+use Rattle.eval_values.specs.Same.{says_eq, says_ne, says_lt, says_le, says_gt, says_ge}
 use Rattle.eval_values.specs.Ranks.{is_rank_less}
 use Rattle.eval_values.specs.Values.{ranked_of, rank_means, rank_less}
 use Rattle.eval_values.specs.Means.{meaning}
 use mathlib.Core.Path.{ap, ◌∙◌}
-use borrow.Author.Rules.{rules}
-use Rattle.eval_values.proofs.compare_values.Lts as lts
 use Rattle.eval_values.proofs.compare_values.Goals as goal
 
 -- src/lib.rt:179:9

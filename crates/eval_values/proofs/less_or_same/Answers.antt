@@ -1,11 +1,9 @@
-use Rattle.eval_values.specs.Same.{says_eq, says_ne, says_lt, says_le, says_gt, says_ge, order_less, order_same, order_else, differ_left, differ_right, differ_both, not_taken, not_left}
-use Rattle.eval_values.specs.Same.{says_eq, says_ne, says_lt, says_le, says_gt, says_ge, order_less, order_same, order_else, differ_left, differ_right, differ_both}
+use Rattle.eval_values.specs.Same.{order_less, order_same, order_else, not_taken, not_left}
+use Rattle.eval_values.specs.Same.{order_less, order_same, order_else}
 use Rattle.eval_values.specs.Ranks.{is_rank_less}
 use Rattle.eval_values.specs.Values.{ranked_of, rank_means, rank_less, boolean_means}
 use Rattle.eval_values.specs.Means.{meaning}
 use mathlib.Core.Path.{ap, ◌∙◌}
-use borrow.Author.Rules.{rules}
-use Rattle.eval_values.proofs.less_or_same.Lts as lts
 use mathlib.Core.Bool.{not}
 use Rattle.eval_values.proofs.less_or_same.Goals as goal
 

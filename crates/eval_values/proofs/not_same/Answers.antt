@@ -1,10 +1,8 @@
-use Rattle.eval_values.specs.Same.{says_eq, says_ne, says_lt, says_le, says_gt, says_ge, order_less, order_same, order_else, differ_left, differ_right, differ_both, not_taken, not_left}
-use Rattle.eval_values.specs.Same.{says_eq, says_ne, says_lt, says_le, says_gt, says_ge, order_less, order_same, order_else, differ_left, differ_right, differ_both}
+use Rattle.eval_values.specs.Same.{differ_left, differ_right, differ_both, not_taken, not_left}
+use Rattle.eval_values.specs.Same.{differ_left, differ_right, differ_both}
 use Rattle.eval_values.specs.Values.{some_means}
 use Rattle.eval_values.specs.Means.{meaning}
 use mathlib.Core.Path.{◌∙◌}
-use borrow.Author.Rules.{rules}
-use Rattle.eval_values.proofs.not_same.Lts as lts
 use mathlib.Core.Path.{ap}
 use mathlib.Core.Bool.{not}
 use Rattle.eval_values.proofs.not_same.Goals as goal

@@ -12,13 +12,13 @@ pub returns-in_default : goal.returns-in_default
 returns-in_default c = atom_absent c.requires.ask_short c.requires.atom_at _ c.named-found.ensures c.in_default.is
 
 pub overflow_sub-there : goal.overflow_sub-there
-overflow_sub-there c = omega (arith, c.named-found.ensures.low _ c.in-At.is, c.first_child.ensures)
+overflow_sub-there c = omega (arith, c.named-found.ensures.low _ c.in-Some.is, c.first_child.ensures)
 
 pub returns-then-form-eq-HAS : goal.returns-then-form-eq-HAS
-returns-then-form-eq-HAS c = atom_has c.requires.ask_short c.requires.atom_at _ c.named-found.ensures _ c.in-At.is c.if-form-eq-HAS.true
+returns-then-form-eq-HAS c = atom_has c.requires.ask_short c.requires.atom_at _ c.named-found.ensures _ c.in-Some.is c.if-form-eq-HAS.true
 
 pub compare_form-b-requires : goal.compare_form-b-requires
-compare_form-b-requires c = record { ask_node = atom_asks c.requires.ask_short c.requires.atom_at _ c.named-found.ensures _ c.in-At.is c.if-form-eq-HAS.false; form_against = c.requires.atom_at.form_is }
+compare_form-b-requires c = record { ask_node = atom_asks c.requires.ask_short c.requires.atom_at _ c.named-found.ensures _ c.in-Some.is c.if-form-eq-HAS.false; form_against = c.requires.atom_at.form_is }
 
 pub returns : goal.returns
-returns c = atom_compared c.requires.ask_short c.requires.atom_at _ c.named-found.ensures _ c.in-At.is c.if-form-eq-HAS.false _ c.compare_form-b.ensures
+returns c = atom_compared c.requires.ask_short c.requires.atom_at _ c.named-found.ensures _ c.in-Some.is c.if-form-eq-HAS.false _ c.compare_form-b.ensures

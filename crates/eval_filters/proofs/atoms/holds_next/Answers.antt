@@ -15,13 +15,13 @@ pub returns-in_default : goal.returns-in_default
 returns-in_default c = atom_absent c.requires.ask_short c.requires.atom_at _ c.select_one-found.ensures c.in_default.is
 
 pub returns-then-form-eq-HAS : goal.returns-then-form-eq-HAS
-returns-then-form-eq-HAS c = atom_has c.requires.ask_short c.requires.atom_at _ c.select_one-found.ensures _ c.in-At.is c.if-form-eq-HAS.true
+returns-then-form-eq-HAS c = atom_has c.requires.ask_short c.requires.atom_at _ c.select_one-found.ensures _ c.in-Some.is c.if-form-eq-HAS.true
 
 pub overflow_add-c-3 : goal.overflow_add-c-3
 overflow_add-c-3 c = omega (arith, told_room c.requires.ask_short c.requires.atom_at)
 
 pub compare_node-requires : goal.compare_node-requires
-compare_node-requires c = atom_asks c.requires.ask_short c.requires.atom_at _ c.select_one-found.ensures _ c.in-At.is c.if-form-eq-HAS.false
+compare_node-requires c = atom_asks c.requires.ask_short c.requires.atom_at _ c.select_one-found.ensures _ c.in-Some.is c.if-form-eq-HAS.false
 
 pub returns : goal.returns
-returns c = atom_compared c.requires.ask_short c.requires.atom_at _ c.select_one-found.ensures _ c.in-At.is c.if-form-eq-HAS.false _ c.compare_node.ensures
+returns c = atom_compared c.requires.ask_short c.requires.atom_at _ c.select_one-found.ensures _ c.in-Some.is c.if-form-eq-HAS.false _ c.compare_node.ensures

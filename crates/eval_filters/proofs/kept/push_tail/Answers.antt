@@ -30,10 +30,10 @@ pub returns-in_default : goal.returns-in_default
 returns-in_default c = pushed_lost c.requires.ask_visit _ (tail_named c.requires.tail_at.0 c.requires.tail_at.1 c.if-tail-eq0.false) _ c.tail_named-found.ensures c.in_default.is
 
 pub overflow_sub-there : goal.overflow_sub-there
-overflow_sub-there c = omega (arith, c.tail_named-found.ensures.low _ c.in-At.is, c.first_child.ensures)
+overflow_sub-there c = omega (arith, c.tail_named-found.ensures.low _ c.in-Some.is, c.first_child.ensures)
 
 pub push-a-requires-2 : goal.push-a-requires-2
-push-a-requires-2 c = record { room = c.requires.ask_visit.room; wide = c.requires.ask_visit.wide; small = c.requires.ask_visit.small; number = omega (arith, c.tail_named-found.ensures.inside _ c.in-At.is, c.requires.ask_visit.given.tab.size.few) }
+push-a-requires-2 c = record { room = c.requires.ask_visit.room; wide = c.requires.ask_visit.wide; small = c.requires.ask_visit.small; number = omega (arith, c.tail_named-found.ensures.inside _ c.in-Some.is, c.requires.ask_visit.given.tab.size.few) }
 
 pub returns : goal.returns
-returns c = pushed_name c.requires.ask_visit _ (tail_named c.requires.tail_at.0 c.requires.tail_at.1 c.if-tail-eq0.false) _ c.tail_named-found.ensures _ c.in-At.is _ _ c.push-a-2.ensures
+returns c = pushed_name c.requires.ask_visit _ (tail_named c.requires.tail_at.0 c.requires.tail_at.1 c.if-tail-eq0.false) _ c.tail_named-found.ensures _ c.in-Some.is _ _ c.push-a-2.ensures

@@ -1,6 +1,5 @@
 -- `begins` meets its contract: it is `begins_at` in both cases.
 use borrow.Author.Tests.{eq-eqb, ne_eqb}
-use Rattle.eval_items.proofs.leaves.begins.Lts as lts
 use Rattle.eval_items.proofs.leaves.begins.Goals as goal
 
 pub returns-then-k-eq-ROOT : goal.returns-then-k-eq-ROOT

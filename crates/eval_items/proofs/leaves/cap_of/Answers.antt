@@ -1,7 +1,6 @@
 -- `cap_of` meets its contract: it is `cap_for` in each case.
 use mathlib.Core.Path.{sym}
 use Rattle.eval_laws.specs.Founds.{cap_other}
-use Rattle.eval_items.proofs.leaves.cap_of.Lts as lts
 use Rattle.eval_items.proofs.leaves.cap_of.Goals as goal
 
 pub returns-then-mode-eq-COUNT : goal.returns-then-mode-eq-COUNT

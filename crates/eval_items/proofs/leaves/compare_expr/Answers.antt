@@ -2,7 +2,6 @@
 use native.Mathlib.Omega.{arith}
 use mathlib.Core.Path.{refl}
 use Rattle.eval_items.specs.OpLaws.{compare_in, done_compare}
-use Rattle.eval_items.proofs.leaves.compare_expr.Lts as lts
 use Rattle.eval_items.proofs.leaves.compare_expr.Goals as goal
 
 pub overflow_add-op : goal.overflow_add-op

@@ -1,6 +1,5 @@
 -- `constant` meets its contract: it is `constant_of` in each case.
 use Rattle.eval_items.specs.LeafLaws.{constant_false, constant_true, constant_null}
-use Rattle.eval_items.proofs.leaves.constant.Lts as lts
 use Rattle.eval_items.proofs.leaves.constant.Goals as goal
 
 pub returns-then-b-eq0 : goal.returns-then-b-eq0

@@ -2,8 +2,6 @@
 use native.Mathlib.Omega.{arith}
 use mathlib.Core.Path.{sym, ◌∙◌}
 use Rattle.eval_items.specs.LeafLaws.{name_asked, name_else, name_members, name_found}
-use borrow.Author.Rules.{rules}
-use Rattle.eval_items.proofs.leaves.first_named.Lts as lts
 use Rattle.eval_items.proofs.leaves.first_named.Goals as goal
 
 pub kind-requires : goal.kind-requires

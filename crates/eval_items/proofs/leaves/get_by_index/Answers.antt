@@ -1,10 +1,8 @@
 -- `get_by_index` meets its contract: the element at the place that the index has, or none.
 use native.Mathlib.Omega.{arith}
 use mathlib.Core.Path.{sym, ◌∙◌}
-use borrow.Author.Rules.{rules}
 use Rattle.eval_items.proofs.Signs.{ranged}
 use Rattle.eval_items.specs.LeafLaws.{index_asked, index_inside, few_children, index_else, index_found, index_nothing, index_room}
-use Rattle.eval_items.proofs.leaves.get_by_index.Lts as lts
 use Rattle.number_integers.specs.Signs.{back}
 use Rattle.eval_items.proofs.leaves.get_by_index.Goals as goal
 

@@ -1,11 +1,9 @@
 -- `length_expr` meets its contract: the length is small enough for an i64, and is that of the last value.
 use mir.ValLaws.{to_z_pos}
 use mir.Syntax.{w64}
-use lib.ListN.{length}
 use native.Mathlib.Omega.{arith}
 use Rattle.eval_values.specs.Values.{inside_of, parts_of}
 use Rattle.eval_items.specs.OpLaws.{op_in, done_length, length_small}
-use Rattle.eval_items.proofs.leaves.length_expr.Lts as lts
 use Rattle.eval_items.proofs.leaves.length_expr.Goals as goal
 
 pub length-n-requires : goal.length-n-requires

@@ -1,10 +1,8 @@
 -- `literal` meets its contract: by the kind that is read, the operand means every literal there.
 use native.Mathlib.Omega.{arith}
 use mathlib.Core.Path.{◌∙◌}
-use borrow.Author.Rules.{rules}
 use Rattle.eval_values.specs.Floats.{bits_number}
 use Rattle.eval_items.specs.LeafLaws.{literal_room, done_integer, done_float, done_text, done_constant}
-use Rattle.eval_items.proofs.leaves.literal.Lts as lts
 use Rattle.number_integers.specs.Signs.{back}
 use Rattle.eval_items.proofs.leaves.literal.Goals as goal
 

@@ -1,7 +1,6 @@
 -- `literal_expr` meets its contract: the literal becomes the last value, and the code goes on behind it.
 use native.Mathlib.Omega.{arith}
 use Rattle.eval_items.specs.OpLaws.{literal_asked, literal_past, done_literal}
-use Rattle.eval_items.proofs.leaves.literal_expr.Lts as lts
 use Rattle.eval_items.proofs.leaves.literal_expr.Goals as goal
 
 pub literal-v-requires : goal.literal-v-requires

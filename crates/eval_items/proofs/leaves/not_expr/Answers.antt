@@ -1,7 +1,6 @@
 -- `not_expr` meets its contract: the answer is turned round.
 use native.Mathlib.Omega.{arith}
 use Rattle.eval_items.specs.OpLaws.{op_in, done_not}
-use Rattle.eval_items.proofs.leaves.not_expr.Lts as lts
 use Rattle.eval_items.proofs.leaves.not_expr.Goals as goal
 
 pub overflow_add-z : goal.overflow_add-z

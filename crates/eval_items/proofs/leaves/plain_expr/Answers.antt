@@ -1,7 +1,6 @@
 -- `plain_expr` meets its contract: each kind of operation goes to the function for it.
 use native.Mathlib.Omega.{arith}
 use Rattle.eval_items.specs.OpLaws.{op_in, narrower, literal_low, regex_kind_lem}
-use Rattle.eval_items.proofs.leaves.plain_expr.Lts as lts
 use Rattle.eval_items.proofs.leaves.plain_expr.Goals as goal
 
 pub bounds-plan-q : goal.bounds-plan-q

@@ -2,7 +2,6 @@
 use Rattle.eval_items.specs.OpLaws.{op_in, done_regex}
 use Rattle.eval_items.specs.Regexes.{spelled_of}
 use native.Mathlib.Omega.{arith}
-use Rattle.eval_items.proofs.leaves.regex_expr.Lts as lts
 use Rattle.eval_items.proofs.leaves.regex_expr.Goals as goal
 
 pub bounds-plan-q : goal.bounds-plan-q

@@ -3,7 +3,6 @@ use mathlib.Core.Path.{refl, sym, ◌∙◌}
 use mathlib.Core.Bool.{true, false, true≢false, false≢true}
 use native.Mathlib.Omega.{arith}
 use Rattle.eval_items.specs.OpLaws.{right_in, told_and, told_or, enter, skip}
-use Rattle.eval_items.proofs.leaves.right_operand.Lts as lts
 use Rattle.eval_items.proofs.leaves.right_operand.Goals as goal
 
 pub overflow_add-inside : goal.overflow_add-inside

@@ -1,7 +1,6 @@
 -- `select_one` meets its contract: kind 5 is a name, and kind 6 an index.
 use native.Mathlib.Omega.{arith}
 use Rattle.eval_laws.specs.Items.{selector_in}
-use Rattle.eval_items.proofs.leaves.select_one.Lts as lts
 use Rattle.eval_items.proofs.leaves.select_one.Goals as goal
 
 pub bounds-plan-p : goal.bounds-plan-p

@@ -1,8 +1,6 @@
 -- `slice_at` meets its contract: of a list the walk is its slice's, and of another node no place is left.
 use mathlib.Core.Path.{sym, ◌∙◌}
-use borrow.Author.Rules.{rules}
 use Rattle.eval_items.specs.SliceLaws.{walk_else, walk_list, ask_count}
-use Rattle.eval_items.proofs.leaves.slice_at.Lts as lts
 use Rattle.eval_items.proofs.leaves.slice_at.Goals as goal
 
 pub returns-then-kind-ne-KIND_LIST : goal.returns-then-kind-ne-KIND_LIST

@@ -3,7 +3,6 @@ use mathlib.Core.Path.{◌∙◌}
 use native.Mathlib.Omega.{arith}
 use Rattle.eval_items.specs.SliceLaws.{slice_room, done_slice}
 use Rattle.eval_items.proofs.Signs.{ranged}
-use Rattle.eval_items.proofs.leaves.slice_of.Lts as lts
 use Rattle.number_integers.specs.Signs.{back}
 use Rattle.eval_items.proofs.leaves.slice_of.Goals as goal
 

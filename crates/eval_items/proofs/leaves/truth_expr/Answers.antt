@@ -2,7 +2,6 @@
 use native.Mathlib.Omega.{arith}
 use Rattle.eval_values.specs.Values.{inside_of}
 use Rattle.eval_items.specs.OpLaws.{op_in, done_truth}
-use Rattle.eval_items.proofs.leaves.truth_expr.Lts as lts
 use Rattle.eval_items.proofs.leaves.truth_expr.Goals as goal
 
 pub to_logical-b-requires : goal.to_logical-b-requires

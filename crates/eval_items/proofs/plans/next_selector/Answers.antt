@@ -2,7 +2,6 @@
 use mathlib.Core.Path.{refl, ◌∙◌}
 use native.Mathlib.Omega.{arith}
 use Rattle.eval_items.specs.EndLaws.{filter_ends, next_name, next_index, next_slice, next_wildcard, next_filter, selector_end}
-use Rattle.eval_items.proofs.plans.next_selector.Lts as lts
 use Rattle.eval_items.proofs.plans.next_selector.Goals as goal
 
 pub bounds-plan-p : goal.bounds-plan-p

@@ -1,7 +1,6 @@
 -- `past_literal` meets its contract: each kind of literal has its length.
 use native.Mathlib.Omega.{arith}
 use Rattle.eval_items.specs.EndLaws.{past_constant, past_text, past_number, literal_in}
-use Rattle.eval_items.proofs.plans.past_literal.Lts as lts
 use Rattle.eval_items.proofs.plans.past_literal.Goals as goal
 
 pub bounds-plan-q : goal.bounds-plan-q

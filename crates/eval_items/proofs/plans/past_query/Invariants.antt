@@ -1,13 +1,10 @@
 -- `past_query` meets its contract. The loop's invariant: for every query there, some rest of its segments stands at p and ends where the query ends. The measure is what is left of the plan.
 use lib.ListN.{length}
 use Prim.Native.Nat.{ℕ, ◌+◌, ◌-◌}
-use native.Mathlib.Omega.{arith}
-use mathlib.Core.Path.{refl, sym, ◌∙◌}
 use Rattle.eval_laws.specs.Bytes.{Holds}
 use Rattle.definition.specs.Plans.{code_segments}
 use Rattle.definition.specs.Forms.{Segments}
-use Rattle.eval_items.specs.EndLaws.{Rest, spans, rest_end, rest_in}
-use Rattle.eval_items.proofs.plans.past_query.Lts as lts
+use Rattle.eval_items.specs.EndLaws.{Rest}
 use Rattle.eval_items.proofs.plans.past_query.Given as goal
 
 abbrev pub invariant-loop-p : goal.invariant-loop-p

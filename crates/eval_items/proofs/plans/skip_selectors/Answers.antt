@@ -1,13 +1,7 @@
 -- `skip_selectors` meets its contract. The loop's invariant: for all selectors there, m of them are left at q and end where all end. The measure is m.
-use lib.ListN.{length}
-use Prim.Native.Nat.{ℕ, ◌+◌}
 use native.Mathlib.Omega.{arith}
-use mathlib.Core.Path.{◌≡◌, refl}
-use Rattle.eval_laws.specs.Bytes.{Holds}
-use Rattle.definition.specs.Plans.{code_selectors}
-use Rattle.definition.specs.Forms.{Selectors, many_selectors}
-use Rattle.eval_items.specs.EndLaws.{Left, left_step, left_first, left_last}
-use Rattle.eval_items.proofs.plans.skip_selectors.Lts as lts
+use mathlib.Core.Path.{refl}
+use Rattle.eval_items.specs.EndLaws.{left_step, left_first, left_last}
 use Rattle.eval_items.proofs.plans.skip_selectors.Goals as goal
 
 pub loop-m-init : goal.loop-m-init

@@ -1,13 +1,11 @@
 -- `skip_selectors` meets its contract. The loop's invariant: for all selectors there, m of them are left at q and end where all end. The measure is m.
 use lib.ListN.{length}
 use Prim.Native.Nat.{ℕ, ◌+◌}
-use native.Mathlib.Omega.{arith}
-use mathlib.Core.Path.{◌≡◌, refl}
+use mathlib.Core.Path.{◌≡◌}
 use Rattle.eval_laws.specs.Bytes.{Holds}
 use Rattle.definition.specs.Plans.{code_selectors}
 use Rattle.definition.specs.Forms.{Selectors, many_selectors}
-use Rattle.eval_items.specs.EndLaws.{Left, left_step, left_first, left_last}
-use Rattle.eval_items.proofs.plans.skip_selectors.Lts as lts
+use Rattle.eval_items.specs.EndLaws.{Left}
 use Rattle.eval_items.proofs.plans.skip_selectors.Given as goal
 
 abbrev pub invariant-loop-m : goal.invariant-loop-m

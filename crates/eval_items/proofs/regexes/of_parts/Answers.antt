@@ -2,8 +2,6 @@
 use Rattle.eval_items.specs.Regexes.{cut, cut_test}
 use Rattle.definition.specs.Utf8.{is_utf8}
 use mathlib.Core.Path.{ap, ◌∙◌}
-use borrow.Author.Rules.{rules}
-use Rattle.eval_items.proofs.regexes.of_parts.Lts as lts
 use Rattle.eval_items.proofs.regexes.of_parts.Goals as goal
 
 pub holds-requires : goal.holds-requires

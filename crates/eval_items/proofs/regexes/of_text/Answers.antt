@@ -6,8 +6,6 @@ use Rattle.eval_values.specs.Means.{text_in}
 use Rattle.definition.specs.Bytes.{part}
 use mathlib.Core.Option.{some}
 use mathlib.Core.Path.{sym, ap, ◌∙◌, subst}
-use borrow.Author.Rules.{rules}
-use Rattle.eval_items.proofs.regexes.of_text.Lts as lts
 use Rattle.eval_items.proofs.regexes.of_text.Goals as goal
 
 pub of_parts-requires : goal.of_parts-requires

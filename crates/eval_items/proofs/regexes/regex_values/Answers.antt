@@ -4,8 +4,6 @@ use Rattle.regex_rooms.specs.Rooms.{scope_for}
 use Rattle.eval_values.specs.declared.Operand.{Operand}
 use Rattle.eval_values.specs.Means.{text_in}
 use mathlib.Core.Path.{sym, ap, ◌∙◌, subst}
-use borrow.Author.Rules.{rules}
-use Rattle.eval_items.proofs.regexes.regex_values.Lts as lts
 use Rattle.eval_items.proofs.regexes.regex_values.Goals as goal
 
 pub of_text-requires : goal.of_text-requires

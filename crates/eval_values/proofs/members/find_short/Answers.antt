@@ -1,12 +1,7 @@
 -- `eval_values::members::find_short` meets its contract, as get_by_key does: the ends of a name say whether it is the member's.
-use mathlib.Core.Path.{◌≡◌}
 use Rattle.eval_values.specs.Members.{key_same, lookup_start, lookup_step, lookup_found, lookup_end}
-use Rattle.table_laws.specs.Nodes.{kids}
-use Rattle.definition.specs.Values.{lookup}
-use Rattle.definition.specs.Bytes.{part}
-use Prim.Native.Nat.{◌+◌, ◌-◌}
+use Prim.Native.Nat.{◌+◌}
 use native.Mathlib.Omega.{arith}
-use Rattle.eval_values.proofs.members.find_short.Lts as lts
 use Rattle.eval_values.proofs.members.find_short.Goals as goal
 
 pub part_ends-ends-requires : goal.part_ends-ends-requires
@@ -35,12 +30,6 @@ part_has_ends-requires c = record { m_in_bounds = omega (arith, c.key_start-star
 
 pub returns-then-part_has_ends : goal.returns-then-part_has_ends
 returns-then-part_has_ends c = lookup_found _ _ _ _ _ _ c.loop-i.invariant c.loop-i-test.true _ (key_same c.args.table.now c.args.text.now _ (c.args.first + c.loop-i.i) _ _ _ c.key_start-start.ensures c.key_length-size.ensures (c.part_has_ends.ensures _ c.part_ends-ends.ensures)) c.if-part_has_ends.true
-
-pub overflow_add-i : goal.overflow_add-i
-overflow_add-i c = omega arith
-
-pub loop-i-smaller : goal.loop-i-smaller
-loop-i-smaller c = omega arith
 
 pub loop-i-preserved : goal.loop-i-preserved
 loop-i-preserved c = lookup_step _ _ _ _ _ _ c.loop-i.invariant c.loop-i-test.true _ (key_same c.args.table.now c.args.text.now _ (c.args.first + c.loop-i.i) _ _ _ c.key_start-start.ensures c.key_length-size.ensures (c.part_has_ends.ensures _ c.part_ends-ends.ensures)) c.if-part_has_ends.false

@@ -1,12 +1,6 @@
 -- `get_by_key` meets its contract: the members that are left give the whole search.
-use Prim.Native.Nat.{◌+◌, ◌-◌}
-use mathlib.Core.Path.{◌≡◌}
 use native.Mathlib.Omega.{arith}
-use Rattle.definition.specs.Bytes.{part}
-use Rattle.definition.specs.Values.{lookup}
-use Rattle.table_laws.specs.Nodes.{kids}
 use Rattle.eval_values.specs.Members.{lookup_start, lookup_step, lookup_found, lookup_end}
-use Rattle.eval_values.proofs.members.get_by_key.Lts as lts
 use Rattle.eval_values.proofs.members.get_by_key.Goals as goal
 
 pub loop-i-init : goal.loop-i-init
@@ -20,12 +14,6 @@ is_named-requires c = record { node_bound = (c.requires.members.nodes c.loop-i.i
 
 pub returns-then-is_named : goal.returns-then-is_named
 returns-then-is_named c = lookup_found _ _ _ _ _ _ c.loop-i.invariant c.loop-i-test.true _ c.is_named.ensures c.if-is_named.true
-
-pub overflow_add-i : goal.overflow_add-i
-overflow_add-i c = omega arith
-
-pub loop-i-smaller : goal.loop-i-smaller
-loop-i-smaller c = omega arith
 
 pub loop-i-preserved : goal.loop-i-preserved
 loop-i-preserved c = lookup_step _ _ _ _ _ _ c.loop-i.invariant c.loop-i-test.true _ c.is_named.ensures c.if-is_named.false

@@ -1,16 +1,10 @@
 -- `get_by_key` meets its contract: the members that are left give the whole search.
 use Prim.Native.Nat.{◌+◌, ◌-◌}
 use mathlib.Core.Path.{◌≡◌}
-use native.Mathlib.Omega.{arith}
 use Rattle.definition.specs.Bytes.{part}
 use Rattle.definition.specs.Values.{lookup}
 use Rattle.table_laws.specs.Nodes.{kids}
-use Rattle.eval_values.specs.Members.{lookup_start, lookup_step, lookup_found, lookup_end}
-use Rattle.eval_values.proofs.members.get_by_key.Lts as lts
 use Rattle.eval_values.proofs.members.get_by_key.Given as goal
 
 abbrev pub invariant-loop-i : goal.invariant-loop-i
 invariant-loop-i l = lookup (part l.s l.a l.n) (kids l.table l.text (l.first + l.i) (l.count - l.i)) ≡ lookup (part l.s l.a l.n) (kids l.table l.text l.first l.count)
-
-abbrev pub decreases-loop-i : goal.decreases-loop-i
-decreases-loop-i l = l.count - l.i

@@ -1,7 +1,5 @@
 -- `is_named` meets its contract: the key is read and compared.
 use Rattle.eval_values.specs.Members.{key_same}
-use borrow.Author.Rules.{rules}
-use Rattle.eval_values.proofs.members.is_named.Lts as lts
 use Rattle.eval_values.proofs.members.is_named.Goals as goal
 
 pub returns : goal.returns

@@ -2,8 +2,6 @@
 use mathlib.Core.Path.{sym, ap, ◌∙◌}
 use Prim.Native.Nat.{ℕ, ◌+◌}
 use Rattle.eval_values.specs.Near.{not_near, near_named, near_is}
-use borrow.Author.Rules.{rules}
-use Rattle.eval_values.proofs.members.is_near.Lts as lts
 use Rattle.eval_values.proofs.members.is_near.Goals as goal
 
 pub returns-then-kind-ne-KIND_MAP : goal.returns-then-kind-ne-KIND_MAP

@@ -4,8 +4,6 @@ use Rattle.eval_laws.specs.Ranges.{range_of_lem}
 use Rattle.eval_values.specs.Members.{looked_as}
 use Rattle.eval_values.specs.Near.{near_found}
 use Rattle.eval_values.specs.Same.{members_of, key_read}
-use borrow.Author.Rules.{rules}
-use Rattle.eval_values.proofs.members.partner.Lts as lts
 use Rattle.eval_values.proofs.members.partner.Goals as goal
 
 pub is_at-requires : goal.is_at-requires

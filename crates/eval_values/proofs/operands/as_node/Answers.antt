@@ -1,7 +1,5 @@
 use mathlib.Core.Path.{sym, ap}
 use Rattle.eval_values.specs.Means.{node_in_lem}
-use borrow.Author.Rules.{rules}
-use Rattle.eval_values.proofs.operands.as_node.Lts as lts
 use Rattle.eval_values.proofs.operands.as_node.Goals as goal
 
 -- src/operands.rt:121:1

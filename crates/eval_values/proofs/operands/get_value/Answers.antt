@@ -4,8 +4,6 @@ use Rattle.number_integers.specs.Signs.{back}
 use Rattle.eval_values.specs.Floats.{bits_number}
 use Rattle.eval_values.specs.Values.{of_null, of_false, of_true, of_integer_lem, of_float_lem, of_text_lem}
 use native.Mathlib.Omega.{arith}
-use borrow.Author.Rules.{rules}
-use Rattle.eval_values.proofs.operands.get_value.Lts as lts
 use Rattle.eval_values.proofs.operands.get_value.Goals as goal
 
 -- src/operands.rt:34:9

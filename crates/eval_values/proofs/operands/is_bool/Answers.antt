@@ -1,7 +1,5 @@
 use mathlib.Core.Path.{sym, ap}
 use Rattle.eval_values.specs.Means.{is_that}
-use borrow.Author.Rules.{rules}
-use Rattle.eval_values.proofs.operands.is_bool.Lts as lts
 use Rattle.eval_values.proofs.operands.is_bool.Goals as goal
 
 -- src/operands.rt:105:1

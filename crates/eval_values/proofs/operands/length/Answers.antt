@@ -1,7 +1,6 @@
 -- `eval_values::operands::length` meets its contract: a text by its scalar values, a list or a map by its children.
 use mathlib.Core.Path.{sym, ap, ◌∙◌, subst}
 use Rattle.eval_values.specs.Means.{Inside, Parts, length_in}
-use borrow.Author.Rules.{rules}
 use Rattle.eval_values.proofs.operands.length.Goals as goal
 
 pub count_scalars-requires : goal.count_scalars-requires

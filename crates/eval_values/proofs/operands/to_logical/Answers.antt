@@ -5,8 +5,6 @@ use mathlib.Core.Path.{sym, ap, ◌∙◌, subst}
 use mathlib.Core.Bool.{not}
 use lib.Dec.{eqb}
 use Rattle.eval_values.specs.Means.{Inside, truth_in}
-use borrow.Author.Rules.{rules}
-use Rattle.eval_values.proofs.operands.to_logical.Lts as lts
 use Rattle.eval_values.proofs.operands.to_logical.Goals as goal
 
 -- src/operands.rt:146:30

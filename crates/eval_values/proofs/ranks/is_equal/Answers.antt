@@ -8,8 +8,6 @@ use Rattle.number_integers.specs.Signs.{back}
 use Rattle.eval_values.specs.Ranks.{rank_numbers, rank_in, is_rank_equal}
 use Rattle.eval_values.specs.Means.{Finite, Parts, number_in}
 use Rattle.eval_values.specs.declared.Operand.{Operand}
-use borrow.Author.Rules.{rules}
-use Rattle.eval_values.proofs.ranks.is_equal.Lts as lts
 use Rattle.eval_values.proofs.ranks.is_equal.Goals as goal
 
 pub rank_float-requires : goal.rank_float-requires

@@ -6,8 +6,6 @@ use Rattle.eval_values.specs.Ranks.{rank_texts, is_rank_equal}
 use Rattle.eval_values.specs.Means.{Parts, text_in}
 use Rattle.eval_values.specs.Values.{equal_spelled}
 use Rattle.eval_values.specs.declared.Operand.{Operand}
-use borrow.Author.Rules.{rules}
-use Rattle.eval_values.proofs.ranks.is_text.Lts as lts
 use Rattle.eval_values.proofs.ranks.is_text.Goals as goal
 
 pub same_part-requires : goal.same_part-requires

@@ -1,15 +1,13 @@
 use native.Mathlib.Omega.{arith}
-use Rattle.eval_values.specs.Floats.{rank_answer, one_whole, one_whole_at, one_float}
+use Rattle.eval_values.specs.Floats.{rank_answer, one_whole_at, one_float}
 use mathlib.Core.Path.{sym, ap, ◌∙◌, subst}
-use Rattle.eval_values.specs.Floats.{rank_answer, one_whole, one_float}
+use Rattle.eval_values.specs.Floats.{rank_answer, one_float}
 use Rattle.eval_values.specs.Ranks.{rank_numbers}
 use Rattle.eval_values.specs.Means.{Finite, number_in}
 use Rattle.definition.specs.Compare.{float_fraction}
 use Rattle.number_integers.specs.Signs.{back}
 use mathlib.Core.Option.{some}
 use Rattle.eval_values.specs.declared.Operand.{Operand}
-use borrow.Author.Rules.{rules}
-use Rattle.eval_values.proofs.ranks.rank_float.Lts as lts
 use Rattle.eval_values.proofs.ranks.rank_float.Goals as goal
 
 -- src/ranks.rt:71:41

@@ -1,17 +1,15 @@
 use native.Mathlib.Omega.{arith}
 use mir.ValLaws.{to_z-of_z}
 use mir.Syntax.{w64}
-use Rattle.eval_values.specs.Floats.{rank_answer, one_whole, one_whole_at, one_float}
+use Rattle.eval_values.specs.Floats.{rank_answer, one_whole_at, one_float}
 use mathlib.Core.Path.{sym, ap, ◌∙◌, subst}
-use Rattle.eval_values.specs.Floats.{rank_answer, one_whole, one_float}
+use Rattle.eval_values.specs.Floats.{rank_answer, one_float}
 use Rattle.eval_values.specs.Ranks.{rank_numbers}
 use Rattle.eval_values.specs.Means.{Finite, number_in}
 use Rattle.definition.specs.Compare.{whole_fraction}
 use Rattle.number_integers.specs.Signs.{back}
 use mathlib.Core.Option.{some}
 use Rattle.eval_values.specs.declared.Operand.{Operand}
-use borrow.Author.Rules.{rules}
-use Rattle.eval_values.proofs.ranks.rank_int.Lts as lts
 use Rattle.eval_values.proofs.ranks.rank_int.Goals as goal
 
 -- src/ranks.rt:53:41

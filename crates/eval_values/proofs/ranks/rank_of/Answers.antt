@@ -9,8 +9,6 @@ use mathlib.Core.Path.{sym, ap, ◌∙◌, subst}
 use Rattle.eval_values.specs.Ranks.{rank_in}
 use Rattle.eval_values.specs.Means.{Finite, Parts}
 use Rattle.eval_values.specs.declared.Operand.{Operand}
-use borrow.Author.Rules.{rules}
-use Rattle.eval_values.proofs.ranks.rank_of.Lts as lts
 use Rattle.eval_values.proofs.ranks.rank_of.Goals as goal
 
 -- src/ranks.rt:106:30
