@@ -13,8 +13,8 @@ use Rattle.definition.specs.Forms.Operator.{eq, ne, lt, le, gt, ge}
 use Rattle.definition.specs.Plans.{operator_byte}
 use Rattle.definition.specs.Compare.{Value, Fraction, compare_values, same, less, less_or_same, is_less, is_some, is_boolean, is_null, boolean_of, same_boolean, same_number_lem, same_text, number_of, text_of, numbers_less, texts_less, list_of, map_of, same_elements, same_members, whole_fraction, float_fraction, order_fractions}
 use Rattle.number_order.specs.Exact.{answer, order_of}
-use Rattle.number_order.specs.declared.Order.{Order}
-use Rattle.number_order.specs.declared.Order.TheVariants.{Less, Equal, Greater}
+use Rattle.std.specs.declared.cmp.Ordering.{Ordering as Order}
+use Rattle.std.specs.declared.cmp.Ordering.TheVariants.{Less, Equal, Greater}
 use Rattle.eval_values.specs.Alike.{Compares, differ}
 
 -- ---- what an order says

@@ -25,9 +25,9 @@ ghost use Rattle.eval_filters.specs.Turns.{AskTurn, DoneTurn};
 
 use eval_items::{leaves, plans};
 use eval_values::operands;
-use number_order::Order;
 use plan_format::kinds::{AND, COMPARE, CONSTANT, CURRENT, END, INTEGER, NOT, OR, TEST, TEXT};
 use plan_format::operators::{EQ, LE, NE};
+use std::cmp::Ordering;
 use table::records;
 use table::records::{KIND_INTEGER, KIND_TEXT};
 use text::{bytes, parts};
@@ -59,18 +59,18 @@ pub struct Nodes {
 }
 
 // Whether ==, !=, < or <= holds between two numbers in that order.
-fn says(op: u8, o: Order) -> bool
+fn says(op: u8, o: Ordering) -> bool
     ensures { result ≡ says_of op o }
 {
     match o {
-        Order::Less => op != EQ,
-        Order::Equal => {
+        Ordering::Less => op != EQ,
+        Ordering::Equal => {
             if op == EQ {
                 return true;
             }
             op == LE
         }
-        Order::Greater => op == NE,
+        Ordering::Greater => op == NE,
     }
 }
 

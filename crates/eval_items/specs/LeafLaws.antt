@@ -27,8 +27,6 @@ use Rattle.definition.specs.Evaluation.{literal_value, eval_selector, pick, foun
 use Rattle.definition_bytes.specs.Numbers.{little_endian_length, unsigned_fits}
 use Rattle.basics.specs.Bools.{and_left, and_right}
 use Rattle.slices.specs.Walks.{place_list}
-use Rattle.slices.specs.declared.Place.{Place}
-use Rattle.slices.specs.declared.Place.TheVariants as place
 use Rattle.slices.specs.Laws.{at_means, nothing_means, index_at}
 use Rattle.eval_laws.specs.Bytes.{Holds, holds_in, holds_head, holds_tail, number_at, signed_at}
 use Rattle.eval_laws.specs.Items.{SelectorAt, pooled_at, Named, is_name, Indexed, is_index}
@@ -257,7 +255,7 @@ module _ {P L S X : List ℕ} {p i : ℕ} (a : AskOne P L S X p i 6 6) where
         low = λ m z. let q : ◌≡◌ {A = ℕ} 0 1 = cc in absurd (omega arith);
       }
 
-  module _ (j c : ℕ) (ej : j ≡ low_word S i) (ec : c ≡ child_count S i) (z : ℤ) (o : Place) (l : place_list o ≡ index_places c z) where
+  module _ (j c : ℕ) (ej : j ≡ low_word S i) (ec : c ≡ child_count S i) (z : ℤ) (o : Option ℕ) (l : place_list o ≡ index_places c z) where
     element_range : Range S i j c
     element_range = range_of_lem S X a.tab i a.node_in j c ej ec
 
@@ -277,13 +275,13 @@ module _ {P L S X : List ℕ} {p i : ℕ} (a : AskOne P L S X p i 6 6) where
         ∙ ap (λ (ks : List ℕ). pick ks (nodes S X j c)) (sym l)
 
     -- the element that an index selects is a node
-    element_in : (t : ℕ) → o ≡ place.At t → j + t < node_count S
+    element_in : (t : ℕ) → o ≡ Some t → j + t < node_count S
     element_in t u = (child_at S X a.tab i a.node_in j c element_range t (index_at c z o t l u)).0
 
-    pub index_room : (t : ℕ) → o ≡ place.At t → j + t < max_nodes
+    pub index_room : (t : ℕ) → o ≡ Some t → j + t < max_nodes
     index_room t u = omega (arith, element_in t u, a.tab.size.few)
 
-    pub index_found : kind_at S i ≡ kind_list → z ≡ signed64 (number (part P (p + 1) 8)) → (t : ℕ) → o ≡ place.At t → DoneOne P L S X p i (Some (j + t))
+    pub index_found : kind_at S i ≡ kind_list → z ≡ signed64 (number (part P (p + 1) 8)) → (t : ℕ) → o ≡ Some t → DoneOne P L S X p i (Some (j + t))
     index_found m w t u =
         record {
           selects = λ x k R at. index_places_lem m w x k R at ∙ ap (λ (ks : List ℕ). pick ks (nodes S X j c)) (at_means o t u) ∙ one_pick S X j c t (index_at c z o t l u);
@@ -292,7 +290,7 @@ module _ {P L S X : List ℕ} {p i : ℕ} (a : AskOne P L S X p i 6 6) where
           low = λ k y. let q : j + t ≡ k = cc in omega arith;
         }
 
-    pub index_nothing : kind_at S i ≡ kind_list → z ≡ signed64 (number (part P (p + 1) 8)) → o ≡ place.Nothing → DoneOne P L S X p i None
+    pub index_nothing : kind_at S i ≡ kind_list → z ≡ signed64 (number (part P (p + 1) 8)) → o ≡ None → DoneOne P L S X p i None
     index_nothing m w u =
         record {
           selects = λ x k R at. index_places_lem m w x k R at ∙ ap (λ (ks : List ℕ). pick ks (nodes S X j c)) (nothing_means o u) ∙ no_pick S X j c;

@@ -10,7 +10,7 @@ use eval_values::{Operand, members, operands};
 use plan_format::kinds::{
     AND, COMPARE, CONSTANT, COUNT, FLOAT, INTEGER, LENGTH, NAME, NOT, OR, ROOT, TEST, TEXT, VALUE,
 };
-use slices::{Place, Walk};
+use slices::Walk;
 use table::records;
 use table::records::{KIND_LIST, KIND_MAP};
 use text::bytes;
@@ -151,10 +151,8 @@ pub fn get_by_index(
     let first = records::first_child(table, node) as usize;
     let count = records::child_count(table, node) as usize;
     let i = bytes::int64(plan, p + 1);
-    match slices::index_place(count, i) {
-        Place::At(k) => Some(first + k),
-        Place::Nothing => None,
-    }
+    let k = slices::index_place(count, i)?;
+    Some(first + k)
 }
 
 // The node that the name or index at p selects of a node.

@@ -13,10 +13,9 @@ use Rattle.definition.specs.Compare.{Fraction, order_fractions, whole_fraction, 
 use Rattle.definition.specs.Compare as D
 use Rattle.number_order.specs.Finite.{bits_finite as finite_bits}
 use Rattle.number_order.specs.Exact.{of_integer, of_float, order_of, answer}
-use Rattle.number_order.specs.declared.Order.{Order}
-use Rattle.number_order.specs.declared.Order.TheVariants as number
+use Rattle.std.specs.declared.cmp.Ordering.TheVariants.{Less, Equal, Greater}
 use Rattle.std.specs.declared.cmp.Ordering.{Ordering as Rank}
-use Rattle.eval_values.specs.Ranks.{ranked, ordered}
+use Rattle.eval_values.specs.Ranks.{ranked}
 
 -- bits whose exponent's field is not all ones
 small_bits : (b : ℕ) → is_finite b ≡ true → b % 2 ^ 63 < 2047 * 2 ^ 52
@@ -46,21 +45,21 @@ one_float x = refl
 order_same : (r s : Fraction) (a b : Fraction) → One r a → One s b → order_of r s ≡ order_fractions a b
 order_same r s a b x y = ap (λ (z : Fraction). order_fractions z s) x ∙ ap (λ (z : Fraction). order_fractions a z) y
 
-ordered_answer : (o : Ordering) → Some (ordered (answer o)) ≡ ranked o
+ordered_answer : (o : Ordering) → Some (answer o) ≡ ranked o
 ordered_answer Ordering.lt = refl
 ordered_answer Ordering.eq = refl
 ordered_answer Ordering.gt = refl
 
 -- the rank of two numbers, from the answer of `number_order`
-pub rank_answer : (r s : Fraction) (a b : Fraction) (o : Order) (k : Rank) → One r a → One s b → o ≡ answer (order_of r s) → k ≡ ordered o → Some k ≡ ranked (order_fractions a b)
-rank_answer r s a b o k x y e f = ap Some (f ∙ ap ordered (e ∙ ap answer (order_same r s a b x y))) ∙ ordered_answer (order_fractions a b)
+pub rank_answer : (r s : Fraction) (a b : Fraction) (o : Rank) → One r a → One s b → o ≡ answer (order_of r s) → Some o ≡ ranked (order_fractions a b)
+rank_answer r s a b o x y e = ap Some (e ∙ ap answer (order_same r s a b x y)) ∙ ordered_answer (order_fractions a b)
 
 -- ---- zeros
 
-abbrev pub not_equal : Order → Bool
-not_equal number.Less = true
-not_equal number.Equal = false
-not_equal number.Greater = true
+abbrev pub not_equal : Rank → Bool
+not_equal Less = true
+not_equal Equal = false
+not_equal Greater = true
 
 zero_by : (z : ℤ) → not_equal (answer (D.order_z (pos 0) z)) ≡ not (eqb (nat_abs z) 0)
 zero_by (pos zero) = refl

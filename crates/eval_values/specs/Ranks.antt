@@ -11,26 +11,12 @@ use Rattle.definition.specs.Compare.{Value, Fraction, number_of, text_of, order_
 use Rattle.eval_values.specs.Means.{number_in, text_in}
 use Rattle.eval_values.specs.declared.Operand.{Operand}
 use Rattle.eval_values.specs.declared.Operand.TheVariants.{Nothing, Null, Bool, Int, Float, Pool, Text, Node}
-use Rattle.number_order.specs.declared.Order.{Order}
-use Rattle.number_order.specs.declared.Order.TheVariants as number
-use Rattle.text.specs.declared.parts.Order.{Order as TextOrder}
-use Rattle.text.specs.declared.parts.Order.TheVariants as spelling
 
 -- the rank that an order is
 abbrev pub ranked : Ordering → Maybe Rank
 ranked Ordering.lt = Some Less
 ranked Ordering.eq = Some Equal
 ranked Ordering.gt = Some Greater
-
-abbrev pub ordered : Order → Rank
-ordered number.Less = Less
-ordered number.Equal = Equal
-ordered number.Greater = Greater
-
-abbrev pub spelled : TextOrder → Rank
-spelled spelling.Less = Less
-spelled spelling.Equal = Equal
-spelled spelling.Greater = Greater
 
 abbrev pub rank_numbers : Option Fraction → Option Fraction → Maybe Rank
 rank_numbers none b = None
@@ -88,7 +74,7 @@ is_rank_equal (Some Equal) = true
 is_rank_equal (Some Greater) = false
 
 -- the rank of two texts, from the answer of the comparison of texts
-pub spelled_answer : (o : Ordering) → Some (spelled (answer o)) ≡ ranked o
+pub spelled_answer : (o : Ordering) → Some (answer o) ≡ ranked o
 spelled_answer Ordering.lt = refl
 spelled_answer Ordering.eq = refl
 spelled_answer Ordering.gt = refl

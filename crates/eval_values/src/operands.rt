@@ -7,7 +7,7 @@ ghost use Rattle.definition.specs.Compare.{float_fraction};
 ghost use Rattle.eval_values.specs.Means.{OfNode, Inside, Parts, some_of, boolean_is, null_is, is_that, node_in_lem, truth_in, length_in};
 
 use crate::Operand;
-use number_order::Order;
+use std::cmp::Ordering;
 use table::records;
 use table::records::{KIND_FALSE, KIND_FLOAT, KIND_INTEGER, KIND_NULL, KIND_TEXT, KIND_TRUE};
 use text::encoding;
@@ -104,7 +104,7 @@ fn is_nonzero(f: f64) -> bool
     requires { T (finite f) }
     ensures { result ≡ not (eqb (nat_abs (float_fraction f).num) 0) }
 {
-    !matches!(number_order::compare_i64_num(0, f), Order::Equal)
+    !matches!(number_order::compare_i64_num(0, f), Ordering::Equal)
 }
 
 // The length of a text in scalar values, the number of children of a list or a map, 0 of anything else.

@@ -4,35 +4,12 @@ ghost use Rattle.std.proofs.Math.Option.{some};
 ghost use Rattle.std.specs.Float.Ieee.Scale.{finite};
 ghost use Rattle.definition.specs.Bytes.{part};
 ghost use Rattle.definition.specs.Compare.{whole_fraction, float_fraction};
-ghost use Rattle.eval_values.specs.Ranks.{rank_numbers, rank_texts, rank_in, ranked_is, ordered, spelled, is_rank_less, is_rank_equal};
+ghost use Rattle.eval_values.specs.Ranks.{rank_numbers, rank_texts, rank_in, ranked_is, is_rank_less, is_rank_equal};
 ghost use Rattle.eval_values.specs.Means.{Finite, Parts, Ranked, number_in, text_in};
 
 use crate::Operand;
-use number_order::Order;
 use std::cmp::Ordering;
 use text::parts;
-
-// The order of two numbers.
-fn of_numbers(o: Order) -> Ordering
-    ensures { result ≡ ordered o }
-{
-    match o {
-        Order::Less => Ordering::Less,
-        Order::Equal => Ordering::Equal,
-        Order::Greater => Ordering::Greater,
-    }
-}
-
-// The order of two texts.
-fn of_texts(o: parts::Order) -> Ordering
-    ensures { result ≡ spelled o }
-{
-    match o {
-        parts::Order::Less => Ordering::Less,
-        parts::Order::Equal => Ordering::Equal,
-        parts::Order::Greater => Ordering::Greater,
-    }
-}
 
 // An integer against a value.
 fn rank_int(a: i64, y: Operand) -> Option<Ordering>
@@ -40,8 +17,8 @@ fn rank_int(a: i64, y: Operand) -> Option<Ordering>
     ensures { result ≡ rank_numbers (some (whole_fraction a)) (number_in y) }
 {
     match y {
-        Operand::Int(b) => Some(of_numbers(number_order::compare_i64(a, b))),
-        Operand::Float(b) => Some(of_numbers(number_order::compare_i64_num(a, b))),
+        Operand::Int(b) => Some(number_order::compare_i64(a, b)),
+        Operand::Float(b) => Some(number_order::compare_i64_num(a, b)),
         _ => None,
     }
 }
@@ -53,8 +30,8 @@ fn rank_float(a: f64, y: Operand) -> Option<Ordering>
     ensures { result ≡ rank_numbers (some (float_fraction a)) (number_in y) }
 {
     match y {
-        Operand::Int(b) => Some(of_numbers(number_order::compare_num_i64(a, b))),
-        Operand::Float(b) => Some(of_numbers(number_order::compare_nums(a, b))),
+        Operand::Int(b) => Some(number_order::compare_num_i64(a, b)),
+        Operand::Float(b) => Some(number_order::compare_nums(a, b)),
         _ => None,
     }
 }
@@ -66,8 +43,8 @@ fn rank_text(text: &[u8], pool: &[u8], s: &[u8], a: usize, n: usize, y: Operand)
     ensures { result ≡ rank_texts (some (part s.now a n)) (text_in text.now pool.now y) }
 {
     match y {
-        Operand::Pool(b, m) => Some(of_texts(parts::order_part(s, a, n, pool, b, m))),
-        Operand::Text(b, m) => Some(of_texts(parts::order_part(s, a, n, text, b, m))),
+        Operand::Pool(b, m) => Some(parts::order_part(s, a, n, pool, b, m)),
+        Operand::Text(b, m) => Some(parts::order_part(s, a, n, text, b, m)),
         _ => None,
     }
 }

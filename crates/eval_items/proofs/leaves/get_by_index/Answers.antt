@@ -28,12 +28,12 @@ pub index_place-requires : goal.index_place-requires
 index_place-requires c = (omega (arith, c.child_count-count.ensures, few_children c.requires), ranged c.int64-i.result _ c.int64-i.type_inv c.int64-i.ensures (index_inside c.requires))
 
 pub overflow_add-result : goal.overflow_add-result
-overflow_add-result c = omega (arith, index_room c.requires _ _ c.first_child-first.ensures c.child_count-count.ensures _ _ c.index_place.ensures _ c.in-At.is)
+overflow_add-result c = omega (arith, index_room c.requires _ _ c.first_child-first.ensures c.child_count-count.ensures _ _ c.index_place.ensures _ c.in_some-index_place.is)
 
 pub returns-in-At : goal.returns-in-At
 returns-in-At c =
     index_found c.requires _ _ c.first_child-first.ensures c.child_count-count.ensures _ _ c.index_place.ensures
-    (sym c.kind.ensures ∙ c.if-kind-ne-KIND_LIST.false) (back c.int64-i.result c.int64-i.type_inv ∙ c.int64-i.ensures) _ c.in-At.is
+    (sym c.kind.ensures ∙ c.if-kind-ne-KIND_LIST.false) (back c.int64-i.result c.int64-i.type_inv ∙ c.int64-i.ensures) _ c.in_some-index_place.is
 
 pub returns-in-Nothing : goal.returns-in-Nothing
 returns-in-Nothing c =

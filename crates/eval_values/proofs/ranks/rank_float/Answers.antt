@@ -16,8 +16,8 @@ compare_nums-requires c = (c.requires.t, subst Finite c.in-Float.is c.requires.f
 
 -- src/ranks.rt:64:1
 pub returns-in-Int : goal.returns-in-Int
-returns-in-Int c = rank_answer _ _ _ _ _ _ (one_float c.args.a) (one_whole_at _ _ (back c.in-Int.b (omega arith))) c.compare_num_i64.ensures c.of_numbers.ensures ∙ ap (λ (z : Operand). rank_numbers (some (float_fraction c.args.a)) (number_in z)) (sym c.in-Int.is)
+returns-in-Int c = rank_answer _ _ _ _ _ (one_float c.args.a) (one_whole_at _ _ (back c.in-Int.b (omega arith))) c.compare_num_i64.ensures ∙ ap (λ (z : Operand). rank_numbers (some (float_fraction c.args.a)) (number_in z)) (sym c.in-Int.is)
 
 -- src/ranks.rt:64:1
 pub returns-in-Float : goal.returns-in-Float
-returns-in-Float c = rank_answer _ _ _ _ _ _ (one_float c.args.a) (one_float c.in-Float.b) c.compare_nums.ensures c.of_numbers-in-Float.ensures ∙ ap (λ (z : Operand). rank_numbers (some (float_fraction c.args.a)) (number_in z)) (sym c.in-Float.is)
+returns-in-Float c = rank_answer _ _ _ _ _ (one_float c.args.a) (one_float c.in-Float.b) c.compare_nums.ensures ∙ ap (λ (z : Operand). rank_numbers (some (float_fraction c.args.a)) (number_in z)) (sym c.in-Float.is)

@@ -18,8 +18,8 @@ compare_i64_num-requires c = subst Finite c.in-Float.is c.requires
 
 -- src/ranks.rt:47:1
 pub returns-in-Int : goal.returns-in-Int
-returns-in-Int c = rank_answer _ _ _ _ _ _ (one_whole_at _ _ (to_z-of_z w64 c.args.a c.ranges.a)) (one_whole_at _ _ (back c.in-Int.b (omega arith))) c.compare_i64.ensures c.of_numbers.ensures ∙ ap (λ (z : Operand). rank_numbers (some (whole_fraction c.args.a)) (number_in z)) (sym c.in-Int.is)
+returns-in-Int c = rank_answer _ _ _ _ _ (one_whole_at _ _ (to_z-of_z w64 c.args.a c.ranges.a)) (one_whole_at _ _ (back c.in-Int.b (omega arith))) c.compare_i64.ensures ∙ ap (λ (z : Operand). rank_numbers (some (whole_fraction c.args.a)) (number_in z)) (sym c.in-Int.is)
 
 -- src/ranks.rt:47:1
 pub returns-in-Float : goal.returns-in-Float
-returns-in-Float c = rank_answer _ _ _ _ _ _ (one_whole_at _ _ (to_z-of_z w64 c.args.a c.ranges.a)) (one_float c.in-Float.b) c.compare_i64_num.ensures c.of_numbers-in-Float.ensures ∙ ap (λ (z : Operand). rank_numbers (some (whole_fraction c.args.a)) (number_in z)) (sym c.in-Float.is)
+returns-in-Float c = rank_answer _ _ _ _ _ (one_whole_at _ _ (to_z-of_z w64 c.args.a c.ranges.a)) (one_float c.in-Float.b) c.compare_i64_num.ensures ∙ ap (λ (z : Operand). rank_numbers (some (whole_fraction c.args.a)) (number_in z)) (sym c.in-Float.is)
