@@ -1,30 +1,25 @@
 -- A test of one member of a node, as the plan has it: `@` with one name, tested or compared with a literal. What its bytes are, and that what is found under the
 -- name takes what is left of a filter's code further. P is the plan, L the pool, S the table, X the text. Assumes nothing.
-use Rattle.std.specs.Prelude.{ℕ, ◌+◌, ◌≤◌, ◌<◌, ◌≡◌, refl, List, [], ◌∷◌, Bool as Bits, true, false, cond, eqb, ltb, length, get_or, Option, Some, None}
+use Rattle.std.specs.Prelude.{ℕ, ◌+◌, ◌≤◌, ◌<◌, ◌≡◌, refl, List, Bool as Bits, true, false, cond, eqb, ltb, length, get_or, Option, Some, None}
 use Rattle.std.proofs.Common.{sym, ap, ◌∙◌, subst, arith, eq-eqb, ne_eqb, eqb-true}
 use Rattle.std.proofs.lemmas.Bool.{eqb-false}
 use Rattle.definition.specs.Bytes.{number, part}
 use Rattle.definition.specs.Limits.{max_plan, max_nodes}
-use Rattle.definition.specs.Values.{Json}
 use Rattle.definition.specs.Forms.{Segments}
 use Rattle.definition.specs.Plans.{code_segments, code_selector}
-use Rattle.definition.specs.Compare.{Value}
-use Rattle.definition.specs.Tables.{node_count, node_at, low_word, child_count}
-use Rattle.definition.specs.Evaluation.{eval_segments, first_value}
-use Rattle.eval_laws.specs.Items.{SegmentsAt, Parts, parts, segments_in, end_long}
-use Rattle.eval_laws.specs.Todos.{Todo, todo_in, todo_to, at_query, QueryAt, at_literal}
+use Rattle.definition.specs.Tables.{node_count, low_word, child_count}
+use Rattle.eval_laws.specs.Items.{SegmentsAt, end_long}
 use Rattle.eval_values.specs.Near.{Near}
 use Rattle.eval_items.specs.Ends.{DoneLiteral}
 use Rattle.eval_items.specs.EndLaws.{past_constant, past_text, past_number}
 use Rattle.eval_items.specs.Leaves.{AskValue, AskOne, DoneOne, begins_at}
 use Rattle.eval_items.specs.LeafLaws.{name_asked, name_found}
-use Rattle.eval_front.specs.Visits.{Query, Given, Head, AskReach, DoneReach}
+use Rattle.eval_front.specs.Visits.{Query, Given, Head, DoneReach}
 use Rattle.eval_front.specs.Loops.{InReach}
 use Rattle.eval_front.specs.Heads.{name_ends}
-use Rattle.eval_front.specs.Fronts.{never, single, along_start, one_asked, reach_lost, reach_next, reach_found}
-use Rattle.eval_front.specs.declared.Reached.{Reached}
-use Rattle.eval_filters.specs.Queries.{Within, begins_node, found_lost}
-use Rattle.eval_filters.specs.Tests.{Left, AskShort, DoneShort, AskAgainst, DoneAgainst, AskNode, DoneNode, DonePlain, plain_one, short_tested, short_asked, short_compared, against_value, against_nothing, against_node, short_query}
+use Rattle.eval_front.specs.Fronts.{never, single, along_start, one_asked, reach_next, done_lost, done_found}
+use Rattle.eval_filters.specs.Queries.{begins_node, found_lost}
+use Rattle.eval_filters.specs.Tests.{AskShort, DoneShort, AskAgainst, DoneAgainst, AskNode, DoneNode, DonePlain, plain_one, short_tested, short_asked, short_compared, against_value, against_nothing, against_node, short_query}
 use Rattle.eval_filters.specs.declared.Told.{Told}
 use Rattle.eval_filters.specs.declared.Nodes.{Nodes}
 use Rattle.eval_filters.specs.declared.atoms.Atom.{Atom}
@@ -72,13 +67,11 @@ module _ {P L S X : List ℕ} (given : Given P L S X) {node c : ℕ} (node_in : 
   pub name_one : AskOne P L S X (c + 3) node 5 5
   name_one = one_asked given name_start n.head
 
-  pub name_lost : (r : Option ℕ) → DoneOne P L S X (c + 3) node r → r ≡ None → DoneReach P L S X node c (record { node = node; pc = c; some = false })
-  name_lost r o e = record { node_in = node_in; deeper = omega arith; later = omega arith; front = reach_lost given name_start n.head r o e }
+  pub name_lost : (r : Option ℕ) → DoneOne P L S X (c + 3) node r → r ≡ None → DoneReach P L S X node c (record { node = None; pc = c })
+  name_lost r o e = done_lost given name_start n.head r o e
 
-  pub name_reached : (r : Option ℕ) → DoneOne P L S X (c + 3) node r → (m : ℕ) → r ≡ Some m → DoneReach P L S X node c (record { node = m; pc = c + 8; some = true })
-  name_reached r o m e =
-      let i = reach_next given name_start n.head r o m e (c + 8) (name_ends given.few_p n.head) in
-      record { node_in = i.node_in; deeper = i.deeper; later = i.later; front = reach_found i }
+  pub name_reached : (r : Option ℕ) → DoneOne P L S X (c + 3) node r → (m : ℕ) → r ≡ Some m → DoneReach P L S X node c (record { node = Some m; pc = c + 8 })
+  name_reached r o m e = done_found (reach_next given name_start n.head r o m e (c + 8) (name_ends given.few_p n.head))
 
 -- ---- the member of a name, at a place or by a search
 
@@ -260,7 +253,7 @@ module _ {P L S X : List ℕ} {root node q e : ℕ} (a : AskShort P L S X root n
       let d = name_reached told_given a.within.node_in told_query b.here r o m i in
       let x : q + 1 + 8 + 1 ≡ q + 1 + 9 = omega arith in
       subst (λ (z : ℕ). DonePlain P L S X node q (record { n = 1; first = m; z = z; some = true })) x
-      (plain_one (record { given = told_given; node_in = a.within.node_in; query = told_query }) _ d refl b.here.end_is)
+      (plain_one (record { given = told_given; node_in = a.within.node_in; query = told_query }) _ d m refl b.here.end_is)
 
   module _ (v : Nodes) (d : DonePlain P L S X node q v) (s : v.some ≡ true) (z : v.z ≡ q + 1 + 9) where
     mode_is : get_or P v.z 0 ≡ get_or P (q + 1 + 9) 0

@@ -1,10 +1,10 @@
 -- A node itself, `@` with no segment, compared with a literal: what stands in the plan, and that what the comparison says is what the whole test says. P is the plan,
 -- L the pool, S the table, X the text. Assumes nothing.
-use Rattle.std.specs.Prelude.{ℕ, ◌+◌, ◌<◌, ◌≡◌, refl, List, Bool as Bits, true, false, length, get_or}
+use Rattle.std.specs.Prelude.{ℕ, ◌+◌, ◌≡◌, refl, List, Bool as Bits, true, false, get_or, Some}
 use Rattle.std.proofs.Common.{sym, ◌∙◌, subst, arith}
 use Rattle.eval_items.specs.Leaves.{begins_at}
 use Rattle.eval_front.specs.Visits.{Query, Given, DoneReach}
-use Rattle.eval_front.specs.Fronts.{never, reach_found}
+use Rattle.eval_front.specs.Fronts.{never, done_found}
 use Rattle.eval_filters.specs.Queries.{Within, begins_node}
 use Rattle.eval_filters.specs.Tests.{AskShort, AskAgainst, AskNode, DoneNode, DonePlain, plain_one, short_asked, short_compared, short_query, against_value, against_node}
 use Rattle.eval_filters.specs.Kept.{AskTest, DoneTest}
@@ -46,10 +46,10 @@ module _ {P L S X : List ℕ} {root node p z form op : ℕ} (w : Within P L S X 
   found : DonePlain P L S X node p (record { n = 1; first = node; z = p + 2; some = true })
   found =
       let i = start_here w.node_in query in
-      let d : DoneReach P L S X node (p + 1) (record { node = node; pc = p + 1; some = true }) = record { node_in = w.node_in; deeper = omega arith; later = omega arith; front = reach_found i } in
+      let d : DoneReach P L S X node (p + 1) (record { node = Some node; pc = p + 1 }) = done_found i in
       let x : p + 1 + 1 ≡ p + 2 = omega arith in
       subst (λ (y : ℕ). DonePlain P L S X node p (record { n = 1; first = node; z = y; some = true })) x
-      (plain_one (record { given = lent; node_in = w.node_in; query = query }) _ d refl g.end_is)
+      (plain_one (record { given = lent; node_in = w.node_in; query = query }) _ d node refl g.end_is)
 
   against_asked : AskAgainst P L S X 1 node (p + 2) z
   against_asked = short_asked asked node begins _ found refl g.against.low g.against.high

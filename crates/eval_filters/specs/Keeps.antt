@@ -2,38 +2,33 @@
 -- what two such tests with `&&` or `||` between them say, and what the number of children says is what the whole test says. P is the plan, L the pool, S the table, X
 -- the text.
 -- Assumes nothing.
-use Rattle.std.specs.Prelude.{ℕ, ◌+◌, ◌≤◌, ◌<◌, ◌≡◌, refl, List, [], ◌∷◌, Bool as Bits, true, false, not, ◌&&◌, leb, ℤ, pos, length, get_or, Option, Some, None}
-use Rattle.std.proofs.Common.{sym, ap, ◌∙◌, subst, arith, leb-true, le-leb}
+use Rattle.std.specs.Prelude.{ℕ, ◌+◌, ◌≤◌, ◌<◌, ◌≡◌, refl, List, Bool as Bits, true, false, not, ◌&&◌, leb, ℤ, pos, length, get_or, Option, Some, None}
+use Rattle.std.proofs.Common.{sym, ◌∙◌, subst, arith, leb-true, le-leb}
 use Rattle.std.proofs.lemmas.Bool.{lt-leb}
 use Rattle.definition.specs.Bytes.{number, part, signed64}
 use Rattle.definition.specs.Limits.{max_plan, max_nodes}
-use Rattle.definition.specs.Values.{Json}
-use Rattle.definition.specs.Forms.{Segments, Test}
+use Rattle.definition.specs.Forms.{Test}
 use Rattle.definition.specs.Compare.{Value}
-use Rattle.definition.specs.Tables.{node_count, node_at, child_count}
+use Rattle.definition.specs.Tables.{node_at, child_count}
 use Rattle.definition.specs.Evaluation.{eval_test}
 use Rattle.basics.specs.Bools.{and_left, and_right}
-use Rattle.table_laws.specs.Accepted.{Accepted}
 use Rattle.eval_laws.specs.States.{st, push}
-use Rattle.eval_laws.specs.Steps.{kept}
 use Rattle.eval_laws.specs.Bytes.{holds_in}
-use Rattle.eval_laws.specs.Items.{SegmentsAt, segments_in}
+use Rattle.eval_laws.specs.Items.{segments_in}
 use Rattle.eval_laws.specs.Todos.{todo_start, todo_end}
 use Rattle.eval_values.specs.Alike.{Compares}
 use Rattle.eval_values.specs.declared.Operand.TheVariants.{Int}
 use Rattle.eval_items.specs.LeafLaws.{literal_room, done_integer}
-use Rattle.eval_items.specs.Leaves.{AskValue, AskOne, DoneOne, begins_at}
-use Rattle.eval_front.specs.Visits.{Given, Query, Head, AskVisit, DoneVisit, DoneReach, over}
-use Rattle.eval_front.specs.Fronts.{never, reach_found}
+use Rattle.eval_items.specs.Leaves.{AskOne, DoneOne}
+use Rattle.eval_front.specs.Visits.{Query, Head, AskVisit, Emitted, DoneReach}
+use Rattle.eval_front.specs.Fronts.{never, done_found}
 use Rattle.eval_front.specs.Turns.{visit_lost, visit_end}
-use Rattle.eval_front.specs.declared.Visited.{Visited}
-use Rattle.eval_front.specs.declared.Stop.{Stop}
 use Rattle.eval_filters.specs.Queries.{Within, begins_node}
 use Rattle.eval_filters.specs.Tests.{Left, AskShort, DoneShort, AskLogic, DoneLogic, logic_not, logic_and_enter, logic_and_skip, logic_or_enter, logic_or_skip, short_query}
 use Rattle.eval_filters.specs.Children.{Star, AskCount, DoneCount, count_done, AskCounting, AskCounted, counting_counted, counting_done, counted_value, counted_done}
-use Rattle.eval_filters.specs.Kept.{Tested, AskTest, DoneTest, AskKept, DoneKept, InKept}
+pub use Rattle.eval_filters.specs.Kept.{DoneRange}
+use Rattle.eval_filters.specs.Kept.{Tested, AskTest, DoneTest, AskKept, InKept}
 use Rattle.eval_filters.specs.Atoms.{AskCode, AtomAt, AgainstAt, NameAt, tells, start_here, name_lost, name_reached, name_one}
-use Rattle.eval_filters.specs.declared.Told.{Told}
 use Rattle.eval_filters.specs.declared.atoms.Atom.{Atom}
 use Rattle.eval_filters.specs.declared.kept.Pair.{Pair}
 use Rattle.eval_filters.specs.declared.counts.Counts.{Counts}
@@ -62,24 +57,21 @@ tail_one a n = name_one a.given a.node_in a.query n
 
 -- a node with what follows, and nothing left to do
 abbrev pub DonePushed : List ℕ → List ℕ → List ℕ → List ℕ → ℕ → ℕ → ℕ → List ℕ → ℕ → List ℕ → ℕ → Type 0
-DonePushed P L S X node rest cap l at l' r = DoneVisit P L S X node rest cap l at l' (record { at = r; node = 0; pc = 0; more = false })
+DonePushed P L S X node rest cap l at l' r = Emitted P L S X node rest cap l at l' r
 
 module _ {P L S X : List ℕ} {node rest len at cap : ℕ} (a : AskVisit P L S X node rest len at cap) (l : List ℕ) where
-  settled : {l' : List ℕ} {v : Visited} → DoneVisit P L S X node rest cap l at l' v → v.more ≡ false → DonePushed P L S X node rest cap l at l' v.at
-  settled d e = record { room = d.room; ended = λ u. d.ended e; places = λ u. absurd (never u); next = λ u. absurd (never u); paused = λ u. absurd (never u) }
-
-  reached_here : DoneReach P L S X node rest (record { node = node; pc = rest; some = true })
-  reached_here = let i = start_here a.node_in a.query in record { node_in = a.node_in; deeper = omega arith; later = omega arith; front = reach_found i }
+  reached_here : DoneReach P L S X node rest (record { node = Some node; pc = rest })
+  reached_here = done_found (start_here a.node_in a.query)
 
   pub pushed_end : get_or P rest 0 ≡ 0x0A → (l' : List ℕ) (r : ℕ) → st cap l' r ≡ push node (st cap l at) → DonePushed P L S X node rest cap l at l' r
-  pushed_end e l' r p = settled (visit_end reached_here cap l at a.given.tab refl e l' r p) refl
+  pushed_end e l' r p = visit_end reached_here cap l at refl a.given.tab e l' r p
 
   module _ (n : NameAt P rest) (r : Option ℕ) (o : DoneOne P L S X (rest + 3) node r) where
     pub pushed_lost : r ≡ None → DonePushed P L S X node rest cap l at l at
-    pushed_lost e = settled (visit_lost (name_lost a.given a.node_in a.query n r o e) cap l at refl a.room) refl
+    pushed_lost e = visit_lost (name_lost a.given a.node_in a.query n r o e) cap l at refl a.room
 
     pub pushed_name : (m : ℕ) → r ≡ Some m → (l' : List ℕ) (k : ℕ) → st cap l' k ≡ push m (st cap l at) → DonePushed P L S X node rest cap l at l' k
-    pushed_name m e l' k p = settled (visit_end (name_reached a.given a.node_in a.query n r o m e) cap l at a.given.tab refl n.end_is l' k p) refl
+    pushed_name m e l' k p = visit_end (name_reached a.given a.node_in a.query n r o m e) cap l at refl a.given.tab n.end_is l' k p
 
 -- ---- one test, or two with an operator between them
 
@@ -209,7 +201,7 @@ module _ {P L S X : List ℕ} {root node p z op : ℕ} (w : Within P L S X root 
   counting =
       let q = count_query in
       let i = start_here w.node_in q in
-      record { begins = sym (begins_node _ root node g.current); reach = record { node_in = w.node_in; deeper = omega arith; later = omega arith; front = reach_found i } }
+      record { begins = sym (begins_node _ root node g.current); reach = done_found i }
     where
       count_query : Query P L (p + 1)
       count_query = short_query count_first node (sym (begins_node _ root node g.current))
@@ -239,27 +231,6 @@ module _ {P L S X : List ℕ} {root node p z op : ℕ} (w : Within P L S X root 
       count_told r (subst (λ (x : ℕ). DoneCount P L n (p + 1 + 6) x r) o (count_done P L S X n (p + 1 + 6) op' r v i (Int y) (done_integer P L (p + 1 + 6) g.integer_is y j) d))
 
 -- ---- a whole range
-
--- nothing is left
-pub record DoneRange (P L S X : List ℕ) (root i e p z rest cap : ℕ) (l : List ℕ) (at : ℕ) (l' : List ℕ) (r : ℕ) : Type 0 where
-  pub room : r ≤ cap + 1
-  pub ended : (t : Test) (k : ℕ) (f : Segments) (k' : ℕ) → Tested P L p z t k → SegmentsAt P L rest k' f → st cap l' r ≡ over f (node_at S X root) (kept t (node_at S X root)) S X i e (st cap l at)
-
-module _ {P L S X : List ℕ} {root i e p z rest cap : ℕ} {l : List ℕ} {at : ℕ} {l' : List ℕ} where
-  pub range_done : {v : Stop} → DoneKept P L S X root i e p z rest cap l at l' v → v.more ≡ false → DoneRange P L S X root i e p z rest cap l at l' v.at
-  range_done d n = record { room = d.room; ended = d.ended n }
-
-  pub kept_whole : {r : ℕ} → DoneRange P L S X root i e p z rest cap l at l' r → (j n c : ℕ) → DoneKept P L S X root i e p z rest cap l at l' (record { i = j; at = r; node = n; pc = c; more = false })
-  kept_whole d j n c =
-      record {
-        room = d.room;
-        ended = λ u. d.ended;
-        low = λ u. absurd (never u);
-        high = λ u. absurd (never u);
-        again = λ u. absurd (never u);
-        holds = λ u. absurd (never u);
-        paused = λ u. absurd (never u);
-      }
 
 -- the next node of the loop
 pub kept_within : {P L S X : List ℕ} {root i e p z rest at cap : ℕ} {l₀ : List ℕ} {a₀ : ℕ} {l : List ℕ} {a j : ℕ} → AskKept P L S X root i e rest (length l₀) at cap → InKept P L S X root i e p z rest cap l₀ a₀ l a j → j < e → Within P L S X root j

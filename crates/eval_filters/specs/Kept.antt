@@ -1,6 +1,6 @@
 -- The nodes of a range for which a test holds: what is asked and given, the invariant of the loop over them, and its turns. Each answer holds for every form whose
 -- code stands there. P is the plan, L the pool, S the table, X the text. Assumes nothing.
-use Rattle.std.specs.Prelude.{ℕ, ◌+◌, ◌≤◌, ◌<◌, ◌≡◌, refl, List, Bool as Bits, true, false, length}
+use Rattle.std.specs.Prelude.{ℕ, ◌+◌, ◌≤◌, ◌<◌, ◌≡◌, List, Bool as Bits, true, false, length}
 use Rattle.std.proofs.Common.{sym, ap, ◌∙◌, arith}
 use Rattle.definition.specs.Forms.{Segments, Test, Selector}
 use Rattle.definition.specs.Plans.{code_test}
@@ -10,11 +10,8 @@ use Rattle.text.specs.Words.{Word}
 use Rattle.eval_laws.specs.States.{st}
 use Rattle.eval_laws.specs.Steps.{kept, kept_in, kept_out}
 use Rattle.eval_laws.specs.Items.{SegmentsAt, TestAt, Filtered}
-use Rattle.eval_front.specs.Visits.{cap_limit, Given, Query, Paused, DoneVisit, over}
+use Rattle.eval_front.specs.Visits.{cap_limit, Given, Query, Emitted, over}
 use Rattle.eval_front.specs.Overs.{over_step, over_end, over_full}
-use Rattle.eval_front.specs.Fronts.{never}
-use Rattle.eval_front.specs.declared.Visited.{Visited}
-use Rattle.eval_front.specs.declared.Stop.{Stop}
 
 -- ---- a test
 
@@ -41,17 +38,10 @@ pub record AskKept (P L S X : List ℕ) (root i e rest len at cap : ℕ) : Type 
   pub wide : len ≤ cap + 1
   pub small : cap < cap_limit
 
--- Nothing is left; or all before node r .i are done, and that one, for which the test holds, needs more.
-pub record DoneKept (P L S X : List ℕ) (root i e p z rest cap : ℕ) (l : List ℕ) (at : ℕ) (l' : List ℕ) (r : Stop) : Type 0 where
-  pub room : r.at ≤ cap + 1
-  pub ended : r.more ≡ false → (t : Test) (k : ℕ) (f : Segments) (k' : ℕ) → Tested P L p z t k → SegmentsAt P L rest k' f
-      → st cap l' r.at ≡ over f (node_at S X root) (kept t (node_at S X root)) S X i e (st cap l at)
-  pub low : r.more ≡ true → i ≤ r.i
-  pub high : r.more ≡ true → r.i < e
-  pub again : r.more ≡ true → (t : Test) (k : ℕ) (f : Segments) (k' : ℕ) → Tested P L p z t k → SegmentsAt P L rest k' f
-      → over f (node_at S X root) (kept t (node_at S X root)) S X r.i e (st cap l' r.at) ≡ over f (node_at S X root) (kept t (node_at S X root)) S X i e (st cap l at)
-  pub holds : r.more ≡ true → (t : Test) (k : ℕ) → Tested P L p z t k → eval_test t (node_at S X root) (node_at S X r.i) ≡ true
-  pub paused : r.more ≡ true → Paused P L S X r.i rest r.node r.pc
+-- nothing is left
+pub record DoneRange (P L S X : List ℕ) (root i e p z rest cap : ℕ) (l : List ℕ) (at : ℕ) (l' : List ℕ) (r : ℕ) : Type 0 where
+  pub room : r ≤ cap + 1
+  pub ended : (t : Test) (k : ℕ) (f : Segments) (k' : ℕ) → Tested P L p z t k → SegmentsAt P L rest k' f → st cap l' r ≡ over f (node_at S X root) (kept t (node_at S X root)) S X i e (st cap l at)
 
 -- a filter's test, up to the end that is read
 pub tested_of : {P L : List ℕ} {p k : ℕ} {x : Selector} (y : Filtered P L p k x) (n : ℕ) → Word 2 P (p + 1) n → Tested P L (p + 3) (p + 3 + n) y.t k
@@ -67,33 +57,13 @@ pub record InKept (P L S X : List ℕ) (root i e p z rest cap : ℕ) (l₀ : Lis
 
 -- ---- the turns of the loop
 
-same_state : (cap : ℕ) (l l' : List ℕ) (a a' : ℕ) → l' ≡ l → a' ≡ a → st cap l' a' ≡ st cap l a
-same_state cap l l' a a' p q = rw (p, q)
-
 module _ {P L S X : List ℕ} {root i e p z rest cap : ℕ} {l₀ : List ℕ} {a₀ : ℕ} {l : List ℕ} {a j : ℕ} (t : InKept P L S X root i e p z rest cap l₀ a₀ l a j) where
-  pub kept_full : cap < a → length l₀ ≤ cap + 1 → DoneKept P L S X root i e p z rest cap l₀ a₀ l (record { i = j; at = a; node = j; pc = rest; more = false })
+  pub kept_full : cap < a → length l₀ ≤ cap + 1 → DoneRange P L S X root i e p z rest cap l₀ a₀ l a
   kept_full h w =
-      record {
-        room = t.room;
-        ended = λ u x k f k' b c. sym (over_full f (node_at S X root) (kept x (node_at S X root)) S X j e cap l a h t.room (omega (arith, t.same))) ∙ t.again x k f k' b c;
-        low = λ u. absurd (never u);
-        high = λ u. absurd (never u);
-        again = λ u. absurd (never u);
-        holds = λ u. absurd (never u);
-        paused = λ u. absurd (never u);
-      }
+      record { room = t.room; ended = λ x k f k' b c. sym (over_full f (node_at S X root) (kept x (node_at S X root)) S X j e cap l a h t.room (omega (arith, t.same))) ∙ t.again x k f k' b c }
 
-  pub kept_end : e ≤ j → DoneKept P L S X root i e p z rest cap l₀ a₀ l (record { i = e; at = a; node = e; pc = rest; more = false })
-  kept_end h =
-      record {
-        room = t.room;
-        ended = λ u x k f k' b c. sym (over_end f (node_at S X root) (kept x (node_at S X root)) S X j e (st cap l a) h) ∙ t.again x k f k' b c;
-        low = λ u. absurd (never u);
-        high = λ u. absurd (never u);
-        again = λ u. absurd (never u);
-        holds = λ u. absurd (never u);
-        paused = λ u. absurd (never u);
-      }
+  pub kept_end : e ≤ j → DoneRange P L S X root i e p z rest cap l₀ a₀ l a
+  kept_end h = record { room = t.room; ended = λ x k f k' b c. sym (over_end f (node_at S X root) (kept x (node_at S X root)) S X j e (st cap l a) h) ∙ t.again x k f k' b c }
 
   module _ {r : Bits} (h : j < e) (y : DoneTest P L S X root j p z r) where
     pub kept_passed : r ≡ false → InKept P L S X root i e p z rest cap l₀ a₀ l a (j + 1)
@@ -107,27 +77,14 @@ module _ {P L S X : List ℕ} {root i e p z rest cap : ℕ} {l₀ : List ℕ} {a
               ∙ t.again x k f k' b c;
         }
 
-    module _ {l' : List ℕ} {v : Visited} (n : r ≡ true) (d : DoneVisit P L S X j rest cap l a l' v) where
-      pub kept_stop : v.more ≡ true → DoneKept P L S X root i e p z rest cap l₀ a₀ l' (record { i = j; at = v.at; node = v.node; pc = v.pc; more = true })
-      kept_stop m =
-          record {
-            room = d.room;
-            ended = λ u. absurd (never (sym u));
-            low = λ u. t.low;
-            high = λ u. h;
-            again = λ u x k f k' b c. ap (over f (node_at S X root) (kept x (node_at S X root)) S X j e) (same_state cap l l' a v.at (d.places m) (d.next m)) ∙ t.again x k f k' b c;
-            holds = λ u x k b. sym (y x k b) ∙ n;
-            paused = λ u. d.paused m;
-          }
-
-      pub kept_step : v.more ≡ false → length l' ≡ length l → InKept P L S X root i e p z rest cap l₀ a₀ l' v.at (j + 1)
-      kept_step m w =
-          record {
-            low = omega (arith, t.low);
-            same = w ∙ t.same;
-            room = d.room;
-            again = λ x k f k' b c.
-                over_step f (node_at S X root) (kept x (node_at S X root)) S X j e (st cap l a) (st cap l' v.at) h
-                (kept_in f x (node_at S X root) (node_at S X j) (st cap l a) (st cap l' v.at) (sym (y x k b) ∙ n) (d.ended m f k' c (node_at S X root)))
-                ∙ t.again x k f k' b c;
-          }
+    pub kept_step : r ≡ true → {l' : List ℕ} {a' : ℕ} → Emitted P L S X j rest cap l a l' a' → length l' ≡ length l → InKept P L S X root i e p z rest cap l₀ a₀ l' a' (j + 1)
+    kept_step n {l'} {a'} d w =
+        record {
+          low = omega (arith, t.low);
+          same = w ∙ t.same;
+          room = d.room;
+          again = λ x k f k' b c.
+              over_step f (node_at S X root) (kept x (node_at S X root)) S X j e (st cap l a) (st cap l' a') h
+              (kept_in f x (node_at S X root) (node_at S X j) (st cap l a) (st cap l' a') (sym (y x k b) ∙ n) (d.ended f k' c (node_at S X root)))
+              ∙ t.again x k f k' b c;
+        }

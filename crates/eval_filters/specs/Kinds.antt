@@ -1,30 +1,27 @@
 -- A node and a literal by their kinds: what the kind of a node says of its value, and the comparisons that need no more. P is the plan, L the pool, S the table, X the
 -- text. Assumes nothing.
-use Rattle.std.specs.Prelude.{ℕ, ◌+◌, ◌≤◌, ◌<◌, ◌≡◌, List, [], Bool as Bits, true, false, not, cond, eqb, ℤ, Float as Floating, get_or}
+use Rattle.std.specs.Prelude.{ℕ, ◌+◌, ◌<◌, ◌≡◌, List, [], Bool as Bits, true, false, not, cond, eqb, get_or}
 use Rattle.std.proofs.Math.Path.{refl, sym}
-use Rattle.std.proofs.Common.{ap, ◌∙◌, subst, arith, eq-eqb, ne_eqb}
-use Rattle.std.proofs.Math.Option.{Option, none, some}
+use Rattle.std.proofs.Common.{ap, ◌∙◌, arith, eq-eqb, ne_eqb}
+use Rattle.std.proofs.Math.Option.{none}
 use Rattle.definition.specs.Values.{Json}
 use Rattle.definition.specs.Forms.{Literal}
 use Rattle.definition.specs.Forms.Operator.{eq}
-use Rattle.definition.specs.QueryForms.{literal_right}
-use Rattle.definition.specs.Plans.{code_literal, pool_literal, operator_byte}
-use Rattle.definition.specs.Tables.{node_count, node_at, kind_at, kind_float}
+use Rattle.definition.specs.Plans.{operator_byte}
+use Rattle.definition.specs.Tables.{node_count, node_at, kind_at}
 use Rattle.definition.specs.Compare.{Value, Fraction, node_value, compare_values, same, is_some, is_null, same_boolean, boolean_of, same_number_lem, number_of, same_text, text_of, list_of, map_of}
 use Rattle.definition.specs.Evaluation.{literal_value}
 use Rattle.table_laws.specs.Accepted.{Accepted}
-use Rattle.eval_laws.specs.Bytes.{Holds}
 use Rattle.table_laws.specs.Nodes.{Kind, kind_of}
-use Rattle.eval_values.specs.Alike.{Compares}
 use Rattle.eval_values.specs.Same.{says_eq, says_ne}
-use Rattle.eval_values.specs.Means.{meaning, OfNode}
+use Rattle.eval_values.specs.Means.{meaning}
 use Rattle.eval_values.specs.Values.{of_null, of_false, of_true, of_integer_lem, of_float_lem, of_text_lem, value_list, value_map}
 use Rattle.eval_values.specs.declared.Operand.{Operand}
-use Rattle.eval_values.specs.declared.Operand.TheVariants.{Null, Bool, Int, Float}
+use Rattle.eval_values.specs.declared.Operand.TheVariants.{Null, Bool}
 use Rattle.eval_items.specs.Leaves.{constant_of, DoneValue}
 use Rattle.eval_items.specs.LeafLaws.{done_constant}
-use Rattle.eval_filters.specs.Numbers.{IsNumber, integer_is, float_is, unlike_says}
-use Rattle.eval_filters.specs.Tests.{AskNode, DoneNode, operands_done, compares_as}
+use Rattle.eval_filters.specs.Numbers.{IsNumber, unlike_says}
+use Rattle.eval_filters.specs.Tests.{AskNode, DoneNode, compares_as}
 
 -- ---- the kind of a value
 

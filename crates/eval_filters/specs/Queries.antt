@@ -1,7 +1,7 @@
 -- The plan, the pool, the table and the two nodes of a test, and a query in a filter's code whose names and indices lead to its end, or to nothing. Assumes nothing.
 use Prim.Native.Nat.{ℕ, ◌+◌, ◌≤◌, ◌<◌, min}
-use Rattle.std.specs.Prelude.{◌≡◌, refl, List, [], ◌∷◌, Bool as Bits, true, false, cond, eqb, length, get_or}
-use Rattle.std.proofs.Common.{ap, ◌∙◌, eq-eqb, ne_eqb}
+use Rattle.std.specs.Prelude.{◌≡◌, List, [], ◌∷◌, Bool as Bits, true, false, cond, eqb, length, get_or, Some, None}
+use Rattle.std.proofs.Common.{◌∙◌, eq-eqb, ne_eqb}
 use native.Mathlib.Omega.{arith}
 use Rattle.definition.specs.Limits.{max_plan}
 use Rattle.definition.specs.Forms.{Segments}
@@ -54,7 +54,7 @@ module _ (P L S X : List ℕ) (tab : Accepted S X) (from q : ℕ) (h : from < no
   past_of z p f k a = let y = d.front f k a in p y.g y.j y.at.holds ∙ y.ends
 
   -- to nothing
-  pub found_lost : r.some ≡ false → (mode : ℕ) (f : Segments) (k : ℕ) → SegmentsAt P L (q + 1) k f → Found S X (eval_segments f (node_at S X from) (node_at S X from ∷ [])) (cap_for mode) 0 0
+  pub found_lost : r.node ≡ None → (mode : ℕ) (f : Segments) (k : ℕ) → SegmentsAt P L (q + 1) k f → Found S X (eval_segments f (node_at S X from) (node_at S X from ∷ [])) (cap_for mode) 0 0
   found_lost e mode f k a = found_at S X tab from h f (cap_for mode) (0 ∷ []) 0 ((d.front f k a).lost e (node_at S X from) (st (cap_for mode) (0 ∷ []) 0))
 
   -- to its end
@@ -62,8 +62,8 @@ module _ (P L S X : List ℕ) (tab : Accepted S X) (from q : ℕ) (h : from < no
   unfolding push
   one_pushed cap n = let e : 1 ≡ min (0 + 1) (cap + 1) = omega arith in λ i. record { cap = cap; places = n ∷ []; next = e i }
 
-  pub found_one : r.some ≡ true → get_or P r.pc 0 ≡ 0x0A → (mode : ℕ) (f : Segments) (k : ℕ) → SegmentsAt P L (q + 1) k f → Found S X (eval_segments f (node_at S X from) (node_at S X from ∷ [])) (cap_for mode) 1 r.node
-  found_one e z mode f k a =
+  pub found_one : (m : ℕ) → r.node ≡ Some m → get_or P r.pc 0 ≡ 0x0A → (mode : ℕ) (f : Segments) (k : ℕ) → SegmentsAt P L (q + 1) k f → Found S X (eval_segments f (node_at S X from) (node_at S X from ∷ [])) (cap_for mode) 1 m
+  found_one m e z mode f k a =
       let y = d.front f k a in
-      found_at S X tab from h f (cap_for mode) (r.node ∷ []) 1
-      (one_pushed (cap_for mode) r.node ∙ segment_end S X tab y.g (node_at S X from) r.node d.node_in _ (is_end P r.pc y.j y.g y.at.holds z) ∙ y.found e (node_at S X from) _)
+      found_at S X tab from h f (cap_for mode) (m ∷ []) 1
+      (one_pushed (cap_for mode) m ∙ segment_end S X tab y.g (node_at S X from) m (d.node_in m e) _ (is_end P r.pc y.j y.g y.at.holds z) ∙ y.found m e (node_at S X from) _)

@@ -1,6 +1,6 @@
 -- Tests of a node that are told without registers: what the functions ask and give, and the laws that take what is left of a filter's code further by one test.
 -- P is the plan, L the pool, S the table, X the text. Assumes nothing.
-use Rattle.std.specs.Prelude.{ℕ, ◌+◌, ◌-◌, ◌≤◌, ◌<◌, ◌≡◌, refl, List, [], ◌∷◌, Bool as Bits, true, false, not, ◌&&◌, ltb, leb, ℤ, length, get_or}
+use Rattle.std.specs.Prelude.{ℕ, ◌+◌, ◌-◌, ◌≤◌, ◌<◌, ◌≡◌, refl, List, [], ◌∷◌, Bool as Bits, true, false, not, ◌&&◌, ltb, leb, ℤ, length, get_or, Option, Some, None}
 use Rattle.std.proofs.Common.{sym, ap, ◌∙◌, subst, arith, leb-true}
 use Rattle.definition.specs.Bytes.{number, part, signed64, same_bytes}
 use Rattle.definition.specs.Limits.{max_plan, max_int}
@@ -150,18 +150,15 @@ pub record DonePlain (P L S X : List ℕ) (from q : ℕ) (r : Nodes) : Type 0 wh
   pub inside : 0 < r.n → r.first < node_count S
   pub past : r.some ≡ true → (f : Segments) (k : ℕ) → SegmentsAt P L (q + 1) k f → r.z ≡ q + 1 + length (code_segments f k)
   pub found : r.some ≡ true → (f : Segments) (k : ℕ) → SegmentsAt P L (q + 1) k f → Found S X (eval_segments f (node_at S X from) (node_at S X from ∷ [])) (max_int - 1) r.n r.first
-  pub onward : r.some ≡ false → DoneReach P L S X from (q + 1) (record { node = r.first; pc = r.z; some = true })
+  pub onward : r.some ≡ false → DoneReach P L S X from (q + 1) (record { node = Some r.first; pc = r.z })
 
 -- the end of a query is one byte
 end_past : (P : List ℕ) (p : ℕ) → get_or P p 0 ≡ 0x0A → DonePast P p (p + 1)
 end_past P p e f k h = ap (λ (n : ℕ). p + n) (sym (end_long P p k f h e))
 
-reached : {P L S X : List ℕ} {from pc : ℕ} {r : Reached} → DoneReach P L S X from pc r → r.some ≡ true → DoneReach P L S X from pc (record { node = r.node; pc = r.pc; some = true })
-reached {P} {L} {S} {X} {from} {pc} {r} d e = subst (λ (b : Bits). DoneReach P L S X from pc (record { node = r.node; pc = r.pc; some = b })) e d
-
 -- by where names and indices lead
 module _ {P L S X : List ℕ} {from q : ℕ} (a : AskReach P L S X from (q + 1)) (r : Reached) (d : DoneReach P L S X from (q + 1) r) where
-  pub plain_lost : r.some ≡ false → (z : ℕ) → DonePast P r.pc z → DonePlain P L S X from q (record { n = 0; first = 0; z = z; some = true })
+  pub plain_lost : r.node ≡ None → (z : ℕ) → DonePast P r.pc z → DonePlain P L S X from q (record { n = 0; first = 0; z = z; some = true })
   plain_lost e z p =
       record {
         inside = λ i. absurd (omega arith);
@@ -170,17 +167,18 @@ module _ {P L S X : List ℕ} {from q : ℕ} (a : AskReach P L S X from (q + 1))
         onward = λ i. absurd (never (sym i));
       }
 
-  pub plain_one : r.some ≡ true → get_or P r.pc 0 ≡ 0x0A → DonePlain P L S X from q (record { n = 1; first = r.node; z = r.pc + 1; some = true })
-  plain_one e c =
-      record {
-        inside = λ i. d.node_in;
-        past = λ i. past_of P L S X a.given.tab from q a.node_in r d (r.pc + 1) (end_past P r.pc c);
-        found = λ i. found_one P L S X a.given.tab from q a.node_in r d e c 0x19;
-        onward = λ i. absurd (never (sym i));
-      }
+  module _ (m : ℕ) (e : r.node ≡ Some m) where
+    pub plain_one : get_or P r.pc 0 ≡ 0x0A → DonePlain P L S X from q (record { n = 1; first = m; z = r.pc + 1; some = true })
+    plain_one c =
+        record {
+          inside = λ i. d.node_in m e;
+          past = λ i. past_of P L S X a.given.tab from q a.node_in r d (r.pc + 1) (end_past P r.pc c);
+          found = λ i. found_one P L S X a.given.tab from q a.node_in r d m e c 0x19;
+          onward = λ i. absurd (never (sym i));
+        }
 
-  pub plain_none : r.some ≡ true → DonePlain P L S X from q (record { n = 0; first = r.node; z = r.pc; some = false })
-  plain_none e = record { inside = λ i. absurd (omega arith); past = λ i. absurd (never i); found = λ i. absurd (never i); onward = λ i. reached d e }
+    pub plain_none : DonePlain P L S X from q (record { n = 0; first = m; z = r.pc; some = false })
+    plain_none = record { inside = λ i. absurd (omega arith); past = λ i. absurd (never i); found = λ i. absurd (never i); onward = λ i. subst (λ (y : Option ℕ). DoneReach P L S X from (q + 1) (record { node = y; pc = r.pc })) e d }
 
 -- ---- a test
 

@@ -63,17 +63,14 @@ pub fn keep_counts(
     ensures { DoneRange plan.now pool.now table.now text.now root i e p z rest cap list.old at list.new result }
 {
     let mut a = at;
-    let mut j = i;
-    while j < e {
+    for j in i..e {
         if cap < a {
             return a;
         }
-        if count_passes(plan, pool, table, text, root, j, p, z, op) {
-            a = eval_front::push(list, a, j, cap);
-            j += 1;
-        } else {
-            j += 1;
+        if !count_passes(plan, pool, table, text, root, j, p, z, op) {
+            continue;
         }
+        a = eval_front::push(list, a, j, cap);
     }
     a
 }

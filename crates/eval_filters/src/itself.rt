@@ -79,17 +79,14 @@ pub fn keep_itself(
 {
     let q = p + 2;
     let mut a = at;
-    let mut j = i;
-    while j < e {
+    for j in i..e {
         if cap < a {
             return a;
         }
-        if atoms::compare_form(plan, pool, table, text, form, op, j, q) {
-            a = eval_front::push(list, a, j, cap);
-            j += 1;
-        } else {
-            j += 1;
+        if !atoms::compare_form(plan, pool, table, text, form, op, j, q) {
+            continue;
         }
+        a = eval_front::push(list, a, j, cap);
     }
     a
 }

@@ -203,23 +203,20 @@ fn keep_pair(
     ensures { DoneRange plan.now pool.now table.now text.now root i e p z rest cap list.old at list.new result }
 {
     let mut a = at;
-    let mut j = i;
     let mut near = 0;
     let mut next = 0;
-    while j < e {
+    for j in i..e {
         if cap < a {
             return a;
         }
         let b = passes(plan, pool, table, text, root, j, p, z, t, join, u, near);
         near = b.near;
-        if b.acc {
-            let v = push_tail(plan, pool, table, text, tail, j, rest, next, list, a, cap);
-            a = v.at;
-            next = v.near;
-            j += 1;
-        } else {
-            j += 1;
+        if !b.acc {
+            continue;
         }
+        let v = push_tail(plan, pool, table, text, tail, j, rest, next, list, a, cap);
+        a = v.at;
+        next = v.near;
     }
     a
 }

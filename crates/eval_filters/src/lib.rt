@@ -236,9 +236,8 @@ fn plain_nodes(plan: &[u8], pool: &[u8], table: &[u8], text: &[u8], from: usize,
     ensures { DonePlain plan.now pool.now table.now text.now from q result }
 {
     let r = eval_front::reach(plan, pool, table, text, from, q + 1);
-    let m = r.node;
     let c = r.pc;
-    if !r.some {
+    let Some(m) = r.node else {
         let z = plans::past_query(plan, c);
         return Nodes {
             n: 0,
@@ -246,7 +245,7 @@ fn plain_nodes(plan: &[u8], pool: &[u8], table: &[u8], text: &[u8], from: usize,
             z,
             some: true,
         };
-    }
+    };
     if plan[c] == END {
         return Nodes {
             n: 1,

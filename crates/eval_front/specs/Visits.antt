@@ -1,6 +1,6 @@
 -- What the functions ask and give that visit nodes with a query. Each answer holds for every form whose code stands there. P is the plan, L the pool, S the
 -- table, X the text. Assumes nothing: these are definitions.
-use Rattle.std.specs.Prelude.{ℕ, zero, suc, ◌+◌, ◌-◌, ◌≤◌, ◌<◌, ◌≡◌, List, [], ◌∷◌, true, false, length, get_or}
+use Rattle.std.specs.Prelude.{ℕ, zero, suc, ◌+◌, ◌-◌, ◌≤◌, ◌<◌, ◌≡◌, List, [], ◌∷◌, length, get_or, Option, Some, None, Result, Ok, Err}
 use Rattle.definition.specs.Bytes.{number, part}
 use Rattle.definition.specs.Limits.{max_plan, max_nodes}
 use Rattle.definition.specs.Values.{Json}
@@ -16,7 +16,7 @@ use Rattle.eval_laws.specs.Steps.{span}
 use Rattle.eval_laws.specs.Ranges.{picked}
 use Rattle.eval_laws.specs.Items.{SegmentsAt}
 use Rattle.eval_front.specs.declared.Reached.{Reached}
-use Rattle.eval_front.specs.declared.Visited.{Visited}
+use Rattle.eval_front.specs.declared.More.{More}
 
 -- a cap is below 2^62, so that one more than it is a number of the machine
 abbrev pub cap_limit : ℕ
@@ -80,12 +80,12 @@ pub record Front (P L S X : List ℕ) (node pc : ℕ) (r : Reached) (f : Segment
   pub j : ℕ
   pub at : SegmentsAt P L r.pc j g
   pub ends : r.pc + length (code_segments g j) ≡ pc + length (code_segments f k)
-  pub found : r.some ≡ true → (R : Json) (s : State) → go g R (node_at S X r.node ∷ []) s ≡ go f R (node_at S X node ∷ []) s
-  pub lost : r.some ≡ false → (R : Json) (s : State) → s ≡ go f R (node_at S X node ∷ []) s
+  pub found : (m : ℕ) → r.node ≡ Some m → (R : Json) (s : State) → go g R (node_at S X m ∷ []) s ≡ go f R (node_at S X node ∷ []) s
+  pub lost : r.node ≡ None → (R : Json) (s : State) → s ≡ go f R (node_at S X node ∷ []) s
 
 pub record DoneReach (P L S X : List ℕ) (node pc : ℕ) (r : Reached) : Type 0 where
-  pub node_in : r.node < node_count S
-  pub deeper : depth_at S node ≤ depth_at S r.node
+  pub node_in : (m : ℕ) → r.node ≡ Some m → m < node_count S
+  pub deeper : (m : ℕ) → r.node ≡ Some m → depth_at S node ≤ depth_at S m
   pub later : pc ≤ r.pc
   pub front : (f : Segments) (k : ℕ) → SegmentsAt P L pc k f → Front P L S X node pc r f k
 
@@ -113,12 +113,19 @@ pub record Paused (P L S X : List ℕ) (node rest n pc : ℕ) : Type 0 where
   pub going : get_or P pc 0 ≡ 0x0A → ⊥
   pub onward : (f : Segments) (k : ℕ) → SegmentsAt P L rest k f → Onward P L S X node n pc f
 
-pub record DoneVisit (P L S X : List ℕ) (node rest cap : ℕ) (l : List ℕ) (at : ℕ) (l' : List ℕ) (r : Visited) : Type 0 where
-  pub room : r.at ≤ cap + 1
-  pub ended : r.more ≡ false → (f : Segments) (k : ℕ) → SegmentsAt P L rest k f → (R : Json) → st cap l' r.at ≡ go f R (node_at S X node ∷ []) (st cap l at)
-  pub places : r.more ≡ true → l' ≡ l
-  pub next : r.more ≡ true → r.at ≡ at
-  pub paused : r.more ≡ true → Paused P L S X node rest r.node r.pc
+-- what the query at rest selects from a node is in the list, whose next place is at'
+pub record Emitted (P L S X : List ℕ) (node rest cap : ℕ) (l : List ℕ) (at : ℕ) (l' : List ℕ) (at' : ℕ) : Type 0 where
+  pub room : at' ≤ cap + 1
+  pub ended : (f : Segments) (k : ℕ) → SegmentsAt P L rest k f → (R : Json) → st cap l' at' ≡ go f R (node_at S X node ∷ []) (st cap l at)
+
+-- or more is to be done, and the list is as it was
+pub record Stopped (P L S X : List ℕ) (node rest : ℕ) (l l' : List ℕ) (m : More) : Type 0 where
+  pub places : l' ≡ l
+  pub paused : Paused P L S X node rest m.node m.pc
+
+abbrev pub DoneVisit : List ℕ → List ℕ → List ℕ → List ℕ → ℕ → ℕ → ℕ → List ℕ → ℕ → List ℕ → Result ℕ More → Type 0
+DoneVisit P L S X node rest cap l at l' (Ok at') = Emitted P L S X node rest cap l at l' at'
+DoneVisit P L S X node rest cap l at l' (Err m) = Stopped P L S X node rest l l' m
 
 -- ---- the children of a range
 

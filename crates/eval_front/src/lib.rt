@@ -17,31 +17,18 @@ use table::records;
 use table::records::KIND_LIST;
 use text::bytes;
 
-// Where the segments of one name or index at the front of a query lead: a node and the place of what follows. `some` is false where there is no such node.
+// Where the segments of one name or index at the front of a query lead: the node, if there is one, and the place of what follows, or of the segment that finds none.
 #[derive(Clone, Copy)]
 pub struct Reached {
-    pub node: usize,
+    pub node: Option<usize>,
     pub pc: usize,
-    pub some: bool,
 }
 
-// One node with a query: the next place of the list and, where more is to be done, the node and the place in the plan where it goes on.
+// A node where more of a query is to be done, and the place in the plan where it goes on.
 #[derive(Clone, Copy)]
-pub struct Visited {
-    pub at: usize,
+pub struct More {
     pub node: usize,
     pub pc: usize,
-    pub more: bool,
-}
-
-// The children of a range with a query: the next place of the list and, where child i needs more, the node and the place in the plan where it goes on.
-#[derive(Clone, Copy)]
-pub struct Stop {
-    pub i: usize,
-    pub at: usize,
-    pub node: usize,
-    pub pc: usize,
-    pub more: bool,
 }
 
 // The node's number into the next place, if there is one. Once the cap is passed nothing changes.
@@ -65,19 +52,10 @@ pub fn push_each(list: &mut [u32], i: usize, e: usize, at: usize, cap: usize) ->
     ensures { st cap list.new result ≡ emit (numbers_from i (e - i)) (st cap list.old at) }
 {
     let mut a = at;
-    let mut j = i;
-    while j < e {
+    for j in i..e {
         a = push(list, a, j, cap);
-        j += 1;
     }
     a
-}
-
-// A node and the place of what follows, and whether there is such a node.
-fn came_to(node: usize, pc: usize, some: bool) -> Reached
-    ensures { result ≡ record { node = node; pc = pc; some = some } }
-{
-    Reached { node, pc, some }
 }
 
 // From a node along the segments of one name or index at pc. The first four bytes of such a segment are read as one number.
@@ -87,6 +65,7 @@ pub fn reach(plan: &[u8], pool: &[u8], table: &[u8], text: &[u8], node: usize, p
 {
     let mut m = node;
     let mut q = pc;
+    // A loop over q: a segment is 8 or 12 bytes long, so `for` says no step.
     while q + 8 <= plan.len() {
         let head = bytes::word32(plan, q);
         if head == NAME_HEAD {
@@ -94,23 +73,23 @@ pub fn reach(plan: &[u8], pool: &[u8], table: &[u8], text: &[u8], node: usize, p
             let n = bytes::word16(plan, q + 6);
             let found = leaves::named(plan, pool, table, text, q + 3, a, n, m);
             let Some(k) = found else {
-                return came_to(m, q, false);
+                return Reached { node: None, pc: q };
             };
             m = k;
             q += 8;
         } else {
             if head != INDEX_HEAD {
-                return came_to(m, q, true);
+                return Reached { node: Some(m), pc: q };
             }
             let found = leaves::get_by_index(plan, pool, table, text, q + 3, m);
             let Some(k) = found else {
-                return came_to(m, q, false);
+                return Reached { node: None, pc: q };
             };
             m = k;
             q += 12;
         }
     }
-    came_to(m, q, true)
+    Reached { node: Some(m), pc: q }
 }
 
 // The same where a selection begins, called only there. There are two because a compiler puts a function into its caller where it has one only.
@@ -120,6 +99,7 @@ pub fn front(plan: &[u8], pool: &[u8], table: &[u8], text: &[u8], node: usize, p
 {
     let mut m = node;
     let mut rest = pc;
+    // A loop over rest: a segment is 8 or 12 bytes long, so `for` says no step.
     while rest + 8 <= plan.len() {
         let head = bytes::word32(plan, rest);
         if head == NAME_HEAD {
@@ -127,26 +107,26 @@ pub fn front(plan: &[u8], pool: &[u8], table: &[u8], text: &[u8], node: usize, p
             let n = bytes::word16(plan, rest + 6);
             let found = leaves::first_named(plan, pool, table, text, rest + 3, a, n, m);
             let Some(k) = found else {
-                return came_to(m, rest, false);
+                return Reached { node: None, pc: rest };
             };
             m = k;
             rest += 8;
         } else {
             if head != INDEX_HEAD {
-                return came_to(m, rest, true);
+                return Reached { node: Some(m), pc: rest };
             }
             let found = leaves::get_by_index(plan, pool, table, text, rest + 3, m);
             let Some(k) = found else {
-                return came_to(m, rest, false);
+                return Reached { node: None, pc: rest };
             };
             m = k;
             rest += 12;
         }
     }
-    came_to(m, rest, true)
+    Reached { node: Some(m), pc: rest }
 }
 
-// One node with the query at rest: pushed, or nothing, or what is left.
+// One node with the query at rest: pushed, or nothing, which gives the next place of the list; or what is left, with the list as it was.
 pub fn visit(
     plan: &[u8],
     pool: &[u8],
@@ -157,36 +137,20 @@ pub fn visit(
     list: &mut [u32],
     at: usize,
     cap: usize,
-) -> Visited
+) -> Result<usize, More>
     requires { AskVisit plan.now pool.now table.now text.now node rest (length list.old) at cap }
     ensures { DoneVisit plan.now pool.now table.now text.now node rest cap list.old at list.new result }
 {
     let r = reach(plan, pool, table, text, node, rest);
-    let m = r.node;
     let pc = r.pc;
-    if !r.some {
-        return Visited {
-            at,
-            node: m,
-            pc,
-            more: false,
-        };
-    }
+    let Some(m) = r.node else {
+        return Ok(at);
+    };
     if plan[pc] != END {
-        return Visited {
-            at,
-            node: m,
-            pc,
-            more: true,
-        };
+        return Err(More { node: m, pc });
     }
     let a = push(list, at, m, cap);
-    Visited {
-        at: a,
-        node: m,
-        pc,
-        more: false,
-    }
+    Ok(a)
 }
 
 // A walk without its first place, with the same step in the same direction. Where none is left it stands at 0, so that the place is always small.
@@ -221,6 +185,7 @@ pub fn push_places(list: &mut [u32], walk: Walk, at: usize, cap: usize) -> usize
 {
     let mut a = at;
     let mut w = walk;
+    // A loop over a walk: its places go down or up by a step of its own, which `for` over a range does not say.
     while 0 < w.left {
         a = push(list, a, w.at, cap);
         w = further(w);
@@ -266,6 +231,7 @@ pub fn next_container(table: &[u8], i: usize, e: usize) -> usize
     ensures { DoneContainer table.now i e result }
 {
     let mut j = i;
+    // A loop over j: where the range is empty the answer is i and not e, which `for` would have to say apart.
     while j < e {
         if KIND_LIST <= records::kind(table, j) {
             return j;

@@ -1,8 +1,6 @@
 -- `against` meets its contract.
 use Rattle.eval_filters.specs.Tests.{against_none, against_value, against_past, against_in, against_operator, against_nothing, against_node}
 use native.Mathlib.Omega.{arith}
-use borrow.Author.Rules.{rules}
-use Rattle.eval_filters.proofs.against.Lts as lts
 use Rattle.eval_filters.proofs.against.Goals as goal
 
 pub returns-then-e-z : goal.returns-then-e-z

@@ -3,8 +3,6 @@ use Rattle.eval_filters.specs.Tests.{integers_done}
 use Rattle.eval_items.specs.LeafLaws.{literal_room}
 use native.Mathlib.Omega.{arith}
 use mathlib.Core.Path.{◌∙◌}
-use borrow.Author.Rules.{rules}
-use Rattle.eval_filters.proofs.compare_integers.Lts as lts
 use Rattle.number_integers.specs.Signs.{back}
 use Rattle.eval_filters.proofs.compare_integers.Goals as goal
 

@@ -1,7 +1,6 @@
 -- `compare_ints` meets its contract: four operators by the order of the two numbers, the others by the order the other way round.
 use mir.Syntax.{w64}
 use mir.ValLaws.{to_z-of_z}
-use borrow.Author.Rules.{rules}
 use Rattle.eval_filters.specs.Numbers.{integer_at, numbers_low, numbers_high}
 use Rattle.eval_filters.proofs.compare_ints.Goals as goal
 

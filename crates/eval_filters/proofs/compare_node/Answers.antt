@@ -4,9 +4,7 @@ use Rattle.eval_filters.specs.Kinds.{differs_done}
 use Rattle.eval_items.specs.LeafLaws.{literal_room}
 use native.Mathlib.Omega.{arith}
 use Prim.Native.Nat.{ℕ}
-use mathlib.Core.Path.{◌≡◌, sym, subst, ◌∙◌}
-use borrow.Author.Rules.{rules}
-use Rattle.eval_filters.proofs.compare_node.Lts as lts
+use mathlib.Core.Path.{sym, subst, ◌∙◌}
 use Rattle.eval_filters.proofs.compare_node.Goals as goal
 use Rattle.eval_filters.proofs.compare_node.Goals.{then-k-eq-INTEGER+else-kind-eq-KIND_INTEGER, else-k-eq-INTEGER}
 

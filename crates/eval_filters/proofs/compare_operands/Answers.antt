@@ -1,7 +1,5 @@
 -- `compare_operands` meets its contract.
 use Rattle.eval_filters.specs.Tests.{operands_done}
-use borrow.Author.Rules.{rules}
-use Rattle.eval_filters.proofs.compare_operands.Lts as lts
 use Rattle.eval_filters.proofs.compare_operands.Goals as goal
 
 pub compare_values-requires : goal.compare_values-requires

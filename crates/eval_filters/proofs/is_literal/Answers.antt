@@ -1,6 +1,5 @@
 -- `is_literal` meets its contract.
 use borrow.Author.Tests.{le-leb, lt-leb}
-use Rattle.eval_filters.proofs.is_literal.Lts as lts
 use Rattle.eval_filters.proofs.is_literal.Goals as goal
 
 pub returns-then-k-lt-INTEGER : goal.returns-then-k-lt-INTEGER

@@ -1,6 +1,5 @@
 -- `is_logic` meets its contract.
 use borrow.Author.Tests.{le-leb, lt-leb}
-use Rattle.eval_filters.proofs.is_logic.Lts as lts
 use Rattle.eval_filters.proofs.is_logic.Goals as goal
 
 pub returns-then-k-lt-NOT : goal.returns-then-k-lt-NOT

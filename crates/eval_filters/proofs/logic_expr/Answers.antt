@@ -2,7 +2,6 @@
 use Rattle.eval_filters.specs.Tests.{logic_in, logic_not, logic_right, logic_and_enter, logic_and_skip, logic_or_skip, logic_or_enter}
 use native.Mathlib.Omega.{arith}
 use mathlib.Core.Path.{refl}
-use Rattle.eval_filters.proofs.logic_expr.Lts as lts
 use Rattle.eval_filters.proofs.logic_expr.Goals as goal
 
 pub bounds-plan-q : goal.bounds-plan-q

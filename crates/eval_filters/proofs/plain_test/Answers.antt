@@ -1,7 +1,5 @@
 -- `plain_test` meets its contract.
 use Rattle.eval_filters.specs.Values.{test_operand_lem, operand_in}
-use borrow.Author.Rules.{rules}
-use Rattle.eval_filters.proofs.plain_test.Lts as lts
 use Rattle.eval_filters.proofs.plain_test.Goals as goal
 
 pub bounds-plan-q : goal.bounds-plan-q

@@ -1,9 +1,7 @@
 -- `plain_turn` meets its contract.
 use mathlib.Core.Path.{sym, ◌∙◌}
 use Rattle.eval_laws.specs.Todos.{todo_in}
-use Rattle.eval_filters.specs.Turns.{turn_asks, turn_logic, turn_plain, turn_left}
-use borrow.Author.Rules.{rules}
-use Rattle.eval_filters.proofs.plain_turn.Lts as lts
+use Rattle.eval_filters.specs.Turns.{turn_asks, turn_logic, turn_plain}
 use Rattle.eval_filters.proofs.plain_turn.Goals as goal
 
 pub bounds-plan-q : goal.bounds-plan-q

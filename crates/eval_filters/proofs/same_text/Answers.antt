@@ -2,7 +2,6 @@
 use mathlib.Core.Bool.{true}
 use mathlib.Core.Path.{refl}
 use native.Mathlib.Omega.{arith}
-use borrow.Author.Rules.{rules}
 use Rattle.eval_items.specs.LeafLaws.{literal_room}
 use Rattle.eval_filters.specs.Tests.{texts_in, texts_done}
 use Rattle.eval_filters.proofs.same_text.Goals as goal

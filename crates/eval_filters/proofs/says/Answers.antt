@@ -1,8 +1,6 @@
 -- `says` meets its contract, order by order.
 use Rattle.eval_filters.specs.Numbers.{says_of, says_yes, says_no}
 use mathlib.Core.Path.{sym, ap, ◌∙◌}
-use borrow.Author.Rules.{rules}
-use Rattle.eval_filters.proofs.says.Lts as lts
 use Rattle.eval_filters.proofs.says.Goals as goal
 
 pub returns-then-op-eq-EQ : goal.returns-then-op-eq-EQ

@@ -7,8 +7,6 @@ use lib.ListN.{get_or}
 use borrow.Author.Tests.{not-true, not-false}
 use native.Mathlib.Omega.{arith}
 use mathlib.Core.Path.{refl, sym, ◌∙◌}
-use borrow.Author.Rules.{rules}
-use Rattle.eval_filters.proofs.short_test.Lts as lts
 use mathlib.Core.Path.{ap}
 use mathlib.Core.Bool.{not}
 use Rattle.eval_filters.proofs.short_test.Goals as goal

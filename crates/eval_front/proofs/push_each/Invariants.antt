@@ -5,6 +5,3 @@ use Rattle.eval_front.proofs.push_each.Given as goal
 
 abbrev pub invariant-loop-j : goal.invariant-loop-j
 invariant-loop-j l = InNumbers l.i l.e l.cap l.initial.list l.initial.a l.list l.a l.j
-
-abbrev pub decreases-loop-j : goal.decreases-loop-j
-decreases-loop-j l = l.e - l.j

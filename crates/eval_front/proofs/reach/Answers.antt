@@ -20,7 +20,7 @@ named-found-requires c =
 pub returns-in_default : goal.returns-in_default
 returns-in_default c =
     let d = head_of 5 (λ k. (c.type_inv.plan k).fits) c.loop-q-test.true c.word32-head.ensures.is c.if-head-eq-NAME_HEAD.true in
-    done_lost c.requires.given c.loop-q.invariant d _ c.named-found.ensures c.in_default.is c.came_to.ensures
+    done_lost c.requires.given c.loop-q.invariant d _ c.named-found.ensures c.in_default.is
 
 pub loop-q-preserved-then-head-eq-NAME_HEAD : goal.loop-q-preserved-then-head-eq-NAME_HEAD
 loop-q-preserved-then-head-eq-NAME_HEAD c =
@@ -28,7 +28,7 @@ loop-q-preserved-then-head-eq-NAME_HEAD c =
     reach_next c.requires.given c.loop-q.invariant d _ c.named-found.ensures _ c.in-Some.is _ (name_ends c.requires.given.few_p d)
 
 pub returns-then-head-ne-INDEX_HEAD : goal.returns-then-head-ne-INDEX_HEAD
-returns-then-head-ne-INDEX_HEAD c = done_found c.loop-q.invariant c.came_to-then-head-ne-INDEX_HEAD.ensures
+returns-then-head-ne-INDEX_HEAD c = done_found c.loop-q.invariant
 
 pub get_by_index-found-requires : goal.get_by_index-found-requires
 get_by_index-found-requires c =
@@ -38,7 +38,7 @@ get_by_index-found-requires c =
 pub returns-in_default-found : goal.returns-in_default-found
 returns-in_default-found c =
     let d = head_of 6 (λ k. (c.type_inv.plan k).fits) c.loop-q-test.true c.word32-head.ensures.is c.if-head-ne-INDEX_HEAD.false in
-    done_lost c.requires.given c.loop-q.invariant d _ c.get_by_index-found.ensures c.in_default-found.is c.came_to-in_default-found.ensures
+    done_lost c.requires.given c.loop-q.invariant d _ c.get_by_index-found.ensures c.in_default-found.is
 
 pub loop-q-preserved : goal.loop-q-preserved
 loop-q-preserved c =
@@ -46,4 +46,4 @@ loop-q-preserved c =
     reach_next c.requires.given c.loop-q.invariant d _ c.get_by_index-found.ensures _ c.in-Some-found.is _ (index_ends c.requires.given.few_p d)
 
 pub returns : goal.returns
-returns c = done_found c.loop-q.invariant c.came_to-2.ensures
+returns c = done_found c.loop-q.invariant

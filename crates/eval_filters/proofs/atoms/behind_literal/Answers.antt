@@ -4,8 +4,6 @@ use borrow.Author.Tests.{not-false}
 use Rattle.eval_filters.specs.Tests.{literal_kind_lem}
 use Rattle.eval_filters.specs.Atoms.{size_fits, sized, none_behind}
 use native.Mathlib.Omega.{arith}
-use borrow.Author.Rules.{rules}
-use Rattle.eval_filters.proofs.atoms.behind_literal.Lts as lts
 use mathlib.Core.Path.{ap}
 use mathlib.Core.Bool.{not}
 use Rattle.eval_filters.proofs.atoms.behind_literal.Goals as goal

@@ -2,8 +2,6 @@
 use Prim.Native.Nat.{ℕ}
 use mathlib.Core.Path.{sym, subst, ◌∙◌}
 use Rattle.eval_filters.specs.Tests.{DoneNode}
-use borrow.Author.Rules.{rules}
-use Rattle.eval_filters.proofs.atoms.compare_form.Lts as lts
 use Rattle.eval_filters.proofs.atoms.compare_form.Goals as goal
 
 pub compare_integers-requires : goal.compare_integers-requires

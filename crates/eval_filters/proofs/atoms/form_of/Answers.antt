@@ -1,6 +1,5 @@
 -- `form_of` meets its contract.
 use Rattle.eval_filters.specs.Atoms.{form_number, form_other, form_words, form_text}
-use Rattle.eval_filters.proofs.atoms.form_of.Lts as lts
 use Rattle.eval_filters.proofs.atoms.form_of.Goals as goal
 
 pub returns-then-k-eq-INTEGER : goal.returns-then-k-eq-INTEGER

@@ -1,8 +1,6 @@
 -- `holds` meets its contract: what is found under the name, tested or compared.
 use native.Mathlib.Omega.{arith}
 use Rattle.eval_filters.specs.Atoms.{told_one, atom_absent, atom_has, atom_asks, atom_compared}
-use borrow.Author.Rules.{rules}
-use Rattle.eval_filters.proofs.atoms.holds.Lts as lts
 use Rattle.eval_filters.proofs.atoms.holds.Goals as goal
 
 pub named-found-requires : goal.named-found-requires

@@ -1,8 +1,6 @@
 -- `holds_next` meets its contract: what is found under the name, tested or compared.
 use Rattle.eval_filters.specs.Atoms.{told_any, told_room, atom_absent, atom_has, atom_asks, atom_compared}
 use native.Mathlib.Omega.{arith}
-use borrow.Author.Rules.{rules}
-use Rattle.eval_filters.proofs.atoms.holds_next.Lts as lts
 use Rattle.eval_filters.proofs.atoms.holds_next.Goals as goal
 
 pub overflow_add-c-2 : goal.overflow_add-c-2

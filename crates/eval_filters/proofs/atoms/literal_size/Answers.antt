@@ -1,8 +1,5 @@
 -- `literal_size` meets its contract.
 use Rattle.eval_filters.specs.Atoms.{size_constant, size_text, size_number}
-use native.Mathlib.Omega.{arith}
-use borrow.Author.Rules.{rules}
-use Rattle.eval_filters.proofs.atoms.literal_size.Lts as lts
 use Rattle.eval_filters.proofs.atoms.literal_size.Goals as goal
 
 pub returns-then-k-eq-CONSTANT : goal.returns-then-k-eq-CONSTANT

@@ -1,8 +1,6 @@
 -- `named` meets its contract: the member at the place that is looked at first, or the one that a search finds.
 use native.Mathlib.Omega.{arith}
 use Rattle.eval_filters.specs.Atoms.{name_any, name_inside, name_near, near_room}
-use borrow.Author.Rules.{rules}
-use Rattle.eval_filters.proofs.atoms.named.Lts as lts
 use Rattle.eval_filters.proofs.atoms.named.Goals as goal
 
 pub is_near-requires : goal.is_near-requires

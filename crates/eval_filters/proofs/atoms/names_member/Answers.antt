@@ -3,8 +3,6 @@ use borrow.Author.Tests.{eqb-true}
 use Rattle.eval_front.specs.Heads.{head_of}
 use Rattle.eval_filters.specs.Atoms.{not_name}
 use native.Mathlib.Omega.{arith}
-use borrow.Author.Rules.{rules}
-use Rattle.eval_filters.proofs.atoms.names_member.Lts as lts
 use Rattle.eval_filters.proofs.atoms.names_member.Goals as goal
 
 pub returns-then-plan-c : goal.returns-then-plan-c

@@ -3,8 +3,6 @@ use mathlib.Core.Path.{refl}
 use borrow.Author.Tests.{not-false}
 use Rattle.eval_filters.specs.Atoms.{form_none, form_says}
 use native.Mathlib.Omega.{arith}
-use borrow.Author.Rules.{rules}
-use Rattle.eval_filters.proofs.atoms.read_atom.Lts as lts
 use mathlib.Core.Path.{ap}
 use mathlib.Core.Bool.{not}
 use Rattle.eval_filters.proofs.atoms.read_atom.Goals as goal

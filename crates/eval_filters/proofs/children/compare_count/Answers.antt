@@ -6,8 +6,6 @@ use mir.ValLaws.{to_z_pos}
 use mir.Syntax.{w64}
 use native.Mathlib.Omega.{arith}
 use mathlib.Core.Path.{◌∙◌}
-use borrow.Author.Rules.{rules}
-use Rattle.eval_filters.proofs.children.compare_count.Lts as lts
 use Rattle.number_integers.specs.Signs.{back}
 use Rattle.eval_filters.proofs.children.compare_count.Goals as goal
 

@@ -3,9 +3,7 @@ use Rattle.eval_filters.specs.Tests.{literal_kind_lem}
 use Rattle.eval_filters.specs.Children.{counted_none, counted_in, counted_value, counted_past, counted_behind, counted_operator, counted_done}
 use borrow.Author.Tests.{not-false}
 use native.Mathlib.Omega.{arith}
-use mathlib.Core.Path.{◌≡◌, sym, ◌∙◌}
-use borrow.Author.Rules.{rules}
-use Rattle.eval_filters.proofs.children.count_against.Lts as lts
+use mathlib.Core.Path.{sym, ◌∙◌}
 use mathlib.Core.Path.{ap}
 use mathlib.Core.Bool.{not}
 use Rattle.eval_filters.proofs.children.count_against.Goals as goal

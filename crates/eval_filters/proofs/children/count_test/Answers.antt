@@ -3,9 +3,7 @@ use Rattle.eval_filters.specs.Tests.{short_none}
 use Rattle.eval_filters.specs.Children.{counting_asked, counting_counted, counting_done}
 use borrow.Author.Tests.{not-false}
 use native.Mathlib.Omega.{arith}
-use borrow.Author.Rules.{rules}
-use Rattle.eval_filters.proofs.children.count_test.Lts as lts
-use mathlib.Core.Path.{ap}
+use mathlib.Core.Path.{ap, refl}
 use mathlib.Core.Bool.{not}
 use Rattle.eval_filters.proofs.children.count_test.Goals as goal
 
@@ -16,7 +14,7 @@ pub returns-then-not-counts_children : goal.returns-then-not-counts_children
 returns-then-not-counts_children c = short_none _ _ _ _ _ _ _ _ _
 
 pub child_count-n-requires : goal.child_count-n-requires
-child_count-n-requires c = c.requires.ask_counting.reach.node_in
+child_count-n-requires c = c.requires.ask_counting.reach.node_in _ refl
 
 pub overflow_add-c : goal.overflow_add-c
 overflow_add-c c = let z = counting_asked c.requires.ask_short c.requires.ask_counting in omega (arith, z.behind, z.few)

@@ -3,9 +3,7 @@ use Rattle.eval_filters.specs.Children.{children_none, star_bound, star_next, st
 use Rattle.eval_laws.specs.Items.{segments_in}
 use borrow.Author.Tests.{eqb-true}
 use native.Mathlib.Omega.{arith}
-use mathlib.Core.Path.{◌≡◌, sym, ◌∙◌}
-use borrow.Author.Rules.{rules}
-use Rattle.eval_filters.proofs.children.counts_children.Lts as lts
+use mathlib.Core.Path.{sym, ◌∙◌}
 use Rattle.eval_filters.proofs.children.counts_children.Goals as goal
 
 pub bounds-plan-c : goal.bounds-plan-c

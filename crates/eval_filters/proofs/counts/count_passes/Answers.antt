@@ -4,8 +4,6 @@ use mir.ValLaws.{to_z_pos}
 use mir.Syntax.{w64}
 use Rattle.eval_filters.specs.Keeps.{count_bound, count_small, count_ints}
 use native.Mathlib.Omega.{arith}
-use borrow.Author.Rules.{rules}
-use Rattle.eval_filters.proofs.counts.count_passes.Lts as lts
 use Rattle.number_integers.specs.Signs.{back}
 use Rattle.eval_filters.proofs.counts.count_passes.Goals as goal
 

@@ -3,8 +3,6 @@ use borrow.Author.Tests.{eqb-true, not-false}
 use Rattle.eval_front.specs.Heads.{head_of}
 use Rattle.eval_filters.specs.Keeps.{none_counts, counts_at}
 use native.Mathlib.Omega.{arith}
-use borrow.Author.Rules.{rules}
-use Rattle.eval_filters.proofs.counts.read_counts.Lts as lts
 use Rattle.eval_filters.proofs.counts.read_counts.Goals as goal
 
 pub returns-then-z-p : goal.returns-then-z-p

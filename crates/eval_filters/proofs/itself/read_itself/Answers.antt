@@ -1,8 +1,6 @@
 -- `read_itself` meets its contract: each test that it passes says a part.
 use borrow.Author.Tests.{eqb-true, not-false}
 use Rattle.eval_filters.specs.Itself.{none_itself, itself_at}
-use borrow.Author.Rules.{rules}
-use Rattle.eval_filters.proofs.itself.read_itself.Lts as lts
 use Rattle.eval_filters.proofs.itself.read_itself.Goals as goal
 
 pub returns-then-z-p : goal.returns-then-z-p

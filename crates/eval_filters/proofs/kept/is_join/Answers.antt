@@ -1,8 +1,5 @@
 -- `is_join` meets its contract.
 use Rattle.eval_filters.specs.Keeps.{join_below, join_from}
-use native.Mathlib.Omega.{arith}
-use borrow.Author.Rules.{rules}
-use Rattle.eval_filters.proofs.kept.is_join.Lts as lts
 use Rattle.eval_filters.proofs.kept.is_join.Goals as goal
 
 pub returns-then-k-lt-AND : goal.returns-then-k-lt-AND

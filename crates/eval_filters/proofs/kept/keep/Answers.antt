@@ -1,8 +1,6 @@
 -- `keep` meets its contract.
 use Rattle.eval_filters.specs.Ways.{members_way}
 use native.Mathlib.Omega.{arith}
-use borrow.Author.Rules.{rules}
-use Rattle.eval_filters.proofs.kept.keep.Lts as lts
 use Rattle.eval_filters.proofs.kept.keep.Goals as goal
 
 pub keep_counts-requires : goal.keep_counts-requires

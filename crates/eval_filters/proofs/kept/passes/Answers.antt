@@ -2,8 +2,6 @@
 use Rattle.eval_filters.specs.Keeps.{Joins, pair_asked, pair_room, tested, not_told, and_asked, and_done, and_false, or_true, or_asked, or_done}
 use mathlib.Core.Path.{refl}
 use native.Mathlib.Omega.{arith}
-use borrow.Author.Rules.{rules}
-use Rattle.eval_filters.proofs.kept.passes.Lts as lts
 use Rattle.eval_filters.proofs.kept.passes.Goals as goal
 
 pub holds-h-requires : goal.holds-h-requires

@@ -1,8 +1,6 @@
 -- `push_tail` meets its contract: the node itself, or what is found under the name.
 use native.Mathlib.Omega.{arith}
 use Rattle.eval_filters.specs.Keeps.{tail_named, tail_one, pushed_end, pushed_lost, pushed_name}
-use borrow.Author.Rules.{rules}
-use Rattle.eval_filters.proofs.kept.push_tail.Lts as lts
 use Rattle.eval_filters.proofs.kept.push_tail.Goals as goal
 
 pub returns-then-tail-eq0 : goal.returns-then-tail-eq0

@@ -1,8 +1,6 @@
 -- `read_alone` meets its contract.
 use Rattle.eval_filters.specs.Keeps.{tail_end}
 use native.Mathlib.Omega.{arith}
-use borrow.Author.Rules.{rules}
-use Rattle.eval_filters.proofs.kept.read_alone.Lts as lts
 use Rattle.eval_filters.proofs.kept.read_alone.Goals as goal
 
 pub returns-then-v : goal.returns-then-v

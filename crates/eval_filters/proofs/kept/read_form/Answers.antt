@@ -1,7 +1,5 @@
 -- `read_form` meets its contract.
 use native.Mathlib.Omega.{arith}
-use borrow.Author.Rules.{rules}
-use Rattle.eval_filters.proofs.kept.read_form.Lts as lts
 use Rattle.eval_filters.proofs.kept.read_form.Goals as goal
 
 pub read_alone-requires : goal.read_alone-requires

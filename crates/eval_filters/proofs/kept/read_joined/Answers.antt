@@ -4,8 +4,6 @@ use borrow.Author.Tests.{eqb-true, not-false}
 use Rattle.eval_front.specs.Fronts.{never}
 use Rattle.eval_filters.specs.Keeps.{join_kind_lem}
 use native.Mathlib.Omega.{arith}
-use borrow.Author.Rules.{rules}
-use Rattle.eval_filters.proofs.kept.read_joined.Lts as lts
 use mathlib.Core.Path.{ap}
 use mathlib.Core.Bool.{not}
 use Rattle.eval_filters.proofs.kept.read_joined.Goals as goal

@@ -2,9 +2,6 @@
 use borrow.Author.Tests.{eqb-true}
 use Rattle.eval_front.specs.Fronts.{never}
 use Rattle.eval_filters.specs.Keeps.{pair_alone, pair_joined}
-use native.Mathlib.Omega.{arith}
-use borrow.Author.Rules.{rules}
-use Rattle.eval_filters.proofs.kept.read_pair.Lts as lts
 use Rattle.eval_filters.proofs.kept.read_pair.Goals as goal
 
 pub returns-then-left-eq0 : goal.returns-then-left-eq0

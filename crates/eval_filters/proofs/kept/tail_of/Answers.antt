@@ -1,8 +1,5 @@
 -- `tail_of` meets its contract.
 use Rattle.eval_filters.specs.Keeps.{tail_end, tail_name, tail_other}
-use native.Mathlib.Omega.{arith}
-use borrow.Author.Rules.{rules}
-use Rattle.eval_filters.proofs.kept.tail_of.Lts as lts
 use Rattle.eval_filters.proofs.kept.tail_of.Goals as goal
 
 pub returns-then-plan-rest-eq-END : goal.returns-then-plan-rest-eq-END

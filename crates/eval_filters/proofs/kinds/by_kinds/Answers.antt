@@ -1,13 +1,10 @@
 -- `by_kinds` meets its contract.
 use native.Mathlib.Omega.{arith}
 use Prim.Native.Nat.{ℕ}
-use mathlib.Core.Path.{◌≡◌, sym, subst}
-use mathlib.Core.Bool.{Bool}
+use mathlib.Core.Path.{sym, subst}
 use Rattle.eval_items.specs.LeafLaws.{literal_room}
 use Rattle.eval_filters.specs.Tests.{DoneNode}
 use Rattle.eval_filters.specs.Kinds.{differs_done}
-use borrow.Author.Rules.{rules}
-use Rattle.eval_filters.proofs.kinds.by_kinds.Lts as lts
 use Rattle.eval_filters.proofs.kinds.by_kinds.Goals as goal
 
 pub bounds-plan-q : goal.bounds-plan-q

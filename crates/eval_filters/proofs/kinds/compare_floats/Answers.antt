@@ -1,7 +1,5 @@
 -- `compare_floats` meets its contract.
 use Rattle.eval_filters.specs.Numbers.{float_is, numbers_low, numbers_high}
-use borrow.Author.Rules.{rules}
-use Rattle.eval_filters.proofs.kinds.compare_floats.Lts as lts
 use Rattle.eval_filters.proofs.kinds.compare_floats.Goals as goal
 
 pub returns-then-op-le-LE : goal.returns-then-op-le-LE

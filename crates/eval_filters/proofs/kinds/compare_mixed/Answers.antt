@@ -2,8 +2,6 @@
 use mir.Syntax.{w64}
 use mir.ValLaws.{to_z-of_z}
 use Rattle.eval_filters.specs.Numbers.{integer_at, float_is, numbers_low, numbers_high}
-use borrow.Author.Rules.{rules}
-use Rattle.eval_filters.proofs.kinds.compare_mixed.Lts as lts
 use Rattle.eval_filters.proofs.kinds.compare_mixed.Goals as goal
 
 pub returns-then-op-le-LE : goal.returns-then-op-le-LE

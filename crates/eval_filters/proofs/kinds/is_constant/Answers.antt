@@ -1,6 +1,5 @@
 -- `is_constant` meets its contract.
 use Rattle.eval_filters.specs.Kinds.{constant_no, constant_yes, constant_none}
-use Rattle.eval_filters.proofs.kinds.is_constant.Lts as lts
 use Rattle.eval_filters.proofs.kinds.is_constant.Goals as goal
 
 pub returns-then-b-eq0 : goal.returns-then-b-eq0

@@ -2,7 +2,6 @@
 use native.Mathlib.Omega.{arith}
 use Rattle.eval_values.specs.Floats.{bits_number}
 use Rattle.eval_items.specs.LeafLaws.{literal_room, done_float}
-use Rattle.eval_filters.proofs.kinds.literal_float.Lts as lts
 use Rattle.eval_filters.proofs.kinds.literal_float.Goals as goal
 
 pub overflow_add-q : goal.overflow_add-q

@@ -2,7 +2,6 @@
 use native.Mathlib.Omega.{arith}
 use mathlib.Core.Path.{◌∙◌}
 use Rattle.eval_items.specs.LeafLaws.{literal_room, done_integer}
-use Rattle.eval_filters.proofs.kinds.literal_int.Lts as lts
 use Rattle.number_integers.specs.Signs.{back}
 use Rattle.eval_filters.proofs.kinds.literal_int.Goals as goal
 

@@ -1,9 +1,7 @@
 -- `node_float` meets its contract.
-use native.Mathlib.Omega.{arith}
 use Rattle.eval_values.specs.Values.{of_float_lem}
 use Rattle.eval_values.specs.Floats.{bits_number}
 use borrow.Author.Rules.{rules}
-use Rattle.eval_filters.proofs.kinds.node_float.Lts as lts
 use Rattle.eval_filters.proofs.kinds.node_float.Goals as goal
 
 pub float-requires : goal.float-requires

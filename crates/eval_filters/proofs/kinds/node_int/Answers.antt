@@ -1,8 +1,6 @@
 -- `node_int` meets its contract.
 use mathlib.Core.Path.{◌∙◌}
 use Rattle.eval_values.specs.Values.{of_integer_lem}
-use borrow.Author.Rules.{rules}
-use Rattle.eval_filters.proofs.kinds.node_int.Lts as lts
 use Rattle.number_integers.specs.Signs.{back}
 use Rattle.eval_filters.proofs.kinds.node_int.Goals as goal
 

@@ -3,8 +3,6 @@ use native.Mathlib.Omega.{arith}
 use mathlib.Core.Path.{refl}
 use Rattle.eval_items.specs.LeafLaws.{literal_room}
 use Rattle.eval_filters.specs.Kinds.{constant_done}
-use borrow.Author.Rules.{rules}
-use Rattle.eval_filters.proofs.kinds.same_constant.Lts as lts
 use Rattle.eval_filters.proofs.kinds.same_constant.Goals as goal
 
 pub overflow_add-q : goal.overflow_add-q

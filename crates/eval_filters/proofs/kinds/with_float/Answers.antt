@@ -8,8 +8,6 @@ use Rattle.eval_filters.specs.Tests.{operands_done, compares_as}
 use Rattle.eval_filters.specs.Kinds.{unlike_done}
 use Rattle.eval_items.specs.LeafLaws.{done_float}
 use Rattle.eval_values.specs.declared.Operand.TheVariants.{Int, Float}
-use borrow.Author.Rules.{rules}
-use Rattle.eval_filters.proofs.kinds.with_float.Lts as lts
 use Rattle.eval_filters.proofs.kinds.with_float.Goals as goal
 
 pub compare_floats-requires : goal.compare_floats-requires

@@ -8,8 +8,6 @@ use Rattle.eval_filters.specs.Tests.{operands_done, compares_as}
 use Rattle.eval_filters.specs.Kinds.{unlike_done}
 use Rattle.eval_items.specs.LeafLaws.{done_integer}
 use Rattle.eval_values.specs.declared.Operand.TheVariants.{Int, Float}
-use borrow.Author.Rules.{rules}
-use Rattle.eval_filters.proofs.kinds.with_integer.Lts as lts
 use Rattle.eval_filters.proofs.kinds.with_integer.Goals as goal
 
 pub compare_turned-requires : goal.compare_turned-requires

@@ -1,7 +1,5 @@
 -- `as_operands` meets its contract.
 use Rattle.eval_filters.specs.Pairs.{nodes_done}
-use borrow.Author.Rules.{rules}
-use Rattle.eval_filters.proofs.pairs.as_operands.Lts as lts
 use Rattle.eval_filters.proofs.pairs.as_operands.Goals as goal
 
 pub compare_values-requires : goal.compare_values-requires

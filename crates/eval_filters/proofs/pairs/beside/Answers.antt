@@ -5,8 +5,6 @@ use mathlib.Core.Path.{refl}
 use borrow.Author.Tests.{not-false}
 use Rattle.eval_filters.specs.Queries.{begins_in}
 use Rattle.eval_filters.specs.Pairs.{beside_none, beside_in, beside_query, beside_past, beside_operator, beside_done}
-use borrow.Author.Rules.{rules}
-use Rattle.eval_filters.proofs.pairs.beside.Lts as lts
 use Rattle.eval_filters.proofs.pairs.beside.Goals as goal
 
 pub returns-then-e-z : goal.returns-then-e-z

@@ -1,8 +1,6 @@
 -- `compare_first` meets its contract.
 use native.Mathlib.Omega.{arith}
 use Rattle.eval_filters.specs.Pairs.{first_none, second_none, both_some}
-use borrow.Author.Rules.{rules}
-use Rattle.eval_filters.proofs.pairs.compare_first.Lts as lts
 use Rattle.eval_filters.proofs.pairs.compare_first.Goals as goal
 
 pub returns-then-n-eq0 : goal.returns-then-n-eq0

@@ -1,7 +1,7 @@
 -- `compare_nodes` meets its contract.
 use Prim.Native.Nat.{ℕ}
 use mathlib.Core.List.{[]}
-use mathlib.Core.Path.{refl, sym, ap, subst}
+use mathlib.Core.Path.{sym, ap, subst}
 use Rattle.definition.specs.Tables.{node_at}
 use Rattle.definition.specs.Compare.{Value, node_value}
 use Rattle.number_integers.specs.Signs.{back}
@@ -9,8 +9,6 @@ use Rattle.eval_values.specs.Alike.{Compares}
 use Rattle.eval_values.specs.declared.Operand.TheVariants.{Int, Float}
 use Rattle.eval_filters.specs.Tests.{compares_as}
 use Rattle.eval_filters.specs.Pairs.{nodes_done}
-use borrow.Author.Rules.{rules}
-use Rattle.eval_filters.proofs.pairs.compare_nodes.Lts as lts
 use Rattle.eval_filters.proofs.pairs.compare_nodes.Goals as goal
 
 pub returns-then-k-eq-KIND_INTEGER : goal.returns-then-k-eq-KIND_INTEGER

@@ -2,8 +2,6 @@
 use mathlib.Core.Path.{refl}
 use mathlib.Core.Bool.{true}
 use Rattle.eval_filters.specs.Pairs.{texts_inside, texts_same}
-use borrow.Author.Rules.{rules}
-use Rattle.eval_filters.proofs.pairs.same_texts.Lts as lts
 use Rattle.eval_filters.proofs.pairs.same_texts.Goals as goal
 
 pub same_part-requires : goal.same_part-requires

@@ -1,7 +1,5 @@
 -- `as_int` meets its contract.
 use Rattle.eval_front.specs.Fronts.{never}
-use borrow.Author.Rules.{rules}
-use Rattle.eval_filters.proofs.values.as_int.Lts as lts
 use Rattle.eval_filters.proofs.values.as_int.Goals as goal
 
 pub returns-in-Nothing : goal.returns-in-Nothing

@@ -5,7 +5,6 @@ use Rattle.number_integers.specs.Signs.{back}
 use Rattle.eval_filters.specs.Tests.{compares_as}
 use Rattle.eval_filters.specs.Values.{integers_compare}
 use borrow.Author.Rules.{rules}
-use Rattle.eval_filters.proofs.values.compare_operands.Lts as lts
 use Rattle.eval_filters.proofs.values.compare_operands.Goals as goal
 
 pub returns-then-b : goal.returns-then-b

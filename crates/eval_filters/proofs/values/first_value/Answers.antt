@@ -1,6 +1,5 @@
 -- `first_value` meets its contract.
 use Rattle.eval_filters.specs.Values.{first_one, first_nothing}
-use Rattle.eval_filters.proofs.values.first_value.Lts as lts
 use Rattle.eval_filters.proofs.values.first_value.Goals as goal
 
 pub get_value-requires : goal.get_value-requires

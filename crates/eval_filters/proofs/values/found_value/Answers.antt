@@ -3,8 +3,6 @@ use native.Mathlib.Omega.{arith}
 use mir.Syntax.{w64}
 use mir.ValLaws.{to_z_pos}
 use Rattle.eval_filters.specs.Values.{found_counted, found_valued, found_headed}
-use borrow.Author.Rules.{rules}
-use Rattle.eval_filters.proofs.values.found_value.Lts as lts
 use Rattle.eval_filters.proofs.values.found_value.Goals as goal
 
 pub returns-then-mode-eq-COUNT : goal.returns-then-mode-eq-COUNT

@@ -6,8 +6,6 @@ use borrow.Author.Tests.{not-false}
 use Rattle.eval_values.specs.Values.{inside_of, parts_of}
 use Rattle.eval_items.specs.OpLaws.{length_small}
 use Rattle.eval_filters.specs.Values.{operand_in, operand_next, operand_length}
-use borrow.Author.Rules.{rules}
-use Rattle.eval_filters.proofs.values.measured.Lts as lts
 use Rattle.eval_filters.proofs.values.measured.Goals as goal
 
 pub bounds-plan-z : goal.bounds-plan-z

@@ -1,7 +1,6 @@
 -- `only_value` meets its contract.
 use native.Mathlib.Omega.{arith}
 use Rattle.eval_filters.specs.Values.{only_one, only_null}
-use Rattle.eval_filters.proofs.values.only_value.Lts as lts
 use Rattle.eval_filters.proofs.values.only_value.Goals as goal
 
 pub get_value-requires : goal.get_value-requires

@@ -3,8 +3,6 @@ use mathlib.Core.Path.{sym, ◌∙◌}
 use borrow.Author.Tests.{not-false}
 use Rattle.eval_filters.specs.Tests.{literal_kind_lem}
 use Rattle.eval_filters.specs.Values.{operand_none, operand_in, value_literal, value_literal_past, literal_operand_lem}
-use borrow.Author.Rules.{rules}
-use Rattle.eval_filters.proofs.values.operand.Lts as lts
 use mathlib.Core.Path.{ap}
 use mathlib.Core.Bool.{not}
 use Rattle.eval_filters.proofs.values.operand.Goals as goal

@@ -4,8 +4,6 @@ use mathlib.Core.Path.{refl}
 use borrow.Author.Tests.{not-false}
 use Rattle.eval_filters.specs.Queries.{begins_in}
 use Rattle.eval_filters.specs.Values.{operand_none, operand_in, value_query, value_past, value_asked, value_done}
-use borrow.Author.Rules.{rules}
-use Rattle.eval_filters.proofs.values.query_value.Lts as lts
 use Rattle.eval_filters.proofs.values.query_value.Goals as goal
 
 pub bounds-plan-q : goal.bounds-plan-q

@@ -2,8 +2,6 @@
 use native.Mathlib.Omega.{arith}
 use borrow.Author.Tests.{not-false}
 use Rattle.eval_filters.specs.Values.{test_none, test_operand_lem, operand_next, both_in, both_operator, both_done}
-use borrow.Author.Rules.{rules}
-use Rattle.eval_filters.proofs.values.value_test.Lts as lts
 use Rattle.eval_filters.proofs.values.value_test.Goals as goal
 
 pub measured-a-requires : goal.measured-a-requires

@@ -1,6 +1,6 @@
 -- `get_by_index` meets its contract: the element at the place that the index has, or none.
 use native.Mathlib.Omega.{arith}
-use mathlib.Core.Path.{sym, ◌∙◌}
+use mathlib.Core.Path.{sym, ◌∙◌, refl}
 use Rattle.eval_items.proofs.Signs.{ranged}
 use Rattle.eval_items.specs.LeafLaws.{index_asked, index_inside, few_children, index_else, index_found, index_nothing, index_room}
 use Rattle.number_integers.specs.Signs.{back}
@@ -28,14 +28,14 @@ pub index_place-requires : goal.index_place-requires
 index_place-requires c = (omega (arith, c.child_count-count.ensures, few_children c.requires), ranged c.int64-i.result _ c.int64-i.type_inv c.int64-i.ensures (index_inside c.requires))
 
 pub overflow_add-result : goal.overflow_add-result
-overflow_add-result c = omega (arith, index_room c.requires _ _ c.first_child-first.ensures c.child_count-count.ensures _ _ c.index_place.ensures _ c.in_some-index_place.is)
+overflow_add-result c = omega (arith, index_room c.requires _ _ c.first_child-first.ensures c.child_count-count.ensures _ _ c.in_ok-k.ensures _ refl)
 
-pub returns-in-At : goal.returns-in-At
-returns-in-At c =
-    index_found c.requires _ _ c.first_child-first.ensures c.child_count-count.ensures _ _ c.index_place.ensures
-    (sym c.kind.ensures ∙ c.if-kind-ne-KIND_LIST.false) (back c.int64-i.result c.int64-i.type_inv ∙ c.int64-i.ensures) _ c.in_some-index_place.is
+pub returns : goal.returns
+returns c =
+    index_found c.requires _ _ c.first_child-first.ensures c.child_count-count.ensures _ _ c.in_ok-k.ensures
+    (sym c.kind.ensures ∙ c.if-kind-ne-KIND_LIST.false) (back c.int64-i.result c.int64-i.type_inv ∙ c.int64-i.ensures) _ refl
 
-pub returns-in-Nothing : goal.returns-in-Nothing
-returns-in-Nothing c =
-    index_nothing c.requires _ _ c.first_child-first.ensures c.child_count-count.ensures _ _ c.index_place.ensures
-    (sym c.kind.ensures ∙ c.if-kind-ne-KIND_LIST.false) (back c.int64-i.result c.int64-i.type_inv ∙ c.int64-i.ensures) c.in-Nothing.is
+pub returns-in_err-k : goal.returns-in_err-k
+returns-in_err-k c =
+    rw c.from_residual.ensures (index_nothing c.requires _ _ c.first_child-first.ensures c.child_count-count.ensures _ _ c.in_err-k.ensures
+    (sym c.kind.ensures ∙ c.if-kind-ne-KIND_LIST.false) (back c.int64-i.result c.int64-i.type_inv ∙ c.int64-i.ensures) refl)
