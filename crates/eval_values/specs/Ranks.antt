@@ -1,8 +1,6 @@
 -- The order of two values, where there is one. Assumes nothing: these are definitions.
 use Rattle.std.specs.Prelude.{◌≡◌, refl, List, Bool as Bits, true, false, Option as Maybe, Some, None}
 use Rattle.std.specs.declared.cmp.Ordering.{Ordering as Rank}
-use Rattle.text.specs.declared.parts.Order.{Order as TextOrder}
-use Rattle.text.specs.declared.parts.Order.TheVariants as spelling
 use Rattle.std.specs.declared.cmp.Ordering.TheVariants.{Less, Equal, Greater}
 use Rattle.text.specs.Orders.{answer}
 use Prim.Native.Nat.{ℕ, Ordering}
@@ -19,11 +17,6 @@ abbrev pub ranked : Ordering → Maybe Rank
 ranked Ordering.lt = Some Less
 ranked Ordering.eq = Some Equal
 ranked Ordering.gt = Some Greater
-
-abbrev pub spelled : TextOrder → Rank
-spelled spelling.Less = Less
-spelled spelling.Equal = Equal
-spelled spelling.Greater = Greater
 
 abbrev pub rank_numbers : Option Fraction → Option Fraction → Maybe Rank
 rank_numbers none b = None
@@ -81,7 +74,7 @@ is_rank_equal (Some Equal) = true
 is_rank_equal (Some Greater) = false
 
 -- the rank of two texts, from the answer of the comparison of texts
-pub spelled_answer : (o : Ordering) → Some (spelled (answer o)) ≡ ranked o
+pub spelled_answer : (o : Ordering) → Some (answer o) ≡ ranked o
 spelled_answer Ordering.lt = refl
 spelled_answer Ordering.eq = refl
 spelled_answer Ordering.gt = refl

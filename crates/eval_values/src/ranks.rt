@@ -4,23 +4,12 @@ ghost use Rattle.std.proofs.Math.Option.{some};
 ghost use Rattle.std.specs.Float.Ieee.Scale.{finite};
 ghost use Rattle.definition.specs.Bytes.{part};
 ghost use Rattle.definition.specs.Compare.{whole_fraction, float_fraction};
-ghost use Rattle.eval_values.specs.Ranks.{rank_numbers, rank_texts, rank_in, ranked_is, spelled, is_rank_less, is_rank_equal};
+ghost use Rattle.eval_values.specs.Ranks.{rank_numbers, rank_texts, rank_in, ranked_is, is_rank_less, is_rank_equal};
 ghost use Rattle.eval_values.specs.Means.{Finite, Parts, Ranked, number_in, text_in};
 
 use crate::Operand;
 use std::cmp::Ordering;
 use text::parts;
-
-// The order of two texts.
-fn of_texts(o: parts::Order) -> Ordering
-    ensures { result ≡ spelled o }
-{
-    match o {
-        parts::Order::Less => Ordering::Less,
-        parts::Order::Equal => Ordering::Equal,
-        parts::Order::Greater => Ordering::Greater,
-    }
-}
 
 // An integer against a value.
 fn rank_int(a: i64, y: Operand) -> Option<Ordering>
@@ -54,8 +43,8 @@ fn rank_text(text: &[u8], pool: &[u8], s: &[u8], a: usize, n: usize, y: Operand)
     ensures { result ≡ rank_texts (some (part s.now a n)) (text_in text.now pool.now y) }
 {
     match y {
-        Operand::Pool(b, m) => Some(of_texts(parts::order_part(s, a, n, pool, b, m))),
-        Operand::Text(b, m) => Some(of_texts(parts::order_part(s, a, n, text, b, m))),
+        Operand::Pool(b, m) => Some(parts::order_part(s, a, n, pool, b, m)),
+        Operand::Text(b, m) => Some(parts::order_part(s, a, n, text, b, m)),
         _ => None,
     }
 }
