@@ -1,6 +1,6 @@
 -- What the functions ask and give that visit nodes with a query. Each answer holds for every form whose code stands there. P is the plan, L the pool, S the
 -- table, X the text. Assumes nothing: these are definitions.
-use Rattle.std.specs.Prelude.{ℕ, zero, suc, ◌+◌, ◌-◌, ◌≤◌, ◌<◌, ◌≡◌, List, [], ◌∷◌, length, get_or, Option, Some, None, Result, Ok, Err}
+use Rattle.std.specs.Prelude.{ℕ, zero, suc, ◌+◌, ◌-◌, ◌≤◌, ◌<◌, ◌≡◌, List, [], ◌∷◌, length, get_or, Some, None, Result, Ok, Err}
 use Rattle.definition.specs.Bytes.{number, part}
 use Rattle.definition.specs.Limits.{max_plan, max_nodes}
 use Rattle.definition.specs.Values.{Json}

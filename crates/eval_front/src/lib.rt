@@ -79,7 +79,10 @@ pub fn reach(plan: &[u8], pool: &[u8], table: &[u8], text: &[u8], node: usize, p
             q += 8;
         } else {
             if head != INDEX_HEAD {
-                return Reached { node: Some(m), pc: q };
+                return Reached {
+                    node: Some(m),
+                    pc: q,
+                };
             }
             let found = leaves::get_by_index(plan, pool, table, text, q + 3, m);
             let Some(k) = found else {
@@ -89,7 +92,10 @@ pub fn reach(plan: &[u8], pool: &[u8], table: &[u8], text: &[u8], node: usize, p
             q += 12;
         }
     }
-    Reached { node: Some(m), pc: q }
+    Reached {
+        node: Some(m),
+        pc: q,
+    }
 }
 
 // The same where a selection begins, called only there. There are two because a compiler puts a function into its caller where it has one only.
@@ -107,23 +113,35 @@ pub fn front(plan: &[u8], pool: &[u8], table: &[u8], text: &[u8], node: usize, p
             let n = bytes::word16(plan, rest + 6);
             let found = leaves::first_named(plan, pool, table, text, rest + 3, a, n, m);
             let Some(k) = found else {
-                return Reached { node: None, pc: rest };
+                return Reached {
+                    node: None,
+                    pc: rest,
+                };
             };
             m = k;
             rest += 8;
         } else {
             if head != INDEX_HEAD {
-                return Reached { node: Some(m), pc: rest };
+                return Reached {
+                    node: Some(m),
+                    pc: rest,
+                };
             }
             let found = leaves::get_by_index(plan, pool, table, text, rest + 3, m);
             let Some(k) = found else {
-                return Reached { node: None, pc: rest };
+                return Reached {
+                    node: None,
+                    pc: rest,
+                };
             };
             m = k;
             rest += 12;
         }
     }
-    Reached { node: Some(m), pc: rest }
+    Reached {
+        node: Some(m),
+        pc: rest,
+    }
 }
 
 // One node with the query at rest: pushed, or nothing, which gives the next place of the list; or what is left, with the list as it was.

@@ -1,5 +1,4 @@
 -- `push_each` meets its contract: the numbers that are left give the whole.
-use Prim.Native.Nat.{◌-◌}
 use Rattle.eval_front.specs.Loops.{InNumbers}
 use Rattle.eval_front.proofs.push_each.Given as goal
 

@@ -1,6 +1,5 @@
 -- `visit` meets its contract: the front of the query leads nowhere, to its end, or to more.
 use native.Mathlib.Omega.{arith}
-use borrow.Author.Tests.{not-true, not-false}
 use Rattle.eval_front.specs.Turns.{reached_in, visit_lost, visit_more, visit_end}
 use Rattle.eval_front.proofs.visit.Goals as goal
 
