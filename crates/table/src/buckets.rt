@@ -29,10 +29,8 @@ fn words_hash(s: &[u8]) -> usize
     ensures { (result ≡ folded 4 s.now (length s.now / 4) 0 0) × (result < hashes) }
 {
     let mut hash = 0;
-    let mut at = 0;
-    while 4 <= s.len() - at {
-        hash = mix(hash, bytes::word32(s, at));
-        at += 4;
+    for i in 0..s.len() / 4 {
+        hash = mix(hash, bytes::word32(s, 4 * i));
     }
     hash
 }
@@ -42,10 +40,8 @@ fn bytes_hash(s: &[u8]) -> usize
     ensures { (result ≡ folded 1 s.now (length s.now) 0 0) × (result < hashes) }
 {
     let mut hash = 0;
-    let mut at = 0;
-    while at < s.len() {
+    for at in 0..s.len() {
         hash = mix(hash, bytes::word8(s, at));
-        at += 1;
     }
     hash
 }

@@ -36,12 +36,10 @@ pub fn key_differs(table: &[u8], text: &[u8], node: usize, from: usize) -> bool
     let start = records::key_start(table, node) as usize;
     let end = start + records::key_length(table, node) as usize;
     let key = &text[start..end];
-    let mut j = from;
-    while j < node {
+    for j in from..node {
         if same_key(table, text, j, key) {
             return false;
         }
-        j += 1;
     }
     true
 }

@@ -201,14 +201,12 @@ fn root_texts(table: &[u8], text: &[u8], end: usize) -> usize
     requires known { Known 1 text.now × RightBelow table.now text.now 1 }
     ensures { Front table.now text.now result }
 {
-    let mut node = 1;
-    while node < end {
+    for node in 1..end {
         if !rules::root_text_right(table, text, node) {
             return node;
         }
-        node += 1;
     }
-    node
+    end
 }
 
 // The node that the pass begins with: 1, or where the root is a list and the text is UTF-8, the one behind the texts in front.

@@ -111,13 +111,11 @@ pub fn over_records(table: &[u8]) -> Result<(), usize>
 {
     let count = table.len() / RECORD;
     let mut first = 1;
-    let mut node = 0;
-    while node < count {
+    for node in 0..count {
         if !record_right(table, node, first) {
             return Err(node);
         }
         first += records::child_count(table, node) as usize;
-        node += 1;
     }
     Ok(())
 }

@@ -54,10 +54,8 @@ fn least_start(table: &[u8], node: usize) -> usize
 {
     let count = table.len() / RECORD;
     let mut least = node + 1;
-    let mut map = 0;
-    while map < count {
+    for map in 0..count {
         least = lesser_start(table, node, map, least);
-        map += 1;
     }
     least
 }
@@ -98,12 +96,10 @@ pub fn over_texts(table: &[u8], text: &[u8]) -> Result<(), TableRefusal>
     ensures { reported result ≡ report_table (by_text (least_text table.now text.now)) }
 {
     let count = table.len() / RECORD;
-    let mut node = 0;
-    while node < count {
+    for node in 0..count {
         if !text_right(table, text, node) {
             return Err(TableRefusal::WrongText(node));
         }
-        node += 1;
     }
     Ok(())
 }

@@ -66,14 +66,12 @@ fn texts(table: &[u8], text: &[u8], start: usize, end: usize, parent: usize, dep
     requires { ListedFrom table.now text.now parent depth start end × Known 1 text.now }
     ensures { Behind table.now text.now start end result }
 {
-    let mut node = start;
-    while node < end {
+    for node in start..end {
         if !rules::text_item_right(table, text, node, parent, depth) {
             return node;
         }
-        node += 1;
     }
-    node
+    end
 }
 
 // The same as a call, with registers of its own (docs/DECISIONS.md, 311).

@@ -1,4 +1,4 @@
--- The loop's invariant: the bytes that are left, mixed into the hash, give the hash of all. The measure is what is left.
+-- The loop's invariant: the bytes that are left, mixed into the hash, give the hash of all.
 use native.Mathlib.Omega.{arith}
 use mathlib.Core.Path.{◌≡◌, sym, ap, ◌∙◌}
 use Prim.Native.Nat.{ℕ, ◌+◌, ◌-◌, ◌≤◌, ◌<◌}
@@ -17,12 +17,6 @@ word8-requires c = omega arith
 
 pub mix-hash-requires : goal.mix-hash-requires
 mix-hash-requires c = (c.loop-at.invariant.1, omega arith)
-
-pub overflow_add-at : goal.overflow_add-at
-overflow_add-at c = omega arith
-
-pub loop-at-smaller : goal.loop-at-smaller
-loop-at-smaller c = omega arith
 
 pub loop-at-preserved : goal.loop-at-preserved
 loop-at-preserved c = (omega arith, c.mix-hash.ensures.1, sym (fold_on 1 c.args.s.now (length c.args.s.now - c.loop-at.at) (length c.args.s.now - (c.loop-at.at + 1)) c.loop-at.at c.loop-at.hash c.mix-hash.result c.word8.result (omega arith) c.word8.ensures.is c.mix-hash.ensures.0) ∙ c.loop-at.invariant.2)

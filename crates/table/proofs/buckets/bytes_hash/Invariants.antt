@@ -1,4 +1,4 @@
--- The loop's invariant: the bytes that are left, mixed into the hash, give the hash of all. The measure is what is left.
+-- The loop's invariant: the bytes that are left, mixed into the hash, give the hash of all.
 use native.Mathlib.Omega.{arith}
 use mathlib.Core.Path.{◌≡◌, sym, ap, ◌∙◌}
 use Prim.Native.Nat.{ℕ, ◌+◌, ◌-◌, ◌≤◌, ◌<◌}
@@ -9,6 +9,3 @@ use Rattle.table.proofs.buckets.bytes_hash.Given as goal
 
 abbrev pub invariant-loop-at : goal.invariant-loop-at
 invariant-loop-at l = (l.at ≤ length l.s) × (l.hash < hashes) × (folded 1 l.s (length l.s - l.at) l.at l.hash ≡ folded 1 l.s (length l.s) 0 0)
-
-abbrev pub decreases-loop-at : goal.decreases-loop-at
-decreases-loop-at l = length l.s - l.at

@@ -1,32 +1,30 @@
--- The loop's invariant: the words that are left, mixed into the hash, give the hash of all. The measure is what is left.
+-- The loop's invariant: the words that are left, mixed into the hash, give the hash of all.
 use native.Mathlib.Omega.{arith}
 use mathlib.Core.Path.{◌≡◌, sym, ap, ◌∙◌}
-use Prim.Native.Nat.{ℕ, ◌+◌, ◌-◌, ◌/◌, ◌≤◌, ◌<◌}
+use Prim.Native.Nat.{ℕ, ◌+◌, ◌-◌, ◌*◌, ◌/◌, ◌≤◌, ◌<◌}
 use lib.ListN.{length}
 use Rattle.table.specs.Buckets.{hashes, folded}
 use Rattle.table.proofs.Folds.{fold_on, fold_end}
 use borrow.Author.Rules.{rules}
 use Rattle.table.proofs.buckets.words_hash.Goals as goal
 
-pub loop-at-init : goal.loop-at-init
-loop-at-init c =
-    let e : length c.args.s.now - 0 ≡ length c.args.s.now = omega arith in
-    (omega arith, omega arith, ap (λ (n : ℕ). folded 4 c.args.s.now (n / 4) 0 0) e)
+pub loop-i-init : goal.loop-i-init
+loop-i-init c =
+    let e : length c.args.s.now / 4 - 0 ≡ length c.args.s.now / 4 = omega arith in
+    (omega arith, ap (λ (n : ℕ). folded 4 c.args.s.now n 0 0) e)
 
 pub word32-requires : goal.word32-requires
 word32-requires c = omega arith
 
 pub mix-hash-requires : goal.mix-hash-requires
-mix-hash-requires c = (c.loop-at.invariant.1, c.word32.ensures.fits)
+mix-hash-requires c = (c.loop-i.invariant.0, c.word32.ensures.fits)
 
-pub overflow_add-at : goal.overflow_add-at
-overflow_add-at c = omega arith
-
-pub loop-at-smaller : goal.loop-at-smaller
-loop-at-smaller c = omega arith
-
-pub loop-at-preserved : goal.loop-at-preserved
-loop-at-preserved c = (omega arith, c.mix-hash.ensures.1, sym (fold_on 4 c.args.s.now ((length c.args.s.now - c.loop-at.at) / 4) ((length c.args.s.now - (c.loop-at.at + 4)) / 4) c.loop-at.at c.loop-at.hash c.mix-hash.result c.word32.result (omega arith) c.word32.ensures.is c.mix-hash.ensures.0) ∙ c.loop-at.invariant.2)
+pub loop-i-preserved : goal.loop-i-preserved
+loop-i-preserved c =
+    let n = length c.args.s.now / 4 in
+    let e : 4 * c.loop-i.i + 4 ≡ 4 * (c.loop-i.i + 1) = omega arith in
+    let f = fold_on 4 c.args.s.now (n - c.loop-i.i) (n - (c.loop-i.i + 1)) (4 * c.loop-i.i) c.loop-i.hash c.mix-hash.result c.word32.result (omega arith) c.word32.ensures.is c.mix-hash.ensures.0 in
+    (c.mix-hash.ensures.1, ap (λ (at : ℕ). folded 4 c.args.s.now (n - (c.loop-i.i + 1)) at c.mix-hash.result) (sym e) ∙ sym f ∙ c.loop-i.invariant.1)
 
 pub returns : goal.returns
-returns c = (sym (fold_end 4 c.args.s.now ((length c.args.s.now - c.loop-at.at) / 4) c.loop-at.at c.loop-at.hash (omega arith)) ∙ c.loop-at.invariant.2, c.loop-at.invariant.1)
+returns c = (sym (fold_end 4 c.args.s.now (length c.args.s.now / 4 - c.loop-i.i) (4 * c.loop-i.i) c.loop-i.hash (omega arith)) ∙ c.loop-i.invariant.1, c.loop-i.invariant.0)

@@ -29,12 +29,6 @@ returns-then-same_key c =
     let s = ap (same_bytes (key_bytes c.args.table.now c.args.text.now c.loop-j.j)) (sym c.loop-j.invariant.1) ∙ sym c.same_key.ensures ∙ c.if-same_key.true in
     sym (sym c.loop-j.invariant.2 ∙ differs_same c.args.table.now c.args.text.now c.args.node c.loop-j.j c.loop-j-test.true s)
 
-pub overflow_add-j : goal.overflow_add-j
-overflow_add-j c = omega arith
-
-pub loop-j-smaller : goal.loop-j-smaller
-loop-j-smaller c = omega arith
-
 pub loop-j-preserved : goal.loop-j-preserved
 loop-j-preserved c =
     let s = ap (same_bytes (key_bytes c.args.table.now c.args.text.now c.loop-j.j)) (sym c.loop-j.invariant.1) ∙ sym c.same_key.ensures ∙ c.if-same_key.false in

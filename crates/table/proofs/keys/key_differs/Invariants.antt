@@ -11,6 +11,3 @@ use Rattle.table.proofs.keys.key_differs.Given as goal
 
 abbrev pub invariant-loop-j : goal.invariant-loop-j
 invariant-loop-j l = (l.from ≤ l.j) × (l.key ≡ key_bytes l.table l.text l.node) × (key_differs l.table l.text l.node l.j (l.node - l.j) ≡ key_differs l.table l.text l.node l.from (l.node - l.from))
-
-abbrev pub decreases-loop-j : goal.decreases-loop-j
-decreases-loop-j l = l.node - l.j

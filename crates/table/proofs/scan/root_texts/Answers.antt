@@ -2,8 +2,8 @@
 use native.Mathlib.Omega.{arith}
 use borrow.Author.Tests.{not-false}
 use mathlib.Core.Bool.{true}
-use mathlib.Core.Path.{◌≡◌}
-use Prim.Native.Nat.{◌-◌, ◌≤◌}
+use mathlib.Core.Path.{◌≡◌, subst}
+use Prim.Native.Nat.{ℕ, ◌-◌, ◌≤◌}
 use Rattle.table.specs.Words.{Front}
 use Rattle.table.proofs.Front.{front_root, front_next}
 use borrow.Author.Rules.{rules}
@@ -22,16 +22,12 @@ root_text_right-requires c = record { root_list = (c.requires.root_list.0, omega
 pub returns-then-not-root_text_right : goal.returns-then-not-root_text_right
 returns-then-not-root_text_right c = c.loop-node.invariant.1
 
-pub overflow_add-node : goal.overflow_add-node
-overflow_add-node c = search rules
-
-pub loop-node-smaller : goal.loop-node-smaller
-loop-node-smaller c = omega arith
-
 pub loop-node-preserved : goal.loop-node-preserved
 loop-node-preserved c =
     let y : c.root_text_right.result ≡ true = not-false _ (ap not c.if-not-root_text_right.false) in
     (omega arith, front_next c.args.table.now c.args.text.now c.loop-node.node c.requires.root_list.0 c.loop-node.invariant.1 (omega (arith, c.requires.root_list.1)) (c.root_text_right.ensures.node_value y) (c.root_text_right.ensures.node_value_2 y))
 
 pub returns : goal.returns
-returns c = c.loop-node.invariant.1
+returns c =
+    let e : c.loop-node.node ≡ c.args.end = omega (arith, c.loop-node.invariant.0) in
+    subst (λ (n : ℕ). Front c.args.table.now c.args.text.now n) e c.loop-node.invariant.1

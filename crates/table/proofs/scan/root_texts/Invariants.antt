@@ -11,6 +11,3 @@ use Rattle.table.proofs.scan.root_texts.Given as goal
 
 abbrev pub invariant-loop-node : goal.invariant-loop-node
 invariant-loop-node l = (l.node ≤ l.end) × Front l.table l.text l.node
-
-abbrev pub decreases-loop-node : goal.decreases-loop-node
-decreases-loop-node l = l.end - l.node

@@ -32,12 +32,6 @@ overflow_add-first c =
     let w = record_next c.args.table.now c.loop-node.node c.loop-node.first c.child_count.result c.loop-node.invariant.0 c.child_count.ensures c.loop-node.invariant.1 c.loop-node.invariant.2 (sym c.record_right.ensures ∙ not-false _ (ap not c.if-not-record_right.false)) in
     omega (arith, w.1, c.requires.1)
 
-pub overflow_add-node : goal.overflow_add-node
-overflow_add-node c = omega arith
-
-pub loop-node-smaller : goal.loop-node-smaller
-loop-node-smaller c = omega arith
-
 pub loop-node-preserved : goal.loop-node-preserved
 loop-node-preserved c = record_next c.args.table.now c.loop-node.node c.loop-node.first c.child_count.result c.loop-node.invariant.0 c.child_count.ensures c.loop-node.invariant.1 c.loop-node.invariant.2 (sym c.record_right.ensures ∙ not-false _ (ap not c.if-not-record_right.false))
 

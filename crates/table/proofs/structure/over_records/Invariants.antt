@@ -14,6 +14,3 @@ use Rattle.table.proofs.structure.over_records.Given as goal
 
 abbrev pub invariant-loop-node : goal.invariant-loop-node
 invariant-loop-node l = (l.first ≡ first_child l.table l.node) × (l.first ≤ node_count l.table) × RecordsBelow l.table l.node
-
-abbrev pub decreases-loop-node : goal.decreases-loop-node
-decreases-loop-node l = l.count - l.node

@@ -16,12 +16,6 @@ loop-map-init c = (start_none c.args.table.now c.args.node, omega arith)
 pub lesser_start-least-requires : goal.lesser_start-least-requires
 lesser_start-least-requires c = (omega arith, c.loop-map.invariant.0)
 
-pub overflow_add-map : goal.overflow_add-map
-overflow_add-map c = omega arith
-
-pub loop-map-smaller : goal.loop-map-smaller
-loop-map-smaller c = omega arith
-
 pub loop-map-preserved : goal.loop-map-preserved
 loop-map-preserved c = (c.lesser_start-least.ensures, omega arith)
 

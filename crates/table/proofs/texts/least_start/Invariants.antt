@@ -9,6 +9,3 @@ use Rattle.table.proofs.texts.least_start.Given as goal
 
 abbrev pub invariant-loop-map : goal.invariant-loop-map
 invariant-loop-map l = (l.least ≡ least_start l.table l.node l.map) × (l.map ≤ l.count)
-
-abbrev pub decreases-loop-map : goal.decreases-loop-map
-decreases-loop-map l = l.count - l.map

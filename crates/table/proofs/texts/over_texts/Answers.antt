@@ -23,12 +23,6 @@ pub returns-then-not-text_right : goal.returns-then-not-text_right
 unfolding reported report_table by_text
 returns-then-not-text_right c = sym (ap (λ (o : Option ℕ). report_table (by_text o)) (least_found (text_right c.args.table.now c.args.text.now) c.loop-node.node (node_count c.args.table.now) c.loop-node.invariant (sym c.text_right.ensures ∙ not-true _ (ap not c.if-not-text_right.true)) (omega arith)))
 
-pub overflow_add-node : goal.overflow_add-node
-overflow_add-node c = omega arith
-
-pub loop-node-smaller : goal.loop-node-smaller
-loop-node-smaller c = omega arith
-
 pub loop-node-preserved : goal.loop-node-preserved
 loop-node-preserved c = λ k m. below_more (text_right c.args.table.now c.args.text.now) c.loop-node.node c.loop-node.invariant (sym c.text_right.ensures ∙ not-false _ (ap not c.if-not-text_right.false)) k (omega arith)
 

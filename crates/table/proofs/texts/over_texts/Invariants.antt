@@ -14,6 +14,3 @@ use Rattle.table.proofs.texts.over_texts.Given as goal
 
 abbrev pub invariant-loop-node : goal.invariant-loop-node
 invariant-loop-node l = TextsBelow l.table l.text l.node
-
-abbrev pub decreases-loop-node : goal.decreases-loop-node
-decreases-loop-node l = l.count - l.node

@@ -2,8 +2,8 @@
 use native.Mathlib.Omega.{arith}
 use borrow.Author.Tests.{not-false}
 use mathlib.Core.Bool.{true}
-use mathlib.Core.Path.{◌≡◌}
-use Prim.Native.Nat.{◌-◌}
+use mathlib.Core.Path.{◌≡◌, subst}
+use Prim.Native.Nat.{ℕ, ◌-◌}
 use Rattle.table.specs.Words.{Behind}
 use Rattle.table.proofs.Next.{behind_none, behind_next}
 use borrow.Author.Rules.{rules}
@@ -20,16 +20,12 @@ text_item_right-requires c = (c.requires.0.listed c.loop-node.node c.loop-node.i
 pub returns-then-not-text_item_right : goal.returns-then-not-text_item_right
 returns-then-not-text_item_right c = c.loop-node.invariant
 
-pub overflow_add-node : goal.overflow_add-node
-overflow_add-node c = search rules
-
-pub loop-node-smaller : goal.loop-node-smaller
-loop-node-smaller c = omega arith
-
 pub loop-node-preserved : goal.loop-node-preserved
 loop-node-preserved c =
     let y : c.text_item_right.result ≡ true = not-false _ (ap not c.if-not-text_item_right.false) in
     behind_next c.args.table.now c.args.text.now c.args.start c.args.end c.loop-node.node c.loop-node.invariant c.loop-node-test.true (c.text_item_right.ensures.node_value y) (c.text_item_right.ensures.node_value_2 y)
 
 pub returns : goal.returns
-returns c = c.loop-node.invariant
+returns c =
+    let e : c.loop-node.node ≡ c.args.end = omega (arith, c.loop-node.invariant.reach) in
+    subst (λ (n : ℕ). Behind c.args.table.now c.args.text.now c.args.start c.args.end n) e c.loop-node.invariant

@@ -11,6 +11,3 @@ use Rattle.table.proofs.utf8.texts.Given as goal
 
 abbrev pub invariant-loop-node : goal.invariant-loop-node
 invariant-loop-node l = Behind l.table l.text l.start l.end l.node
-
-abbrev pub decreases-loop-node : goal.decreases-loop-node
-decreases-loop-node l = l.end - l.node
