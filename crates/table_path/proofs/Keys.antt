@@ -1,11 +1,13 @@
 -- The bytes of a key, from the first to the last for their number and from the last to the first to write them. Assumes nothing.
 use Prim.Native.Nat.{ℕ, suc, ◌+◌, ◌-◌, ◌*◌, ◌≤◌, ◌<◌}
 use mathlib.Core.Path.{◌≡◌, refl, sym, ap, ◌∙◌, subst}
-use mathlib.Core.List.{List, [], ◌∷◌, ◌++◌}
+use mathlib.Core.List.{List, [], ◌∷◌, ◌++◌, reverse}
 use lib.ListN.{length, length-append, take, drop, get_or, take-append-drop, drop_of_length-le}
 use lib.Seq.{drop-cons}
 use native.Mathlib.Omega.{arith}
 use native.Mathlib.Numerals.{add-one}
+use Rattle.std.proofs.lemmas.List.{length-reverse, get_or-reverse}
+use Rattle.std.proofs.lemmas.Grind.{get_or_default_zero}
 use Rattle.definition.specs.Paths.{escaped, escaped_all}
 use Rattle.table_path_laws.specs.Texts.{escaped_append}
 use Rattle.table_path_laws.specs.Lengths.{escaped_all_length}
@@ -54,6 +56,14 @@ module _ (k : List ℕ) (i : ℕ) {B₀ B : List ℕ} {end at : ℕ} (p : Put B�
   byte_put {C} {from} q =
       let e = key_here k (i - 1) (omega arith) ∙ ap (λ (j : ℕ). escaped (get_or k (i - 1) 0) ++ escaped_all (drop j k)) back in
       subst (λ (s : List ℕ). Put B₀ end s C from) (sym e) (put_before p q)
+
+-- the byte of an iterator from the last byte to the first, behind n of them
+pub byte_back : (k : List ℕ) (n x : ℕ) → (n < length (reverse k)) × (x ≡ get_or (reverse k) n x) → (n < length k) × (x ≡ get_or k (length k - n - 1) 0)
+byte_back k n x t =
+    let l = length-reverse k in
+    let h : n < length k = omega (arith, t.0) in
+    let e : length k - 1 - n ≡ length k - n - 1 = omega arith in
+    (h, t.1 ∙ get_or-reverse k n x h ∙ get_or_default_zero k (length k - 1 - n) x (omega arith) ∙ ap (λ (i : ℕ). get_or k i 0) e)
 
 -- from the first byte on it is all of the key
 pub put_all : (k : List ℕ) (i : ℕ) {B₀ B : List ℕ} {end at : ℕ} → i ≤ 0 → Put B₀ end (escaped_all (drop i k)) B at → Put B₀ end (escaped_all k) B at

@@ -62,10 +62,8 @@ pub fn key_length(key: &[u8]) -> usize
     ensures { result ≡ length (escaped_all key.now) }
 {
     let mut size = 0;
-    let mut i = 0;
-    while i < key.len() {
-        size += byte_length(key[i]);
-        i += 1;
+    for &byte in key {
+        size += byte_length(byte);
     }
     size
 }

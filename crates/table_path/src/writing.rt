@@ -58,10 +58,8 @@ pub fn put_key(room: &mut [u8], end: usize, key: &[u8]) -> usize
     ensures { Put room.old end (escaped_all key.now) room.new result }
 {
     let mut at = end;
-    let mut i = key.len();
-    while 0 < i {
-        i -= 1;
-        at = put_escaped(room, at, key[i]);
+    for &byte in key.iter().rev() {
+        at = put_escaped(room, at, byte);
     }
     at
 }

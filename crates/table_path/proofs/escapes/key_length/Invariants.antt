@@ -8,8 +8,5 @@ use Rattle.table_path_laws.specs.Lengths.{escaped_all_length}
 use Rattle.table_path.proofs.Keys.{length_here, key_end}
 use Rattle.table_path.proofs.escapes.key_length.Given as goal
 
-abbrev pub invariant-loop-i : goal.invariant-loop-i
-invariant-loop-i l = (l.i ≤ length l.key) × (l.size + length (escaped_all (drop l.i l.key)) ≡ length (escaped_all l.key))
-
-abbrev pub decreases-loop-i : goal.decreases-loop-i
-decreases-loop-i l = length l.key - l.i
+abbrev pub invariant-loop-byte : goal.invariant-loop-byte
+invariant-loop-byte l = l.size + length (escaped_all (drop l.byte-index l.key)) ≡ length (escaped_all l.key)
