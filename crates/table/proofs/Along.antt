@@ -1,6 +1,6 @@
 -- The children of one node, one after the other, and what is known behind some of them. Assumes nothing.
 use Prim.Native.Nat.{ℕ, suc, ◌+◌, ◌≤◌, ◌<◌}
-use mathlib.Core.Path.{◌≡◌, sym, ◌∙◌}
+use mathlib.Core.Path.{◌≡◌, sym, ap, ◌∙◌, subst}
 use mathlib.Core.List.{List}
 use mathlib.Core.Bool.{true}
 use native.Mathlib.Omega.{arith}
@@ -12,6 +12,7 @@ use Rattle.table_laws.specs.Least.{RightBelow}
 use Rattle.table_laws.specs.Rights.{first_inside}
 use Rattle.table.specs.declared.scan.Cursor.{Cursor}
 use Rattle.table.specs.declared.scan.Passed.{Passed}
+use Rattle.std.specs.Prelude.{Result, Ok, Err, IfOk}
 use Rattle.table.specs.Words.{ParentAt, Child, Kept, Before, Begun, Along, PassedBy}
 use Rattle.table.proofs.Cursor.{found_child, next_first, right_next}
 
@@ -48,6 +49,12 @@ module _ (T X : List ℕ) (i f : ℕ) (q : Cursor) (b : Begun T X i f q) where
       let l = a.later in
       record { cursor = record { earlier = omega arith; from_is = p.from_is; from_le = omega arith; end_is = p.end_is; kind_is = p.kind_is; depth_is = p.depth_is }; reach = a.reach; kept = k }
 
+-- behind the last child
+pub ends_along : {T X : List ℕ} {i f n g : ℕ} {q : Cursor} → Begun T X i f q → n ≡ q.end → RightBelow T X n → g ≡ first_child T n → Along T X i q q.end g
+ends_along {T} {X} {i} {f} {n} {g} {q} b e r h =
+    let p = b.child.under.end_past in
+    record { later = omega arith; reach = omega arith; right = subst (λ (m : ℕ). RightBelow T X m) e r; first_is = h ∙ ap (first_child T) e }
+
 -- the check of a node's children begins at the node whose parent was found
 pub begun_at : (T X : List ℕ) (i f : ℕ) (q : Cursor) → ParentAt T i q → i < node_count T → node_count T ≤ max_nodes → f ≡ first_child T i → RightBelow T X i → Begun T X i f q
 begun_at T X i f q p n s e r = record { child = found_child T i q p n s; first_is = e; right = r }
@@ -62,8 +69,9 @@ module _ {T X : List ℕ} {i f : ℕ} {q : Cursor} (b : Begun T X i f q) where
   above_map e = sym b.child.under.place.kind_is ∙ e
 
   -- the children of a list were passed, and what is kept stays
-  pub list_passed : {H L : List ℕ} {r : Passed} → (q.kind ≡ kind_map → ⊥) → PassedBy T X i q r → Kept T X i q H L → PassedBy T X i q r × ((r.found ≡ 0 → ⊥) → Kept T X r.node q H L)
-  list_passed {H} {L} {r} m p k = (p, λ n. kept_along T X i r.node q H L (λ e. m (b.child.under.place.kind_is ∙ e)) (p.goes n).later k)
+  pub list_passed : {H L : List ℕ} (r : Result Passed ℕ) → (q.kind ≡ kind_map → ⊥) → PassedBy T X i q r → Kept T X i q H L → IfOk r (λ p. Kept T X p.node q H L)
+  list_passed {H} {L} (Ok p) m a k = kept_along T X i p.node q H L (λ e. m (b.child.under.place.kind_is ∙ e)) a.later k
+  list_passed {H} {L} (Err n) m a k = tt
 
 -- the place where the children of the next node must begin lies inside the table
 pub next_inside : (T X : List ℕ) (j g c : ℕ) → j < node_count T → g ≡ first_child T j → RightBelow T X j → node_right T X j ≡ true → c ≡ child_count T j → g + c ≤ node_count T

@@ -23,7 +23,7 @@ step_counts T p = counts_next T (p + 1) ∙ rw add-one
 
 -- the cursor at a node with a range
 abbrev pub ranged : List ℕ → ℕ → ℕ → ℕ → Cursor
-ranged T p f e = record { parent = p; from = f; end = e; kind = kind_at T p; depth = depth_at T p; sure = 0 }
+ranged T p f e = record { parent = p; from = f; end = e; kind = kind_at T p; depth = depth_at T p; sure = false }
 
 -- a cursor's range with the kind and the depth of its node
 pub cursor_ranged : {T : List ℕ} {i : ℕ} {q : Cursor} → CursorAt T i q → CursorAt T i (ranged T q.parent q.from q.end)
@@ -38,7 +38,7 @@ pub parent_stays : {T : List ℕ} {i : ℕ} {q : Cursor} → CursorAt T i q → 
 parent_stays h e = (record { place = h; end_past = e }, record { stays = λ _. refl; anew = λ l. absurd (omega arith) })
 
 -- another one is found anew: its range has the node, and its kind and depth were read
-pub parent_found : {T : List ℕ} {i : ℕ} {q r : Cursor} → r.kind ≡ kind_at T r.parent → r.depth ≡ depth_at T r.parent → r.sure ≡ 0
+pub parent_found : {T : List ℕ} {i : ℕ} {q r : Cursor} → r.kind ≡ kind_at T r.parent → r.depth ≡ depth_at T r.parent → r.sure ≡ false
     → CursorAt T i (ranged T r.parent r.from r.end) → i < r.end → q.end ≤ i → ParentAt T i r × Moved i q r
 parent_found {T} {i} {r = r} k d z h e l = (record { place = ranged_read T i r k d h; end_past = e }, record { stays = λ m. absurd (omega arith); anew = λ _. z })
 
@@ -151,7 +151,7 @@ module _ (T X : List ℕ) where
   right_next i r h k l = right_more T X i r h k (omega arith)
 
 -- the cursor at the root, before node 1
-pub root_cursor : (T : List ℕ) (c k d : ℕ) → c ≡ child_count T 0 → k ≡ kind_at T 0 → d ≡ depth_at T 0 → CursorAt T 1 (record { parent = 0; from = 1; end = 1 + c; kind = k; depth = d; sure = 0 })
+pub root_cursor : (T : List ℕ) (c k d : ℕ) → c ≡ child_count T 0 → k ≡ kind_at T 0 → d ≡ depth_at T 0 → CursorAt T 1 (record { parent = 0; from = 1; end = 1 + c; kind = k; depth = d; sure = false })
 root_cursor T c k d z u v =
     let a = counts_root T in
     let b = counts_next T 0 in

@@ -2,9 +2,10 @@
 use Prim.Native.Nat.{ℕ, suc, ◌+◌, ◌≤◌, ◌<◌}
 use mathlib.Core.Path.{◌≡◌, refl, sym, ap, ◌∙◌}
 use mathlib.Core.List.{List}
-use mathlib.Core.Bool.{true}
+use mathlib.Core.Bool.{true, false}
 use lib.ListN.{length, replicate, length-replicate, get_or-replicate}
 use native.Mathlib.Omega.{arith}
+use Rattle.std.proofs.lemmas.Bool.{false≢true}
 use borrow.Author.Tests.{eq-eqb}
 use Rattle.definition.specs.Tables.{node_count, kind_at, depth_at, kind_map, key_start, key_length, parent_at, low_word, high_word, good_part, child_count, first_child}
 use Rattle.table_laws.specs.Counts.{counts_root}
@@ -63,7 +64,7 @@ module _ (T X : List ℕ) where
       record { some = omega arith; reach = omega arith; right = right_next T X i f.right h; first_is = omega arith; plain = λ k. absurd (l.plain k) }
 
 -- before the first node of the pass no chain is begun, and every head is 0
-pub front_zeros : (n m : ℕ) → 0 < n → (T X : List ℕ) → Roomy T (replicate m 0) → (q : Cursor) (i : ℕ) → CursorAt T 1 q → q.sure ≡ 0 → Front T X i → Before T X i q (replicate n 0) (replicate m 0)
+pub front_zeros : (n m : ℕ) → 0 < n → (T X : List ℕ) → Roomy T (replicate m 0) → (q : Cursor) (i : ℕ) → CursorAt T 1 q → q.sure ≡ false → Front T X i → Before T X i q (replicate n 0) (replicate m 0)
 front_zeros n m a T X l q i h y w =
     let f = h.from_is in
     let v = h.from_le in
@@ -75,5 +76,5 @@ front_zeros n m a T X l q i h y w =
     record {
       cursor = record { earlier = omega (arith, h.earlier); from_is = f; from_le = omega arith; end_is = h.end_is; kind_is = h.kind_is; depth_is = h.depth_is };
       reach = omega (arith, w.reach);
-      kept = record { heads = k; room = l; chained = λ b _. let u = w.plain (sym (ap (kind_at T) o) ∙ b.is_map) in chains_begin (bucket_at (length (replicate n 0)) T X) q.from i (replicate n 0) (replicate m 0) (omega arith) k; surely = λ z. absurd (z y) };
+      kept = record { heads = k; room = l; chained = λ b _. let u = w.plain (sym (ap (kind_at T) o) ∙ b.is_map) in chains_begin (bucket_at (length (replicate n 0)) T X) q.from i (replicate n 0) (replicate m 0) (omega arith) k; surely = λ z. absurd (false≢true (sym y ∙ z)) };
     }

@@ -6,6 +6,7 @@ use mathlib.Core.Bool.{Bool, true, false}
 use lib.Dec.{ltb}
 use lib.ListN.{length, replicate, length-replicate}
 use native.Mathlib.Omega.{arith}
+use Rattle.std.proofs.lemmas.Bool.{false≢true}
 use borrow.Author.Tests.{ltb-true, ltb-false}
 use Rattle.definition.specs.Limits.{max_members}
 use Rattle.definition.specs.Tables.{node_count, first_child}
@@ -46,16 +47,16 @@ module _ (T X : List ℕ) (i : ℕ) (q r : Cursor) (H L : List ℕ) (b : Before 
       go true e = subst (λ (x : Cursor). Kept T X i x H L) (sym (w.stays (ltb-true i q.end e))) b.kept
       go false e =
           let l = ltb-false i q.end e in
-          record { heads = b.kept.heads; room = b.kept.room; chained = λ _ _. chains_begin (bucket_at (length H) T X) r.from i H L (first_of_range l) b.kept.heads; surely = λ z. absurd (z (w.anew l)) }
+          record { heads = b.kept.heads; room = b.kept.room; chained = λ _ _. chains_begin (bucket_at (length H) T X) r.from i H L (first_of_range l) b.kept.heads; surely = λ z. absurd (false≢true (sym (w.anew l) ∙ z)) }
 
 module _ (T X : List ℕ) (i : ℕ) (q : Cursor) (H L : List ℕ) where
   -- behind a node that joins no chain
-  pub kept_plain : Kept T X i q H L → (Large T q.parent → q.sure ≡ 0 → ⊥) → Kept T X (i + 1) q H L
+  pub kept_plain : Kept T X i q H L → (Large T q.parent → q.sure ≡ false → ⊥) → Kept T X (i + 1) q H L
   kept_plain k n = record { heads = heads_next i H k.heads; room = k.room; chained = λ m z. absurd (n m z); surely = k.surely }
 
   -- behind a node that joined the chain of its bucket
-  pub kept_chained : Chained (bucket_at (length H) T X) q.from (i + 1) H L → Roomy T L → q.sure ≡ 0 → Kept T X (i + 1) q H L
-  kept_chained k r e = record { heads = chained_heads (bucket_at (length H) T X) q.from (i + 1) H L k; room = r; chained = λ _ _. k; surely = λ z. absurd (z e) }
+  pub kept_chained : Chained (bucket_at (length H) T X) q.from (i + 1) H L → Roomy T L → q.sure ≡ false → Kept T X (i + 1) q H L
+  kept_chained k r e = record { heads = chained_heads (bucket_at (length H) T X) q.from (i + 1) H L k; room = r; chained = λ _ _. k; surely = λ z. absurd (false≢true (sym e ∙ z)) }
 
 -- a cursor under which the keys are found to differ
 pub before_surely : (T X : List ℕ) (i : ℕ) (q r : Cursor) (H L : List ℕ) → Surely T X q r → Before T X i q H L → Before T X i r H L
@@ -68,7 +69,7 @@ before_surely T X i q r H L (found e d) b =
     (record {
       cursor = record { earlier = h.earlier; from_is = h.from_is; from_le = h.from_le; end_is = h.end_is; kind_is = h.kind_is; depth_is = h.depth_is };
       reach = b.reach;
-      kept = record { heads = b.kept.heads; room = b.kept.room; chained = λ _ z. absurd (omega arith); surely = λ _. d };
+      kept = record { heads = b.kept.heads; room = b.kept.room; chained = λ _ z. absurd (false≢true (sym z)); surely = λ _. d };
     })
 
 -- as many links have the same places

@@ -11,4 +11,5 @@ pub mod Kept
 pub mod Next
 pub mod Passes
 pub mod Sorts
+pub mod Steps
 pub mod Under

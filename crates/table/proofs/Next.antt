@@ -12,6 +12,7 @@ use Rattle.table_laws.specs.Joined.{node_right}
 use Rattle.table_laws.specs.Least.{RightBelow}
 use Rattle.table_laws.specs.Parents.{InRange}
 use Rattle.table_laws.specs.Rights.{head_all, payload_text, count_list, count_map, count_other}
+use Rattle.std.specs.Prelude.{Option, Some, None}
 use Rattle.table.specs.declared.scan.Cursor.{Cursor}
 use Rattle.table.specs.Words.{Head, Under, Begun, Listed, ListedFrom, Behind, NextBy}
 use Rattle.table.proofs.Along.{child_along}
@@ -31,16 +32,17 @@ module _ (T : List ℕ) (i : ℕ) where
   count_none n = count_other T i (λ z. n (omega arith)) (λ z. n (omega arith))
 
   -- the rule fails
-  pub next_wrong : (b : Bool) → b ≡ false → NextBy T i b 0
-  next_wrong b e = record { fails = λ _. e; holds = λ n. absurd (n refl); next_is = λ n. absurd (n refl) }
+  pub next_wrong : (b : Bool) → b ≡ false → NextBy T i b None
+  next_wrong b e = e
 
   -- it holds of a node with so many children
-  pub next_right : (b : Bool) (r c : ℕ) → b ≡ true → c ≡ child_count T i → r ≡ first_child T i + c → NextBy T i b r
-  next_right b r c e k f = record { fails = λ z. absurd (omega arith); holds = λ _. e; next_is = λ _. omega arith }
+  pub next_right : (b : Bool) (r c : ℕ) → b ≡ true → c ≡ child_count T i → r ≡ first_child T i + c → NextBy T i b (Some r)
+  next_right b r c e k f = (e, omega arith)
 
   -- another rule that comes to the same
-  pub next_as : (a b : Bool) (r : ℕ) → a ≡ b → NextBy T i a r → NextBy T i b r
-  next_as a b r e n = record { fails = λ z. sym e ∙ n.fails z; holds = λ z. sym e ∙ n.holds z; next_is = n.next_is }
+  pub next_as : (a b : Bool) (r : Option ℕ) → a ≡ b → NextBy T i a r → NextBy T i b r
+  next_as a b None e n = sym e ∙ n
+  next_as a b (Some r) e n = (sym e ∙ n.0, n.1)
 
 module _ (T : List ℕ) (p d i h : ℕ) (l : Listed T p d i) (w : Head T i h) (e : h ≡ (d + 1) * 256 + 5) where
   -- bytes 0-3 of a text under the list

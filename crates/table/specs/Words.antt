@@ -1,5 +1,5 @@
 -- The words of this crate's contracts. Assumes nothing: these are definitions.
-use Rattle.std.specs.Prelude.{ℕ, suc, ◌+◌, ◌-◌, ◌*◌, ◌≤◌, ◌<◌, ◌≡◌, List, Bool, true, false, length}
+use Rattle.std.specs.Prelude.{ℕ, suc, ◌+◌, ◌-◌, ◌*◌, ◌≤◌, ◌<◌, ◌≡◌, List, Bool, true, false, length, Option, Some, None, Result, Ok, Err}
 use Rattle.definition.specs.Limits.{max_nodes, max_members, max_depth}
 use Rattle.definition.specs.Tables.{node_count, field, kind_at, depth_at, parent_at, kind_map, high_word, child_count, first_child, range_right, key_start, key_length, key_differs, head_right, text_right}
 use Rattle.table_laws.specs.Joined.{payload_right, node_right}
@@ -80,7 +80,7 @@ pub record Under (T : List ℕ) (p i : ℕ) : Type 0 where
 -- the cursor r that was found for node i from the cursor q: q itself, or one of which nothing is known
 pub record Moved (i : ℕ) (q r : Cursor) : Type 0 where
   pub stays : i < q.end → r ≡ q
-  pub anew : q.end ≤ i → r.sure ≡ 0
+  pub anew : q.end ≤ i → r.sure ≡ false
 
 -- the key of each node from one up to another is unlike those before it
 abbrev pub Differing : List ℕ → List ℕ → ℕ → ℕ → Type 0
@@ -89,14 +89,14 @@ Differing T X from end = (k : ℕ) → from ≤ k → k < end → key_differs T 
 -- a cursor as it was, or with the keys under it known to differ
 pub data Surely (T X : List ℕ) (q r : Cursor) : Type 0 where
   as_before : r ≡ q → Surely T X q r
-  found : r ≡ record { parent = q.parent; from = q.from; end = q.end; kind = q.kind; depth = q.depth; sure = 1 } → Differing T X q.from q.end → Surely T X q r
+  found : r ≡ record { parent = q.parent; from = q.from; end = q.end; kind = q.kind; depth = q.depth; sure = true } → Differing T X q.from q.end → Surely T X q r
 
 -- heads and links before node i, with a cursor at its parent or before: in a large map they hold the chains of the members before i, unless all keys are known to differ
 pub record Kept (T X : List ℕ) (i : ℕ) (q : Cursor) (H L : List ℕ) : Type 0 where
   pub heads : HeadsBelow i H
   pub room : Roomy T L
-  pub chained : Large T q.parent → q.sure ≡ 0 → Chained (bucket_at (length H) T X) q.from i H L
-  pub surely : (q.sure ≡ 0 → ⊥) → Differing T X q.from q.end
+  pub chained : Large T q.parent → q.sure ≡ false → Chained (bucket_at (length H) T X) q.from i H L
+  pub surely : q.sure ≡ true → Differing T X q.from q.end
 
 -- the cursor, heads and links before node i, which the cursor's range reaches
 pub record Before (T X : List ℕ) (i : ℕ) (q : Cursor) (H L : List ℕ) : Type 0 where
@@ -124,9 +124,9 @@ pub record WrongAt (T X : List ℕ) (n : ℕ) : Type 0 where
   pub wrong : node_right T X n ≡ false
 
 -- what the check of the children under a cursor, from node i on, comes to
-pub record PassedBy (T X : List ℕ) (i : ℕ) (q : Cursor) (p : Passed) : Type 0 where
-  pub stops : p.found ≡ 0 → WrongAt T X p.node
-  pub goes : (p.found ≡ 0 → ⊥) → Along T X i q p.node p.first
+abbrev pub PassedBy : List ℕ → List ℕ → ℕ → Cursor → Result Passed ℕ → Type 0
+PassedBy T X i q (Ok p) = Along T X i q p.node p.first
+PassedBy T X i q (Err n) = WrongAt T X n
 
 -- the root is a list at depth 0, and the table has all its children
 pub record RootList (T : List ℕ) : Type 0 where
@@ -170,8 +170,7 @@ pub record Bounded (T : List ℕ) (i : ℕ) (b : Bool) : Type 0 where
   pub range : b ≡ true → (X : List ℕ) → payload_right T X i ≡ range_right T i
   pub many : b ≡ false → (X : List ℕ) → payload_right T X i ≡ false
 
--- what a node is found to be by a rule: 0 if the rule fails, and else where the children of the next node must begin
-pub record NextBy (T : List ℕ) (i : ℕ) (b : Bool) (r : ℕ) : Type 0 where
-  pub fails : r ≡ 0 → b ≡ false
-  pub holds : (r ≡ 0 → ⊥) → b ≡ true
-  pub next_is : (r ≡ 0 → ⊥) → r ≡ first_child T i + child_count T i
+-- what a node is found to be by a rule: where the children of the next node must begin, if the rule holds
+abbrev pub NextBy : List ℕ → ℕ → Bool → Option ℕ → Type 0
+NextBy T i b None = b ≡ false
+NextBy T i b (Some r) = (b ≡ true) × (r ≡ first_child T i + child_count T i)

@@ -3,7 +3,7 @@
 // In a map of few members a key is compared with each of them. In a larger one it is compared with those in its bucket, which are a chain:
 // heads holds for each bucket the last node in it, and links for each member the node before it in its bucket, by its place among the members.
 // A number below the first member ends a chain, so nothing is cleared between one map and the next.
-ghost use Rattle.std.specs.Prelude.{◌≡◌, ℕ, ◌<◌, ◌≤◌, ◌+◌, ◌-◌, ltb, length};
+ghost use Rattle.std.specs.Prelude.{◌≡◌, ℕ, ◌<◌, ◌≤◌, ◌+◌, ◌-◌, is_some, OnSome, length};
 ghost use Rattle.definition.specs.Bytes.{same_bytes};
 ghost use Rattle.definition.specs.Tables.{key_bytes, key_differs};
 ghost use Rattle.table.specs.Words.{KeysInside, Joins};
@@ -44,8 +44,7 @@ pub fn key_differs(table: &[u8], text: &[u8], node: usize, from: usize) -> bool
     true
 }
 
-// Whether the key of a node is unlike those of the nodes from a place up to it, found along the chain of its bucket, whose last node is head: 0 if it is not,
-// and else one more than the nodes on the chain.
+// One more than the nodes on the chain of a node's bucket, whose last node is head, if the key of the node is unlike those of the nodes from a place up to it.
 fn chain_differs(
     table: &[u8],
     text: &[u8],
@@ -54,22 +53,22 @@ fn chain_differs(
     key: &[u8],
     head: usize,
     links: &[u16],
-) -> usize
+) -> Option<usize>
     requires joins { Joins table.now text.now from node }
     requires key_value { key.now ≡ key_bytes table.now text.now node }
     requires chain { Chain table.now text.now from node head links.now }
-    ensures { ltb 0 result ≡ key_differs table.now text.now node from (node - from) }
+    ensures { is_some result ≡ key_differs table.now text.now node from (node - from) }
 {
     let mut steps = 1;
     let mut j = head;
     while from <= j {
         if same_key(table, text, j, key) {
-            return 0;
+            return None;
         }
         j = links[j - from] as usize;
         steps += 1;
     }
-    steps
+    Some(steps)
 }
 
 // The same by the chains of the nodes before it; a node whose key is unlike theirs joins them.
@@ -80,12 +79,12 @@ pub fn joins_chain(
     from: usize,
     heads: &mut [u16],
     links: &mut [u16],
-) -> usize
+) -> Option<usize>
     requires joins { Joins table.now text.now from node }
     requires chained { Chained (bucket_at (length heads.old) table.now text.now) from node heads.old links.old }
     requires from_in_bounds { node - from < length links.old }
-    ensures result_value { ltb 0 result ≡ key_differs table.now text.now node from (node - from) }
-    ensures chained_2 { 0 < result → Chained (bucket_at (length heads.new) table.now text.now) from (node + 1) heads.new links.new }
+    ensures result_value { is_some result ≡ key_differs table.now text.now node from (node - from) }
+    ensures chained_2 { OnSome result (Chained (bucket_at (length heads.new) table.now text.now) from (node + 1) heads.new links.new) }
     ensures links_len_unchanged { length links.new ≡ length links.old }
 {
     let start = records::key_start(table, node) as usize;
@@ -93,11 +92,8 @@ pub fn joins_chain(
     let key = &text[start..end];
     let bucket = buckets::bucket(key, heads.len());
     let last = heads[bucket];
-    let steps = chain_differs(table, text, node, from, key, last as usize, links);
-    if steps == 0 {
-        return 0;
-    }
+    let steps = chain_differs(table, text, node, from, key, last as usize, links)?;
     links[node - from] = last;
     heads[bucket] = node as u16;
-    steps
+    Some(steps)
 }

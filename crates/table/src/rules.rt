@@ -1,5 +1,5 @@
 // The joined rule for a node, part by part. Each function answers whether a rule of the definition is kept, and asks that its nodes are nodes of the table.
-ghost use Rattle.std.specs.Prelude.{◌≡◌, true, ◌<◌, ◌+◌, ltb};
+ghost use Rattle.std.specs.Prelude.{◌≡◌, true, ◌<◌, ◌+◌, is_some, OnSome};
 ghost use Rattle.definition.specs.Tables.{node_count, kind_at, kind_text, kind_list, kind_map, high_word, child_count, first_child, good_part, head_right, is_finite, range_right, no_key};
 ghost use Rattle.table_laws.specs.Joined.{payload_right, member_right, node_right};
 ghost use Rattle.text.specs.Known.{Known};
@@ -207,8 +207,8 @@ fn few_enough(table: &[u8], node: usize) -> bool
     true
 }
 
-// The range of a container's children: 0 if it is wrong, and else where that of the next node must begin.
-fn range_next(table: &[u8], node: usize, first: usize) -> usize
+// Where the range of the next node's children must begin, if that of this container is right.
+fn range_next(table: &[u8], node: usize, first: usize) -> Option<usize>
     requires node_bound { (node < node_count table.now) × (first ≡ first_child table.now node) }
     requires node_value { child_count table.now node ≡ high_word table.now node }
     ensures { NextBy table.now node (range_right table.now node) result }
@@ -217,44 +217,50 @@ fn range_next(table: &[u8], node: usize, first: usize) -> usize
     let high = records::high_word(table, node) as usize;
     if high == 0 {
         if low != 0 {
-            return 0;
+            return None;
         }
-        return first;
+        return Some(first);
     }
     if low != first {
-        return 0;
+        return None;
     }
     let next = low + high;
     if table.len() / RECORD < next {
-        return 0;
+        return None;
     }
-    next
+    Some(next)
 }
 
-// All that is asked of a child of the list above, where the text is known to be UTF-8: 0 if it is wrong, and else where the range of the next node's children must
-// begin. Lists and maps are told from the others first.
-pub fn item_next(table: &[u8], text: &[u8], node: usize, first: usize, above: Cursor) -> usize
+// Where the range of the next node's children must begin, if a child of the list above is right, where the text is known to be UTF-8. Lists and maps are told from
+// the others first.
+pub fn item_next(
+    table: &[u8],
+    text: &[u8],
+    node: usize,
+    first: usize,
+    above: Cursor,
+) -> Option<usize>
     requires child { Child table.now node above × (first ≡ first_child table.now node) }
     requires fact { kind_at table.now above.parent ≡ kind_map → ⊥ }
     requires known { Known 1 text.now }
     ensures { NextBy table.now node (node_right table.now text.now node) result }
 {
     if !stands_under(table, node, above) {
-        return 0;
+        return None;
     }
     if !no_key(table, node) {
-        return 0;
+        return None;
     }
     if KIND_TEXT < records::kind(table, node) {
         if !few_enough(table, node) {
-            return 0;
+            return None;
         }
         return range_next(table, node, first);
     }
     if !value_right(table, text, node) {
-        return 0;
+        return None;
     }
-    first
+    Some(first)
 }
 
 // Whether a child of a list is found to be a right text, where the text is known to be UTF-8.
@@ -281,18 +287,8 @@ pub fn text_item_right(table: &[u8], text: &[u8], node: usize, parent: usize, de
     )
 }
 
-// 1 for yes, 0 for no.
-fn as_steps(b: bool) -> usize
-    ensures { ltb 0 result ≡ «b» }
-{
-    if b {
-        return 1;
-    }
-    0
-}
-
-// The key of a member of the map above: 0 if it is wrong, and else one more than the nodes on the chain that it was compared with. heads and links hold the chains
-// of the members before it, if there are many and their keys are not known to differ.
+// One more than the nodes on the chain that the key of a member of the map above was compared with, if the key is right. heads and links hold the chains of the
+// members before it, if there are many and their keys are not known to differ.
 fn member_right(
     table: &[u8],
     text: &[u8],
@@ -301,13 +297,13 @@ fn member_right(
     heads: &mut [u16],
     links: &mut [u16],
     known: u8,
-) -> usize
+) -> Option<usize>
     requires child { Child table.now node above }
     requires parent_value { (kind_at table.now above.parent ≡ kind_map) × MembersBefore table.now text.now above.from node }
     requires kept { Kept table.now text.now node above heads.old links.old }
     requires known { Known known text.now }
-    ensures result_value { ltb 0 result ≡ member_right table.now text.now above.parent node }
-    ensures kept_2 { 0 < result → Kept table.now text.now (node + 1) above heads.new links.new }
+    ensures result_value { is_some result ≡ member_right table.now text.now above.parent node }
+    ensures kept_2 { OnSome result (Kept table.now text.now (node + 1) above heads.new links.new) }
 {
     if !good_part(
         text,
@@ -315,14 +311,14 @@ fn member_right(
         records::key_length(table, node),
         known,
     ) {
-        return 0;
+        return None;
     }
     let from = above.from;
     if above.end - from <= FEW_MEMBERS {
-        return as_steps(keys::key_differs(table, text, node, from));
+        return keys::key_differs(table, text, node, from).then_some(1);
     }
-    if above.sure != 0 {
-        return 1;
+    if above.sure {
+        return Some(1);
     }
     keys::joins_chain(table, text, node, from, heads, links)
 }
@@ -337,19 +333,19 @@ pub fn member_steps(
     heads: &mut [u16],
     links: &mut [u16],
     known: u8,
-) -> usize
+) -> Option<usize>
     requires child { Child table.now node above × (first ≡ first_child table.now node) }
     requires parent_value { (kind_at table.now above.parent ≡ kind_map) × MembersBefore table.now text.now above.from node }
     requires kept { Kept table.now text.now node above heads.old links.old }
     requires known { Known known text.now }
-    ensures result_value { ltb 0 result ≡ node_right table.now text.now node }
-    ensures kept_2 { 0 < result → Kept table.now text.now (node + 1) above heads.new links.new }
+    ensures result_value { is_some result ≡ node_right table.now text.now node }
+    ensures kept_2 { OnSome result (Kept table.now text.now (node + 1) above heads.new links.new) }
 {
     if !stands_under(table, node, above) {
-        return 0;
+        return None;
     }
     if !payload_right(table, text, node, first, known) {
-        return 0;
+        return None;
     }
     member_right(table, text, node, above, heads, links, known)
 }

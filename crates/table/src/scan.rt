@@ -1,5 +1,5 @@
 // The pass over the nodes of a table: each node is held against the rules, and a cursor that only moves forward finds its parent.
-ghost use Rattle.std.specs.Prelude.{◌≡◌, ◌<◌, ◌≤◌, ◌+◌};
+ghost use Rattle.std.specs.Prelude.{◌≡◌, ◌<◌, ◌≤◌, ◌+◌, false, IfOk};
 ghost use Rattle.definition.specs.Limits.{max_nodes};
 ghost use Rattle.definition.specs.Tables.{node_count, first_child, kind_at, kind_map};
 ghost use Rattle.table_laws.specs.Joined.{least_wrong};
@@ -19,7 +19,7 @@ const FEW_NODES: usize = 128;
 // Where a chain comes to have so many nodes, all keys of its map are sorted. A chain has so many once, so that keys which are not found to differ are not sorted for each node.
 const LONG_CHAIN: usize = 24;
 
-// A node with the range of its children, its kind and its depth, which are read once for all of them. `sure` is 1 where the keys of its members are known to differ.
+// A node with the range of its children, its kind and its depth, which are read once for all of them. `sure` says that the keys of its members are known to differ.
 #[derive(Clone, Copy)]
 pub struct Cursor {
     pub parent: usize,
@@ -27,23 +27,16 @@ pub struct Cursor {
     pub end: usize,
     pub kind: u8,
     pub depth: u8,
-    pub sure: u8,
+    pub sure: bool,
 }
 
-// What the check of a node's children came to.
-pub const WRONG: u8 = 0;
-
-pub const NEXT: u8 = 1;
-
-pub const LONG: u8 = 2;
-
-// How far the check of a node's children came: to a node that is wrong; or to one before which all nodes are right, with the place where its children
-// must begin. There it may have stopped behind a node whose chain came to be long.
+// How far the check of a node's children came: to a node before which all nodes are right, with the place where its children must begin. `long` says that it
+// stopped there behind a node whose chain came to be long.
 #[derive(Clone, Copy)]
 pub struct Passed {
     pub node: usize,
     pub first: usize,
-    pub found: u8,
+    pub long: bool,
 }
 
 // Moves a cursor forward to the parent of a node that has one.
@@ -71,7 +64,7 @@ fn to_parent(table: &[u8], node: usize, cursor: Cursor) -> Cursor
         end,
         kind,
         depth,
-        sure: 0,
+        sure: false,
     }
 }
 
@@ -80,26 +73,24 @@ pub fn surely(table: &[u8], text: &[u8], cursor: Cursor) -> Cursor
     requires { cursor.from ≤ cursor.end }
     ensures { Surely table.now text.now cursor result }
 {
-    let parent = cursor.parent;
-    let from = cursor.from;
-    let end = cursor.end;
-    let kind = cursor.kind;
-    let depth = cursor.depth;
-    if !distinct::all_differ(table, text, from, end) {
+    if !distinct::all_differ(table, text, cursor.from, cursor.end) {
         return cursor;
     }
     Cursor {
-        parent,
-        from,
-        end,
-        kind,
-        depth,
-        sure: 1,
+        sure: true,
+        ..cursor
     }
 }
 
-// The children of a list from a node on, whose own children must begin at begin.
-fn items(table: &[u8], text: &[u8], start: usize, begin: usize, above: Cursor, known: u8) -> Passed
+// The children of a list from a node on, whose own children must begin at begin. The error is a node that is wrong, before which all are right.
+fn items(
+    table: &[u8],
+    text: &[u8],
+    start: usize,
+    begin: usize,
+    above: Cursor,
+    known: u8,
+) -> Result<Passed, usize>
     requires begun { Begun table.now text.now start begin above }
     requires fact { kind_at table.now above.parent ≡ kind_map → ⊥ }
     requires known { Known known text.now }
@@ -107,23 +98,17 @@ fn items(table: &[u8], text: &[u8], start: usize, begin: usize, above: Cursor, k
 {
     let end = above.end;
     let mut first = begin;
-    let mut node = start;
-    while node < end {
+    for node in start..end {
         if !rules::item_right(table, text, node, first, above, known) {
-            return Passed {
-                node,
-                first,
-                found: WRONG,
-            };
+            return Err(node);
         }
         first += records::child_count(table, node) as usize;
-        node += 1;
     }
-    Passed {
-        node,
+    Ok(Passed {
+        node: end,
         first,
-        found: NEXT,
-    }
+        long: false,
+    })
 }
 
 // The members of a map from a node on, up to one whose chain comes to be long.
@@ -136,40 +121,34 @@ pub fn members(
     heads: &mut [u16],
     links: &mut [u16],
     known: u8,
-) -> Passed
+) -> Result<Passed, usize>
     requires begun { Begun table.now text.now start begin above }
     requires parent_value { (kind_at table.now above.parent ≡ kind_map) × Kept table.now text.now start above heads.old links.old }
     requires known { Known known text.now }
     ensures passed_by { PassedBy table.now text.now start above result }
-    ensures kept { (result.found ≡ 0 → ⊥) → Kept table.now text.now result.node above heads.new links.new }
+    ensures kept { IfOk result (λ passed. Kept table.now text.now passed.node above heads.new links.new) }
 {
     let end = above.end;
     let mut first = begin;
-    let mut node = start;
-    while node < end {
-        let steps = rules::member_steps(table, text, node, first, above, heads, links, known);
-        if steps == 0 {
-            return Passed {
-                node,
-                first,
-                found: WRONG,
-            };
-        }
+    for node in start..end {
+        let Some(steps) = rules::member_steps(table, text, node, first, above, heads, links, known)
+        else {
+            return Err(node);
+        };
         first += records::child_count(table, node) as usize;
-        node += 1;
         if steps == LONG_CHAIN {
-            return Passed {
-                node,
+            return Ok(Passed {
+                node: node + 1,
                 first,
-                found: LONG,
-            };
+                long: true,
+            });
         }
     }
-    Passed {
-        node,
+    Ok(Passed {
+        node: end,
         first,
-        found: NEXT,
-    }
+        long: false,
+    })
 }
 
 // The children of the node above from a node on.
@@ -182,12 +161,12 @@ fn children(
     heads: &mut [u16],
     links: &mut [u16],
     known: u8,
-) -> Passed
+) -> Result<Passed, usize>
     requires begun { Begun table.now text.now start begin above }
     requires kept { Kept table.now text.now start above heads.old links.old }
     requires known { Known known text.now }
     ensures passed_by { PassedBy table.now text.now start above result }
-    ensures kept_2 { (result.found ≡ 0 → ⊥) → Kept table.now text.now result.node above heads.new links.new }
+    ensures kept_2 { IfOk result (λ passed. Kept table.now text.now passed.node above heads.new links.new) }
 {
     if above.kind == KIND_MAP {
         return members(table, text, start, begin, above, heads, links, known);
@@ -250,14 +229,11 @@ fn rest(
             return Err(node);
         }
         let above = to_parent(table, node, cursor);
-        let passed = children(table, text, node, first, above, heads, links, known);
-        if passed.found == WRONG {
-            return Err(passed.node);
-        }
+        let passed = children(table, text, node, first, above, heads, links, known)?;
         node = passed.node;
         first = passed.first;
         cursor = above;
-        if passed.found == LONG {
+        if passed.long {
             cursor = surely(table, text, above);
         }
     }
@@ -273,7 +249,7 @@ fn with_chains(
     known: u8,
     from: usize,
 ) -> Result<(), usize>
-    requires start_value { (start ≡ first_child table.now 1) × CursorAt table.now 1 root × (root.sure ≡ 0) }
+    requires start_value { (start ≡ first_child table.now 1) × CursorAt table.now 1 root × (root.sure ≡ false) }
     requires table_nonzero { (0 < node_count table.now) × (node_count table.now ≤ max_nodes) × Front table.now text.now from }
     requires known { Known known text.now }
     ensures { found result ≡ least_wrong table.now text.now 0 (node_count table.now) }
@@ -294,7 +270,7 @@ fn with_few(
     known: u8,
     from: usize,
 ) -> Result<(), usize>
-    requires start_value { (start ≡ first_child table.now 1) × CursorAt table.now 1 root × (root.sure ≡ 0) }
+    requires start_value { (start ≡ first_child table.now 1) × CursorAt table.now 1 root × (root.sure ≡ false) }
     requires table_nonzero { (0 < node_count table.now) × (node_count table.now ≤ max_nodes) × Front table.now text.now from }
     requires table_bound { node_count table.now ≤ 128 }
     requires known { Known known text.now }
@@ -324,7 +300,7 @@ pub fn scan(table: &[u8], text: &[u8]) -> Result<(), usize>
         end,
         kind,
         depth,
-        sure: 0,
+        sure: false,
     };
     let known = encoding::short_known(text, table.len());
     let from = front(table, text, end, kind, known);

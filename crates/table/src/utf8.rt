@@ -1,5 +1,5 @@
 // The pass over the nodes of a large table whose text is known to be UTF-8 and not ASCII. It is the pass of scan, and passes the texts of a list in a loop of their own.
-ghost use Rattle.std.specs.Prelude.{◌≡◌, ◌<◌, ◌≤◌};
+ghost use Rattle.std.specs.Prelude.{◌≡◌, ◌<◌, ◌≤◌, false, IfOk};
 ghost use Rattle.definition.specs.Limits.{max_nodes};
 ghost use Rattle.definition.specs.Tables.{node_count, child_count, first_child, kind_at, kind_map};
 ghost use Rattle.table_laws.specs.Joined.{least_wrong};
@@ -57,7 +57,7 @@ fn to_parent(table: &[u8], node: usize, cursor: Cursor) -> Cursor
         end,
         kind,
         depth,
-        sure: 0,
+        sure: false,
     }
 }
 
@@ -111,7 +111,13 @@ fn front(table: &[u8], text: &[u8], start: usize, begin: usize, above: Cursor) -
 }
 
 // The children of a list from a node on, whose own children must begin at begin.
-fn items(table: &[u8], text: &[u8], start: usize, begin: usize, above: Cursor) -> Passed
+fn items(
+    table: &[u8],
+    text: &[u8],
+    start: usize,
+    begin: usize,
+    above: Cursor,
+) -> Result<Passed, usize>
     requires begun { Begun table.now text.now start begin above }
     requires fact { kind_at table.now above.parent ≡ kind_map → ⊥ }
     requires known { Known 1 text.now }
@@ -119,24 +125,18 @@ fn items(table: &[u8], text: &[u8], start: usize, begin: usize, above: Cursor) -
 {
     let end = above.end;
     let mut first = begin;
-    let mut node = front(table, text, start, begin, above);
-    while node < end {
-        let next = rules::item_next(table, text, node, first, above);
-        if next == 0 {
-            return Passed {
-                node,
-                first,
-                found: scan::WRONG,
-            };
-        }
+    let behind = front(table, text, start, begin, above);
+    for node in behind..end {
+        let Some(next) = rules::item_next(table, text, node, first, above) else {
+            return Err(node);
+        };
         first = next;
-        node += 1;
     }
-    Passed {
-        node,
+    Ok(Passed {
+        node: end,
         first,
-        found: scan::NEXT,
-    }
+        long: false,
+    })
 }
 
 // The children of the node above from a node on.
@@ -148,12 +148,12 @@ fn children(
     above: Cursor,
     heads: &mut [u16],
     links: &mut [u16],
-) -> Passed
+) -> Result<Passed, usize>
     requires begun { Begun table.now text.now start begin above }
     requires kept { Kept table.now text.now start above heads.old links.old }
     requires known { Known 1 text.now }
     ensures passed_by { PassedBy table.now text.now start above result }
-    ensures kept_2 { (result.found ≡ 0 → ⊥) → Kept table.now text.now result.node above heads.new links.new }
+    ensures kept_2 { IfOk result (λ passed. Kept table.now text.now passed.node above heads.new links.new) }
 {
     if above.kind == KIND_MAP {
         return scan::members(
@@ -194,14 +194,11 @@ fn rest(
             return Err(node);
         }
         let above = to_parent(table, node, cursor);
-        let passed = children(table, text, node, first, above, heads, links);
-        if passed.found == scan::WRONG {
-            return Err(passed.node);
-        }
+        let passed = children(table, text, node, first, above, heads, links)?;
         node = passed.node;
         first = passed.first;
         cursor = above;
-        if passed.found == scan::LONG {
+        if passed.long {
             cursor = scan::surely(table, text, above);
         }
     }
@@ -216,7 +213,7 @@ pub fn with_chains(
     root: Cursor,
     from: usize,
 ) -> Result<(), usize>
-    requires start_value { (start ≡ first_child table.now 1) × CursorAt table.now 1 root × (root.sure ≡ 0) }
+    requires start_value { (start ≡ first_child table.now 1) × CursorAt table.now 1 root × (root.sure ≡ false) }
     requires table_nonzero { (0 < node_count table.now) × (node_count table.now ≤ max_nodes) × Front table.now text.now from }
     requires known { Known 1 text.now }
     ensures { found result ≡ least_wrong table.now text.now 0 (node_count table.now) }

@@ -46,4 +46,4 @@ loop-j-preserved c =
     (record { below = omega arith; count = c.loop-j.invariant.0.count; linked = c.loop-j.invariant.0.linked; same = λ u. n.same u ∙ b; unlike = follow_on c.args.table.now c.args.text.now c.args.node c.loop-j.invariant.0.count c.args.from c.loop-j.j _ c.loop-j.invariant.0.below b n d c.loop-j.invariant.0.unlike }, omega arith, omega arith)
 
 pub returns : goal.returns
-returns c = lt-ltb 0 c.loop-j.steps c.loop-j.invariant.1 ∙ sym (differs_all c.args.table.now c.args.text.now c.args.node c.args.from c.loop-j.j c.requires.joins.from_le c.loop-j-test.false c.loop-j.invariant.0.unlike)
+returns c = sym (differs_all c.args.table.now c.args.text.now c.args.node c.args.from c.loop-j.j c.requires.joins.from_le c.loop-j-test.false c.loop-j.invariant.0.unlike)

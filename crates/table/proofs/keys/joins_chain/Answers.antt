@@ -17,15 +17,15 @@ slice_bounds-key-end c = omega (arith, c.requires.joins.inside.keys c.args.node 
 pub overflow_cast-last : goal.overflow_cast-last
 overflow_cast-last c = omega (arith, c.type_inv.heads c.bucket-bucket.result)
 
-pub chain_differs-steps-requires : goal.chain_differs-steps-requires
-chain_differs-steps-requires c =
+pub chain_differs-requires : goal.chain_differs-requires
+chain_differs-requires c =
     let k = key_span c.args.table.now c.args.text.now c.args.node c.key_start-start.result (c.key_start-start.result + c.key_length.result) (omega arith) (omega arith) in
     let n = length c.args.heads.now in
     let e = c.bucket-bucket.ensures.0 ∙ ap (bucket_of n) k in
     record { joins = c.requires.joins; key_value = k; chain = record { count = n; latest = subst (λ (x : ℕ). Latest (bucket_at n c.args.table.now c.args.text.now) x c.args.from c.args.node (get_or c.args.heads.now c.bucket-bucket.result 0)) e (c.requires.chained.last c.bucket-bucket.result c.bucket-bucket.ensures.1); linked = c.requires.chained.linked } }
 
-pub returns-then-steps-eq0 : goal.returns-then-steps-eq0
-returns-then-steps-eq0 c = record { result_value = sym (ap (ltb 0) c.if-steps-eq0.true) ∙ c.chain_differs-steps.ensures; chained_2 = (λ z. absurd (omega arith)); links_len_unchanged = refl }
+pub returns-in_err-steps : goal.returns-in_err-steps
+returns-in_err-steps c = rw c.from_residual.ensures (record { result_value = c.in_err-steps.ensures; chained_2 = tt; links_len_unchanged = refl })
 
 pub returns : goal.returns
 returns c =
@@ -35,4 +35,4 @@ returns c =
     let h = bucket_at n c.args.table.now c.args.text.now in
     let j = chain_joined h c.args.from c.args.node c.args.heads.now c.args.links.now c.requires.chained c.requires.joins.from_le c.requires.from_in_bounds (subst (λ (x : ℕ). x < n) e c.bucket-bucket.ensures.1) in
     let i = subst (λ (x : ℕ). Chained h c.args.from (c.args.node + 1) (set c.args.heads.now x c.args.node) (set c.args.links.now (c.args.node - c.args.from) (get_or c.args.heads.now x 0))) (sym e) j in
-    record { result_value = c.chain_differs-steps.ensures; chained_2 = λ _. subst (λ (x : ℕ). Chained (bucket_at x c.args.table.now c.args.text.now) c.args.from (c.args.node + 1) (set c.args.heads.now c.bucket-bucket.result c.args.node) (set c.args.links.now (c.args.node - c.args.from) (get_or c.args.heads.now c.bucket-bucket.result 0))) (sym (length-set c.args.heads.now c.bucket-bucket.result c.args.node)) i; links_len_unchanged = length-set c.args.links.now (c.args.node - c.args.from) (get_or c.args.heads.now c.bucket-bucket.result 0) }
+    record { result_value = c.in_ok-steps.ensures; chained_2 = subst (λ (x : ℕ). Chained (bucket_at x c.args.table.now c.args.text.now) c.args.from (c.args.node + 1) (set c.args.heads.now c.bucket-bucket.result c.args.node) (set c.args.links.now (c.args.node - c.args.from) (get_or c.args.heads.now c.bucket-bucket.result 0))) (sym (length-set c.args.heads.now c.bucket-bucket.result c.args.node)) i; links_len_unchanged = length-set c.args.links.now (c.args.node - c.args.from) (get_or c.args.heads.now c.bucket-bucket.result 0) }

@@ -12,10 +12,10 @@ use mathlib.Core.Bool.{not}
 use Rattle.table.proofs.rules.member_steps.Goals as goal
 
 pub returns-then-not-stands_under : goal.returns-then-not-stands_under
-returns-then-not-stands_under c = record { result_value = sym (wrong_under c.args.table.now c.args.text.now c.args.above.parent c.args.node c.requires.child.0.under.place.earlier (found_range c.args.table.now c.args.node c.args.above c.requires.child.0.under) (λ u. both_answers _ (c.stands_under.ensures.value u) (not-true _ (ap not c.if-not-stands_under.true)))); kept_2 = λ z. absurd (omega arith) }
+returns-then-not-stands_under c = record { result_value = sym (wrong_under c.args.table.now c.args.text.now c.args.above.parent c.args.node c.requires.child.0.under.place.earlier (found_range c.args.table.now c.args.node c.args.above c.requires.child.0.under) (λ u. both_answers _ (c.stands_under.ensures.value u) (not-true _ (ap not c.if-not-stands_under.true)))); kept_2 = tt }
 
 pub returns-then-not-payload_right : goal.returns-then-not-payload_right
-returns-then-not-payload_right c = record { result_value = sym (wrong_payload c.args.table.now c.args.text.now c.args.node (sym c.payload_right.ensures ∙ not-true _ (ap not c.if-not-payload_right.true))); kept_2 = λ z. absurd (omega arith) }
+returns-then-not-payload_right c = record { result_value = sym (wrong_payload c.args.table.now c.args.text.now c.args.node (sym c.payload_right.ensures ∙ not-true _ (ap not c.if-not-payload_right.true))); kept_2 = tt }
 
 pub member_right-requires : goal.member_right-requires
 member_right-requires c = record { child = c.requires.child.0; parent_value = c.requires.parent_value; kept = c.requires.kept; known = c.requires.known }

@@ -7,4 +7,4 @@ pub members-requires : goal.members-requires
 members-requires c = record { begun = c.requires.begun; parent_value = (above_map c.requires.begun c.if-above-eq-KIND_MAP.true, c.requires.kept); known = c.requires.known }
 
 pub returns : goal.returns
-returns c = let all = list_passed c.requires.begun c.if-above-eq-KIND_MAP.false c.items.ensures c.requires.kept in record { passed_by = all.0; kept_2 = all.1 }
+returns c = record { passed_by = c.items.ensures; kept_2 = list_passed c.requires.begun c.items.result c.if-above-eq-KIND_MAP.false c.items.ensures c.requires.kept }

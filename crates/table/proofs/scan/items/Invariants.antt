@@ -12,6 +12,3 @@ use Rattle.table.proofs.scan.items.Given as goal
 
 abbrev pub invariant-loop-node : goal.invariant-loop-node
 invariant-loop-node l = (l.start ≤ l.node) × (l.node ≤ l.end) × (l.first ≡ first_child l.table l.node) × RightBelow l.table l.text l.node
-
-abbrev pub decreases-loop-node : goal.decreases-loop-node
-decreases-loop-node l = l.end - l.node

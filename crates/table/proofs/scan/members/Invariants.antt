@@ -15,6 +15,3 @@ use Rattle.table.proofs.scan.members.Given as goal
 
 abbrev pub invariant-loop-node : goal.invariant-loop-node
 invariant-loop-node l = (l.start ≤ l.node) × (l.node ≤ l.end) × (l.first ≡ first_child l.table l.node) × RightBelow l.table l.text l.node × Kept l.table l.text l.node l.above l.heads l.links × (length l.heads ≡ length l.initial.heads) × (length l.links ≡ length l.initial.links)
-
-abbrev pub decreases-loop-node : goal.decreases-loop-node
-decreases-loop-node l = l.end - l.node

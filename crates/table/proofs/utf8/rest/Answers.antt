@@ -3,6 +3,7 @@ use native.Mathlib.Omega.{arith}
 use mathlib.Core.Path.{refl}
 use Prim.Native.Nat.{◌-◌}
 use Rattle.table.proofs.Passes.{InPass, wrong_found, pass_ends, pass_alone, pass_parent, pass_begun, pass_kept, pass_on, pass_surely, parent_range}
+use Rattle.std.proofs.lemmas.Result.{err_from_is_err_and}
 use borrow.Author.Rules.{rules}
 use Rattle.table.proofs.utf8.rest.Goals as goal
 
@@ -15,30 +16,32 @@ returns-then-first-node c = pass_alone c.loop-node.invariant c.loop-node-test.tr
 pub to_parent-above-requires : goal.to_parent-above-requires
 to_parent-above-requires c = pass_parent c.loop-node.invariant c.loop-node-test.true c.if-first-node.false c.requires.table_nonzero.0
 
-pub children-passed-requires : goal.children-passed-requires
-children-passed-requires c = record { begun = pass_begun c.loop-node.invariant c.loop-node-test.true c.requires.table_nonzero.1 c.to_parent-above.ensures.parent_at; kept = pass_kept c.loop-node.invariant c.loop-node-test.true c.requires.table_nonzero.1 c.to_parent-above.ensures.parent_at c.to_parent-above.ensures.moved; known = c.requires.known }
+pub children-requires : goal.children-requires
+children-requires c = record { begun = pass_begun c.loop-node.invariant c.loop-node-test.true c.requires.table_nonzero.1 c.to_parent-above.ensures.parent_at; kept = pass_kept c.loop-node.invariant c.loop-node-test.true c.requires.table_nonzero.1 c.to_parent-above.ensures.parent_at c.to_parent-above.ensures.moved; known = c.requires.known }
 
-pub returns-then-passed-eq-WRONG : goal.returns-then-passed-eq-WRONG
-returns-then-passed-eq-WRONG c = wrong_found (c.children-passed.ensures.passed_by.stops c.if-passed-eq-WRONG.true)
+pub returns-in_err-passed : goal.returns-in_err-passed
+returns-in_err-passed c =
+    let p = err_from_is_err_and c.from_residual.result c.from_residual.ensures.1 in
+    rw (p.1, p.2) (wrong_found c.in_err-passed.ensures.passed_by)
 
 pub surely-cursor-requires : goal.surely-cursor-requires
 surely-cursor-requires c = parent_range c.to_parent-above.ensures.parent_at
 
-pub loop-node-smaller-then-passed-eq-LONG : goal.loop-node-smaller-then-passed-eq-LONG
-loop-node-smaller-then-passed-eq-LONG c =
-    let g = (c.children-passed.ensures.passed_by.goes c.if-passed-eq-WRONG.false).later in
+pub loop-node-smaller-then-passed : goal.loop-node-smaller-then-passed
+loop-node-smaller-then-passed c =
+    let g = c.in_ok-passed.ensures.passed_by.later in
     omega arith
 
-pub loop-node-preserved-then-passed-eq-LONG : goal.loop-node-preserved-then-passed-eq-LONG
-loop-node-preserved-then-passed-eq-LONG c = pass_surely c.loop-node.invariant c.loop-node-test.true c.requires.table_nonzero.1 c.to_parent-above.ensures.parent_at (c.children-passed.ensures.passed_by.goes c.if-passed-eq-WRONG.false) (c.children-passed.ensures.kept_2 c.if-passed-eq-WRONG.false) (omega (arith, c.children-passed.auto)) (omega (arith, c.children-passed.auto)) c.surely-cursor.ensures
+pub loop-node-preserved-then-passed : goal.loop-node-preserved-then-passed
+loop-node-preserved-then-passed c = pass_surely c.loop-node.invariant c.loop-node-test.true c.requires.table_nonzero.1 c.to_parent-above.ensures.parent_at c.in_ok-passed.ensures.passed_by c.in_ok-passed.ensures.kept_2 (omega (arith, c.children.auto)) (omega (arith, c.children.auto)) c.surely-cursor.ensures
 
 pub loop-node-smaller : goal.loop-node-smaller
 loop-node-smaller c =
-    let g = (c.children-passed.ensures.passed_by.goes c.if-passed-eq-WRONG.false).later in
+    let g = c.in_ok-passed.ensures.passed_by.later in
     omega arith
 
 pub loop-node-preserved : goal.loop-node-preserved
-loop-node-preserved c = pass_on c.loop-node.invariant c.loop-node-test.true c.requires.table_nonzero.1 c.to_parent-above.ensures.parent_at (c.children-passed.ensures.passed_by.goes c.if-passed-eq-WRONG.false) (c.children-passed.ensures.kept_2 c.if-passed-eq-WRONG.false) (omega (arith, c.children-passed.auto)) (omega (arith, c.children-passed.auto))
+loop-node-preserved c = pass_on c.loop-node.invariant c.loop-node-test.true c.requires.table_nonzero.1 c.to_parent-above.ensures.parent_at c.in_ok-passed.ensures.passed_by c.in_ok-passed.ensures.kept_2 (omega (arith, c.children.auto)) (omega (arith, c.children.auto))
 
 pub returns : goal.returns
 returns c = pass_ends c.loop-node.invariant c.loop-node-test.false
