@@ -1,15 +1,14 @@
 -- A text in which every byte may stand behind the three before it is UTF-8. Assumes nothing.
 use Prim.Native.Nat.{ℕ, zero, suc, ◌+◌, ◌-◌, ◌≤◌, ◌<◌}
 use mathlib.Core.Path.{◌≡◌, refl, sym, ap, ◌∙◌, subst}
-use mathlib.Core.Bool.{Bool, true, false, cond, not, ◌&&◌, ◌||◌, and-eq-true_iff, true≢false, false≢true}
+use mathlib.Core.Bool.{Bool, true, false, not, ◌&&◌, ◌||◌, and-eq-true_iff, true≢false, false≢true}
 use mathlib.Core.List.{List, [], ◌∷◌}
 use native.Mathlib.Omega.{arith}
-use native.Mathlib.Numerals.{add-one}
-use borrow.Author.Tests.{le-leb, lt-leb, lt-ltb, leb-true, leb-false, ltb-true, ltb-false, eqb-true, eqb-false, eq-eqb, le-ltb, not-true}
+use borrow.Author.Tests.{le-leb, lt-leb, leb-true, leb-false, ltb-true, ltb-false, eqb-true, eqb-false, eq-eqb, le-ltb, not-true}
 use lib.Dec.{eqb, leb, ltb}
 use lib.ListN.{length, take, drop, get_or, drop_of_length-le, length-drop}
 use lib.Seq.{drop-cons, get_or-drop}
-use Rattle.definition.specs.Bytes.{within, every, part}
+use Rattle.definition.specs.Bytes.{every, part}
 use Rattle.definition.specs.Utf8.{is_utf8_from, is_utf8}
 use Rattle.utf8_laws.specs.Bytes.{by_test, inside, inside_low, inside_high, low3, high3, low4, high4}
 use Rattle.utf8_laws.specs.Encode.{utf8_ascii, utf8_two, utf8_three, utf8_four}

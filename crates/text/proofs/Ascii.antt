@@ -2,7 +2,7 @@
 -- Assumes nothing.
 use Prim.Native.Nat.{ℕ, zero, suc, ◌+◌, ◌-◌, ◌*◌, ◌/◌, ◌%◌, ◌^◌, ◌≤◌, ◌<◌}
 use mathlib.Core.Path.{◌≡◌, refl, ap, ◌∙◌}
-use mathlib.Core.Bool.{Bool, true, ◌&&◌, and-eq-true_iff}
+use mathlib.Core.Bool.{Bool, true, false, ◌&&◌, and-eq-true_iff, false≢true}
 use mathlib.Core.List.{List, [], ◌∷◌, ◌++◌}
 use native.Mathlib.Omega.{arith}
 use borrow.Author.Tests.{lt-ltb, eq-eqb, ne_eqb, eqb-true, eqb-false, ltb-true, ltb-false}
@@ -10,6 +10,9 @@ use lib.Bits.{bit_and, and_block, and_high}
 use lib.Dec.{eqb, ltb}
 use lib.ListN.{length, take, drop, get_or, replicate, length-drop, take-append-drop}
 use lib.Seq.{take-add, take_all, drop-drop}
+use Rattle.std.specs.Bool.{MatchBool}
+use Rattle.std.specs.List.{AllWithin}
+use Rattle.std.proofs.lemmas.Bool.Decides.{Decides-by_and, Decides-ltb}
 use Rattle.definition.specs.Bytes.{every, part, number}
 use Rattle.definition_bytes.specs.Same.{part_length}
 use Rattle.utf8_laws.specs.Bytes.{by_test}
@@ -119,3 +122,9 @@ module _ (p : ℕ → Bool) where
   -- one element
   pub every_one : (s : List ℕ) (i : ℕ) → i < length s → p (get_or s i 0) ≡ true → every p (part s i 1) ≡ true
   every_one s i h e = rw (part_one s i h, e)
+
+-- ---- std's test of every byte
+
+pub ascii_from_all : (s : List ℕ) (r : Bool) (Q : Type 0) → MatchBool r (AllWithin (λ x. x < 0x80) s 0 (length s)) Q → r ≡ true → every is_ascii s ≡ true
+ascii_from_all s true Q h e = (Decides-by_and is_ascii (λ x. x < 0x80) (every is_ascii) (λ x. Decides-ltb x 0x80) refl (λ _ _. refl) s).1 (λ k d l. h k d (omega arith) l)
+ascii_from_all s false Q h e = absurd (false≢true e)

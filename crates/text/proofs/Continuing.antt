@@ -1,14 +1,14 @@
 -- Bytes that continue a character, eight at once: of each byte the highest bit and the one below it, moved to its lowest place, and the bytes of such a word added up.
 -- Assumes nothing.
-use Prim.Native.Nat.{ℕ, zero, suc, ◌+◌, ◌-◌, ◌*◌, ◌/◌, ◌%◌, ◌^◌, ◌≤◌, ◌<◌}
+use Prim.Native.Nat.{ℕ, ◌+◌, ◌-◌, ◌*◌, ◌/◌, ◌%◌, ◌^◌, ◌≤◌, ◌<◌}
 use mathlib.Core.Path.{◌≡◌, refl, sym, ap, ◌∙◌, subst}
 use mathlib.Core.Bool.{Bool, true, cond, and-eq-true_iff}
-use mathlib.Core.List.{List, [], ◌∷◌, ◌++◌}
+use mathlib.Core.List.{List, [], ◌∷◌}
 use native.Mathlib.Omega.{arith}
 use borrow.Author.Tests.{ltb-true, ltb-false}
-use lib.Bits.{bit_and, and_block, and_mask, and_le_l, and_zero_l, and_zero_r}
+use lib.Bits.{bit_and, and_block, and_mask, and_le_l, and_zero_l}
 use lib.Dec.{ltb}
-use lib.ListN.{length, drop, get_or, replicate}
+use lib.ListN.{length, get_or, replicate}
 use Rattle.definition.specs.Bytes.{every, part, number}
 use Rattle.definition.specs.Utf8.{continues, scalars_of}
 use Rattle.definition_bytes.specs.Same.{part_length}
@@ -135,6 +135,16 @@ continuing_part s at n m = ap continuing (part_add s at n m) ∙ continuing_appe
 -- words behind words
 pub words_more : (s : List ℕ) (at i k : ℕ) → continuing (part s at (8 * (i + k))) ≡ continuing (part s at (8 * i)) + continuing (part s (at + 8 * i) (8 * k))
 words_more s at i k = let e : 8 * (i + k) ≡ 8 * i + 8 * k = omega arith in ap (λ (x : ℕ). continuing (part s at x)) e ∙ continuing_part s at (8 * i) (8 * k)
+
+-- one block of 31 words more, and the words behind the last whole block
+pub blocks_more : (s : List ℕ) (at k : ℕ) → continuing (part s at (8 * 31 * (k + 1))) ≡ continuing (part s at (8 * 31 * k)) + continuing (part s (at + 8 * 31 * k) (8 * 31))
+blocks_more s at k = let e : 8 * 31 * (k + 1) ≡ 8 * 31 * k + 8 * 31 = omega arith in ap (λ (x : ℕ). continuing (part s at x)) e ∙ continuing_part s at (8 * 31 * k) (8 * 31)
+
+pub blocks_rest : (s : List ℕ) (at k words : ℕ) → k ≡ words / 31 → continuing (part s at (8 * words)) ≡ continuing (part s at (8 * 31 * k)) + continuing (part s (at + 8 * (words - words % 31)) (8 * (words % 31)))
+blocks_rest s at k words h =
+    let e : 8 * words ≡ 8 * 31 * k + 8 * (words % 31) = omega arith in
+    let f : at + 8 * 31 * k ≡ at + 8 * (words - words % 31) = omega arith in
+    ap (λ (x : ℕ). continuing (part s at x)) e ∙ continuing_part s at (8 * 31 * k) (8 * (words % 31)) ∙ ap (λ (x : ℕ). continuing (part s at (8 * 31 * k)) + continuing (part s x (8 * (words % 31)))) f
 
 -- one word more
 pub one_more : (s : List ℕ) (at i a b : ℕ) → Continuing (part s at (8 * i)) i a → Continuing (part s (at + 8 * i) 8) 1 b → Continuing (part s at (8 * (i + 1))) (i + 1) (a + b)

@@ -3,10 +3,13 @@
 use Prim.Native.Nat.{ℕ, zero, suc, ◌+◌, ◌-◌, ◌*◌, ◌/◌, ◌%◌, ◌^◌, ◌≤◌, ◌<◌}
 use native.Mathlib.Nat.{zero-add, suc-add, mul_assoc, mul_comm, pow-zero, pow-succ', div-one, div-div-eq-div-mul}
 use native.Mathlib.Omega.{arith}
-use mathlib.Core.Path.{◌≡◌, refl, ap, ◌∙◌}
+use mathlib.Core.Path.{◌≡◌, refl, sym, ap, ◌∙◌}
 use mathlib.Core.List.{List, [], ◌∷◌, ◌++◌}
 use lib.Arith.{digits_lt}
-use lib.ListN.{length, drop, get_or, set}
+use lib.ListN.{length, take, drop, get_or, set}
+use borrow.Rule.Slice.PartMut.{put_mid}
+use Rattle.std.proofs.lemmas.List.Edits.{sets-eq}
+use Rattle.std.proofs.lemmas.List.{append_assoc}
 use lib.Pow.{pow-add}
 use lib.Seq.{sets, take-add, drop-drop, drop-cons}
 use mir.Syntax.{w64}
@@ -32,6 +35,12 @@ use Rattle.text.specs.Words.{Word}
 -- a part that is lent from its start to its end
 pub part_lent : (s : List ℕ) (at n : ℕ) → part s at (at + n - at) ≡ part s at n
 part_lent s at n = let e : at + n - at ≡ n = omega arith in ap (part s at) e
+
+-- a write of a whole part
+pub part_put : (p : List ℕ) (at n : ℕ) (t r : List ℕ) → r ≡ t → length t ≡ n → at + n ≤ length p → put_mid at (at + n - at) p r ≡ sets p at t
+part_put p at n t r e l h =
+    let k : at + n - at ≡ n = omega arith in
+    rw (k, e, sets-eq t p at (omega (arith, l)), l, drop-drop n at p) (sym (append_assoc (take at p) t (drop (at + n) p)))
 
 -- a part in two pieces
 pub part_add : (s : List ℕ) (at n m : ℕ) → part s at (n + m) ≡ part s at n ++ part s (at + n) m

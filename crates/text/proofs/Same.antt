@@ -4,12 +4,14 @@ use Prim.Native.Nat.{ℕ, ◌+◌, ◌-◌, ◌≤◌, ◌<◌}
 use native.Mathlib.Nat.{suc_inj, suc-ne-zero}
 use native.Mathlib.Omega.{arith}
 use mathlib.Core.Path.{◌≡◌, refl, sym, ap, ◌∙◌}
-use mathlib.Core.Bool.{true, false, and-eq-true_iff}
+use mathlib.Core.Bool.{Bool, true, false, ◌&&◌, and-eq-true_iff}
 use mathlib.Core.List.{List, [], ◌∷◌, ◌++◌}
 use borrow.Author.Tests.{eq-eqb, eqb-true, eqb-false, ltb-true}
 use lib.Dec.{eqb}
 use lib.ListN.{length, take, drop, get_or, take-append-drop, drop_of_length-le, length-drop}
 use lib.Seq.{drop-drop, take_all}
+use Rattle.std.specs.Cmp.Lexicographic.{pointwise}
+use Rattle.std.specs.Prelude.{nat_eq}
 use Rattle.definition.specs.Bytes.{every, part, number, same_bytes}
 use Rattle.definition_bytes.specs.Same.{part_length, same_self, same_true, unlike_length}
 use Rattle.utf8_laws.specs.Bytes.{by_test}
@@ -112,6 +114,14 @@ same_last {s} {t} {j} {n} {x} {y} i l h a bs bt ws wt u =
     let d = sym (last_part s j n h) ∙ p ∙ last_part t j n (h ∙ l) in
     e ∙ sym (u ∙ same_equal (drop i s) (drop i t) (later_equal s t j i a d)))
     (λ f. f ∙ sym (same_unlike s t (λ e. words_unlike ws wt (eqb-false x y f) (ap (λ (r : List ℕ). part r j n) e))))
+
+-- std's test of two lists of numbers is that of two texts
+pub pointwise-same : (s t : List ℕ) → pointwise nat_eq s t ≡ same_bytes s t
+unfolding same_bytes
+pointwise-same [] [] = refl
+pointwise-same [] (y ∷ t) = refl
+pointwise-same (x ∷ s) [] = refl
+pointwise-same (x ∷ s) (y ∷ t) = ap (λ (b : Bool). eqb x y && b) (pointwise-same s t)
 
 -- ---- a text by its first and its last four bytes
 

@@ -8,34 +8,18 @@ ghost use Rattle.text.specs.Lengths.{low_mark, Fits, least_of, Under, top_of, Ag
 
 use crate::placed;
 
-// The lesser of two bytes.
-fn lesser(p: u8, q: u8) -> u8
-    ensures { (result ≤ p) × (result ≤ q) }
-{
-    if p < q {
-        return p;
-    }
-    q
-}
-
 // The greater of two bytes.
 fn greater(p: u8, q: u8) -> u8
     ensures { (k : ℕ) → leb k result ≡ (leb k p || leb k q) }
 {
-    if p < q {
-        return q;
-    }
-    p
+    p.max(q)
 }
 
 // By how much a byte is greater than k, and 0 where it is not.
 fn above(x: u8, k: u8) -> u8
     ensures { (m : ℕ) → 1 ≤ m → leb m result ≡ leb (m + k) x }
 {
-    if x < k {
-        return 0;
-    }
-    x - k
+    x.saturating_sub(k)
 }
 
 // At least 128 only where x continues a character exactly if `asked` is at least 128.
@@ -154,20 +138,18 @@ pub fn block_as(s: &[u8], at: usize, n: usize, kind: u8) -> bool
     let p = s[at];
     let q = s[at + 1];
     let r = s[at + 2];
-    let mut even = 0xFF;
-    let mut low = lesser(apart_as(kind, p, q), apart_as(kind, q, r));
+    let mut even = 0xFFu8;
+    let mut low = apart_as(kind, p, q).min(apart_as(kind, q, r));
     let mut top = greater(under_as(kind, p, q), under_as(kind, q, r));
     let mut right = true;
-    let mut i = 0;
-    while i < n {
+    for i in 0..n {
         let j = at + i;
         let c = s[j + 2];
         let x = s[j + 3];
-        even = lesser(even, agrees_as(kind, s[j], s[j + 1], c, x));
-        low = lesser(low, apart_as(kind, c, x));
+        even = even.min(agrees_as(kind, s[j], s[j + 1], c, x));
+        low = low.min(apart_as(kind, c, x));
         top = greater(top, under_as(kind, c, x));
         right = right & starts_as(kind, c, x);
-        i += 1;
     }
     right & (0x80 <= even) & (least_of(kind) <= low) & (top <= most_of(kind))
 }
@@ -176,13 +158,11 @@ pub fn block_as(s: &[u8], at: usize, n: usize, kind: u8) -> bool
 pub fn kind_of(s: &[u8], at: usize, n: usize) -> u8
     requires { at + n ≤ length s.now }
 {
-    let mut low = 0xFF;
-    let mut top = 0;
-    let mut i = 0;
-    while i < n {
-        low = lesser(low, s[at + i] ^ 0xC0);
-        top = greater(top, s[at + i]);
-        i += 1;
+    let mut low = 0xFFu8;
+    let mut top = 0u8;
+    for b in &s[at..at + n] {
+        low = low.min(*b ^ 0xC0);
+        top = top.max(*b);
     }
     kind_by(low, top)
 }

@@ -76,17 +76,7 @@ fn count_after(p: Place, n: usize, b: u8) -> usize
 fn opening(s: &[u8]) -> usize
     ensures { result ≡ opening_in s.now }
 {
-    let mut n = 0;
-    let mut i = 0;
-    while i < s.len() {
-        if either(s[i], b'[', b'(') {
-            n += 1;
-            i += 1;
-        } else {
-            i += 1;
-        }
-    }
-    n
+    s.iter().filter(|b| either(**b, b'[', b'(')).count()
 }
 
 // Whether the bracket count of s passes 32 at some moment, byte by byte.
@@ -95,16 +85,16 @@ fn counted(s: &[u8]) -> bool
 {
     let mut p = Place::Outside;
     let mut n = 0;
-    let mut i = 0;
-    // A byte adds at most one, so the pass ends where the bytes that are left cannot bring the count above the limit.
-    while MAX_BRACKETS - n < s.len() - i {
-        let b = s[i];
-        n = count_after(p, n, b);
+    for (i, b) in s.iter().enumerate() {
+        // A byte adds at most one, so the pass ends where the bytes that are left cannot bring the count above the limit.
+        if s.len() - i <= MAX_BRACKETS - n {
+            return false;
+        }
+        n = count_after(p, n, *b);
         if MAX_BRACKETS < n {
             return true;
         }
-        p = place_after(p, b);
-        i += 1;
+        p = place_after(p, *b);
     }
     false
 }

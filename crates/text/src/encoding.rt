@@ -157,14 +157,7 @@ fn ascii4(s: &[u8], at: usize) -> bool
 fn ascii_few(s: &[u8]) -> bool
     ensures { result ≡ true → every is_ascii s.now ≡ true }
 {
-    let mut i = 0;
-    while i < s.len() {
-        if 0x80 <= s[i] {
-            return false;
-        }
-        i += 1;
-    }
-    true
+    s.iter().all(|b| *b < 0x80)
 }
 
 // The same, eight bytes at a time. The last eight may begin among bytes that were looked at before.
@@ -173,12 +166,10 @@ fn ascii_words(s: &[u8]) -> bool
     ensures { result ≡ true → every is_ascii s.now ≡ true }
 {
     let last = s.len() - 8;
-    let mut i = 0;
-    while i < last {
-        if !ascii8(s, i) {
+    for k in 0..last.div_ceil(8) {
+        if !ascii8(s, 8 * k) {
             return false;
         }
-        i += 8;
     }
     ascii8(s, last)
 }
@@ -197,12 +188,10 @@ fn ascii_blocks(s: &[u8]) -> bool
     ensures { result ≡ true → every is_ascii s.now ≡ true }
 {
     let last = s.len() - 32;
-    let mut i = 0;
-    while i < last {
-        if !ascii32(s, i) {
+    for k in 0..last.div_ceil(32) {
+        if !ascii32(s, 32 * k) {
             return false;
         }
-        i += 32;
     }
     ascii32(s, last)
 }
@@ -329,10 +318,8 @@ fn continuing_block(s: &[u8], at: usize, words: usize) -> usize
     ensures { result ≡ continuing (part s.now at (8 * words)) }
 {
     let mut sum = 0;
-    let mut i = 0;
-    while i < words {
+    for i in 0..words {
         sum += continuing8(s, at + 8 * i);
-        i += 1;
     }
     (sum % 255) as usize
 }
@@ -343,14 +330,11 @@ fn continuing_words(s: &[u8], at: usize, words: usize) -> usize
     ensures { result ≡ continuing (part s.now at (8 * words)) }
 {
     let mut count = 0;
-    let mut i = 0;
-    let mut left = words;
-    while BLOCK <= left {
-        count += continuing_block(s, at + 8 * i, BLOCK);
-        i += BLOCK;
-        left -= BLOCK;
+    for k in 0..words / BLOCK {
+        count += continuing_block(s, at + 8 * BLOCK * k, BLOCK);
     }
-    count + continuing_block(s, at + 8 * i, left)
+    let left = words % BLOCK;
+    count + continuing_block(s, at + 8 * (words - left), left)
 }
 
 // 1 for a byte that continues a character, else 0.
@@ -372,10 +356,8 @@ fn continuing_few(s: &[u8], at: usize, n: usize) -> usize
     ensures { result ≡ continuing (part s.now at n) }
 {
     let mut count = 0;
-    let mut i = 0;
-    while i < n {
+    for i in 0..n {
         count += continues(s[at + i]);
-        i += 1;
     }
     count
 }

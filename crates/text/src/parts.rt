@@ -42,7 +42,7 @@ fn same_short(a: &[u8], b: &[u8]) -> bool
     ensures { result ≡ same_bytes a.now b.now }
 {
     if a.len() < 2 {
-        return same_few(a, b);
+        return a == b;
     }
     same_pairs(a, b)
 }
@@ -60,33 +60,16 @@ fn same_pairs(a: &[u8], b: &[u8]) -> bool
     bytes::word16(a, last) == bytes::word16(b, last)
 }
 
-// The same, byte by byte.
-fn same_few(a: &[u8], b: &[u8]) -> bool
-    requires { length a.now ≡ length b.now }
-    ensures { result ≡ same_bytes a.now b.now }
-{
-    let mut i = 0;
-    while i < a.len() {
-        if a[i] != b[i] {
-            return false;
-        }
-        i += 1;
-    }
-    true
-}
-
 // The same, eight bytes at a time.
 fn same_words(a: &[u8], b: &[u8]) -> bool
     requires { (length a.now ≡ length b.now) × (8 ≤ length a.now) }
     ensures { result ≡ same_bytes a.now b.now }
 {
     let last = a.len() - 8;
-    let mut i = 0;
-    while i < last {
-        if bytes::word64(a, i) != bytes::word64(b, i) {
+    for k in 0..last.div_ceil(8) {
+        if bytes::word64(a, 8 * k) != bytes::word64(b, 8 * k) {
             return false;
         }
-        i += 8;
     }
     bytes::word64(a, last) == bytes::word64(b, last)
 }
@@ -149,29 +132,17 @@ pub fn part_has_ends(s: &[u8], a: usize, m: usize, n: usize, low: usize, high: u
     has_ends(&s[a..a + m], n, low, high)
 }
 
-// The lesser of two lengths.
-fn shorter(n: usize, m: usize) -> usize
-    ensures { (result ≤ n) × (result ≤ m) }
-{
-    if n < m {
-        return n;
-    }
-    m
-}
-
 // How many bytes of a and b, from the first on, are found to be the same, eight at a time: those before the first unlike word, or before where a text has less than a word left.
 fn same_front(a: &[u8], b: &[u8]) -> usize
     ensures { Front a.now b.now result }
 {
-    let n = shorter(a.len(), b.len());
-    let mut i = 0;
-    while 8 <= n - i {
-        if bytes::word64(a, i) != bytes::word64(b, i) {
-            return i;
+    let words = a.len().min(b.len()) / 8;
+    for k in 0..words {
+        if bytes::word64(a, 8 * k) != bytes::word64(b, 8 * k) {
+            return 8 * k;
         }
-        i += 8;
     }
-    i
+    8 * words
 }
 
 // The order of a and b that the first unlike byte decides, the shorter first where there is none. Words that are the same are passed at once.
@@ -195,9 +166,5 @@ pub fn copy_part(src: &[u8], from: usize, n: usize, dst: &mut [u8], at: usize)
     requires { (from + n ≤ length src.now) × (at + n ≤ length dst.old) }
     ensures { Wrote dst.old at (part src.now from n) dst.new }
 {
-    let mut i = 0;
-    while i < n {
-        dst[at + i] = src[from + i];
-        i += 1;
-    }
+    dst[at..at + n].copy_from_slice(&src[from..from + n]);
 }

@@ -91,11 +91,9 @@ fn placed_few(s: &[u8], at: usize) -> bool
     ensures { result ≡ true → PlacedIn s.now at (at + 16) }
 {
     let mut right = true;
-    let mut i = 0;
-    while i < FEW {
+    for i in 0..FEW {
         let j = at + i;
         right = right & is_placed(s[j], s[j + 1], s[j + 2], s[j + 3]);
-        i += 1;
     }
     right
 }
@@ -114,11 +112,9 @@ fn plain_many(s: &[u8], at: usize) -> bool
     ensures { result ≡ true → PlacedIn s.now at (at + 64) }
 {
     let mut right = (s[at] < 0xF0) & (s[at + 1] < 0xF0);
-    let mut i = 0;
-    while i < MANY {
+    for i in 0..MANY {
         let j = at + i;
         right = right & is_plain(s[j + 1], s[j + 2], s[j + 3]);
-        i += 1;
     }
     right
 }

@@ -1,7 +1,6 @@
 -- `text::blocks::agreed` meets its contract.
 use mathlib.Core.Path.{sym, ◌∙◌}
 use Rattle.text.proofs.Lengths.{agreed_tail, agreed_other}
-use borrow.Author.Rules.{rules}
 use Rattle.text.proofs.blocks.agreed.Goals as goal
 
 pub returns-then-is_tail : goal.returns-then-is_tail

@@ -5,7 +5,6 @@ use mathlib.Core.Bool.{Bool, ◌||◌}
 use lib.Dec.{leb}
 use Rattle.text.specs.Placed.{is_asked_plain}
 use Rattle.text.proofs.Lengths.{agrees_two, agrees_three, agrees_four, agrees_wide, agrees_any}
-use borrow.Author.Rules.{rules}
 use Rattle.text.proofs.blocks.agrees_as.Goals as goal
 
 pub returns-then-kind-eq2 : goal.returns-then-kind-eq2

@@ -1,6 +1,5 @@
 -- `text::blocks::apart_as` meets its contract, by the numbers that bytes are turned into.
 use Rattle.text.proofs.Lengths.{fits_two, fits_three, fits_four, fits_mixed}
-use borrow.Author.Rules.{rules}
 use Rattle.text.proofs.blocks.apart_as.Goals as goal
 
 pub returns-then-kind-eq2 : goal.returns-then-kind-eq2

@@ -1,6 +1,5 @@
 -- `text::blocks::starts_as` meets its contract.
 use Rattle.text.proofs.Lengths.{starts_none, starts_any}
-use borrow.Author.Rules.{rules}
 use Rattle.text.proofs.blocks.starts_as.Goals as goal
 
 pub returns-then-kind-lt6 : goal.returns-then-kind-lt6

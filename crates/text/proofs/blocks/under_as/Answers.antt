@@ -1,6 +1,5 @@
 -- `text::blocks::under_as` meets its contract, by the numbers that bytes are turned into.
 use Rattle.text.proofs.Lengths.{under_wide, under_any}
-use borrow.Author.Rules.{rules}
 use Rattle.text.proofs.blocks.under_as.Goals as goal
 
 pub returns-then-kind-eq5 : goal.returns-then-kind-eq5

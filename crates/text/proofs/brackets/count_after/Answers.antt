@@ -1,5 +1,4 @@
 -- `text::brackets::count_after` meets its contract, place by place.
-use borrow.Author.Rules.{rules}
 use native.Mathlib.Omega.{arith}
 use mathlib.Core.Path.{refl, sym, ◌∙◌}
 use native.Mathlib.Numerals.{add-one}

@@ -1,28 +1,14 @@
--- `text::brackets::opening` meets its contract. What was counted and what is left give the whole.
-use Prim.Native.Nat.{◌+◌, ◌-◌, ◌≤◌}
-use mathlib.Core.Path.{◌≡◌, sym, ◌∙◌}
-use mathlib.Core.Bool.{true, false}
-use lib.ListN.{length, drop}
-use native.Mathlib.Omega.{arith}
-use borrow.Author.Rules.{rules}
-use Rattle.text.specs.Places.{opening_in}
-use Rattle.text.proofs.Counts.{opening_on, opening_behind}
+-- `text::brackets::opening` meets its contract. What is counted is the length of the list that the test leaves.
+use mathlib.Core.Path.{◌∙◌}
+use mathlib.Core.Bool.{◌||◌}
+use lib.Dec.{eqb}
+use Rattle.std.proofs.Common.{rules, tests}
+use Rattle.std.proofs.lemmas.Iterator.{YieldsList-from_slice}
+use Rattle.std.proofs.lemmas.Iterator.Consumers.{count_from_yields_List, YieldsList-from_filter}
+use Rattle.text.proofs.Counts.{length-filter_opening}
 use Rattle.text.proofs.brackets.opening.Goals as goal
-
-pub loop-i-init : goal.loop-i-init
-loop-i-init c = (omega arith, omega arith)
-
-pub loop-i-preserved-then-either : goal.loop-i-preserved-then-either
-loop-i-preserved-then-either c =
-    let o = opening_on c.args.s.now c.loop-i.i (omega arith) true (sym c.if-either.true ∙ c.either.ensures) in
-    (omega arith, omega (arith, o, c.loop-i.invariant.1))
-
-pub loop-i-preserved : goal.loop-i-preserved
-loop-i-preserved c =
-    let o = opening_on c.args.s.now c.loop-i.i (omega arith) false (sym c.if-either.false ∙ c.either.ensures) in
-    (omega arith, omega (arith, o, c.loop-i.invariant.1))
 
 pub returns : goal.returns
 returns c =
-    let o = opening_behind c.args.s.now c.loop-i.i (omega arith) in
-    omega (arith, o, c.loop-i.invariant.1)
+    let s = c.args.s.now in
+    count_from_yields_List _ _ c.count.ensures.ran (YieldsList-from_filter _ (λ b. eqb b 0x5B || eqb b 0x28) (YieldsList-from_slice s cc) c.filter.ensures.closure (λ x r q k. search (rules, tests))) ∙ length-filter_opening s

@@ -1,5 +1,4 @@
 -- `text::brackets::place_after` meets its contract, place by place.
-use borrow.Author.Rules.{rules}
 use mathlib.Core.Path.{refl, sym, ◌∙◌}
 use borrow.Author.Tests.{eq-eqb, ne_eqb}
 use Rattle.definition.specs.Brackets.{place_after}

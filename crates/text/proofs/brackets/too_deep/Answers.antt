@@ -1,7 +1,6 @@
 -- `text::brackets::too_deep` meets its contract: too few bytes that open are never too deep.
 use mathlib.Core.Path.{sym}
 use native.Mathlib.Omega.{arith}
-use borrow.Author.Rules.{rules}
 use Rattle.definition.specs.Brackets.{too_deep}
 use Rattle.definition.specs.Brackets.Place.{outside}
 use Rattle.text.proofs.Counts.{deep_few}

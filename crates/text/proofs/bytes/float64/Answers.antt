@@ -1,5 +1,4 @@
 -- `text::bytes::float64` meets its contract.
-use borrow.Author.Rules.{rules}
 use mathlib.Core.Path.{ap}
 use lib.Ieee.{binary64, of_bits}
 use Rattle.text.proofs.bytes.float64.Goals as goal

@@ -1,5 +1,4 @@
 -- `text::bytes::int64` meets its contract. From 2 ^ 63 on the number is one less than the negated complement.
-use borrow.Author.Rules.{rules}
 use native.Mathlib.Omega.{arith}
 use Prim.Native.Nat.{◌-◌, ◌^◌}
 use mathlib.Core.Path.{◌≡◌, ap, ◌∙◌}

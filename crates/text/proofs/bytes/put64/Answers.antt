@@ -1,5 +1,4 @@
 -- `text::bytes::put64` meets its contract: a number stored in two pieces.
-use borrow.Author.Rules.{rules}
 use Rattle.text.proofs.Numbers.{wrote_halves}
 use Rattle.text.proofs.bytes.put64.Goals as goal
 

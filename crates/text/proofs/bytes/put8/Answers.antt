@@ -1,5 +1,4 @@
 -- `text::bytes::put8` meets its contract.
-use borrow.Author.Rules.{rules}
 use mathlib.Core.Path.{refl}
 use Rattle.definition.specs.Bytes.{little_endian}
 use Rattle.text.proofs.bytes.put8.Goals as goal

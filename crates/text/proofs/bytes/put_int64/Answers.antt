@@ -1,5 +1,4 @@
 -- `text::bytes::put_int64` meets its contract.
-use borrow.Author.Rules.{rules}
 use mathlib.Core.Path.{ap, ◌∙◌}
 use mir.Facts.{to_z-of_z}
 use Rattle.definition.specs.Bytes.{unsigned64}

@@ -1,5 +1,4 @@
 -- `text::bytes::word64` meets its contract: a word in two pieces.
-use borrow.Author.Rules.{rules}
 use native.Mathlib.Omega.{arith}
 use Rattle.text.proofs.Numbers.{word_halves}
 use Rattle.text.proofs.bytes.word64.Goals as goal

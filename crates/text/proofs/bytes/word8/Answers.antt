@@ -1,5 +1,4 @@
 -- `text::bytes::word8` meets its contract. A byte of a slice is below 256.
-use borrow.Author.Rules.{rules}
 use native.Mathlib.Omega.{arith}
 use Rattle.text.proofs.Numbers.{word_one}
 use Rattle.text.proofs.bytes.word8.Goals as goal

@@ -7,7 +7,6 @@ use lib.ListN.{length}
 use borrow.Author.Tests.{not-false}
 use Rattle.text.specs.Chars.{is_ascii}
 use Rattle.text.proofs.Ascii.{every_whole}
-use borrow.Author.Rules.{rules}
 use mathlib.Core.Path.{ap}
 use mathlib.Core.Bool.{not}
 use Rattle.text.proofs.encoding.all_ascii.Goals as goal

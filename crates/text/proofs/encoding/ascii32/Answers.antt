@@ -3,7 +3,6 @@ use mathlib.Core.Path.{sym, ◌∙◌}
 use mathlib.Core.Bool.{and-eq-true_iff}
 use Rattle.text.specs.Chars.{is_ascii}
 use Rattle.text.proofs.Ascii.{every_join}
-use borrow.Author.Rules.{rules}
 use Rattle.text.proofs.encoding.ascii32.Goals as goal
 
 pub returns : goal.returns

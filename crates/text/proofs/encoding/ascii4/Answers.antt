@@ -2,7 +2,6 @@
 use native.Mathlib.Omega.{arith}
 use Rattle.definition.specs.Bytes.{number}
 use Rattle.text.proofs.Ascii.{high_bits, ascii_at}
-use borrow.Author.Rules.{rules}
 use Rattle.text.proofs.encoding.ascii4.Goals as goal
 
 pub returns : goal.returns

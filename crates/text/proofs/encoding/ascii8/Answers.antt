@@ -1,5 +1,4 @@
 -- `text::encoding::ascii8` meets its contract.
-use borrow.Author.Rules.{rules}
 use native.Mathlib.Omega.{arith}
 use Rattle.definition.specs.Bytes.{number}
 use Rattle.text.proofs.Ascii.{high_bits, ascii_at}

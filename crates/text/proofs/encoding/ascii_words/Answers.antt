@@ -1,38 +1,18 @@
--- `text::encoding::ascii_words` meets its contract. The loop's invariant: the bytes that were looked at are ASCII. The measure is what is left.
-use borrow.Author.Rules.{rules}
+-- `text::encoding::ascii_words` meets its contract. The loop's invariant: the bytes that were looked at are ASCII.
 use native.Mathlib.Omega.{arith}
-use mathlib.Core.Path.{◌≡◌, refl, sym, ◌∙◌}
-use mathlib.Core.Bool.{true, false≢true}
-use Prim.Native.Nat.{◌-◌, ◌≤◌}
-use lib.ListN.{length, take}
+use mathlib.Core.Path.{◌≡◌, ap, sym, ◌∙◌}
+use mathlib.Core.Bool.{not}
+use Prim.Native.Nat.{◌*◌, ◌+◌, ◌-◌}
+use lib.ListN.{length}
 use borrow.Author.Tests.{not-false}
-use Rattle.definition.specs.Bytes.{every}
 use Rattle.text.specs.Chars.{is_ascii}
 use Rattle.text.proofs.Ascii.{every_more, every_whole}
-use mathlib.Core.Path.{ap}
-use mathlib.Core.Bool.{not}
 use Rattle.text.proofs.encoding.ascii_words.Goals as goal
 
-pub loop-i-init : goal.loop-i-init
-loop-i-init c = (omega arith, refl)
-
-pub ascii8-requires : goal.ascii8-requires
-ascii8-requires c = omega arith
-
-pub returns-then-not-ascii8 : goal.returns-then-not-ascii8
-returns-then-not-ascii8 c = λ z. absurd (false≢true z)
-
-pub overflow_add-i : goal.overflow_add-i
-overflow_add-i c = omega arith
-
-pub loop-i-smaller : goal.loop-i-smaller
-loop-i-smaller c = omega arith
-
-pub loop-i-preserved : goal.loop-i-preserved
-loop-i-preserved c = (omega arith, every_more is_ascii c.args.s.now c.loop-i.i 8 c.loop-i.invariant.1 (sym c.ascii8.ensures ∙ not-false _ (ap not c.if-not-ascii8.false)))
-
-pub ascii8-requires-2 : goal.ascii8-requires-2
-ascii8-requires-2 c = omega (arith, c.requires)
+pub loop-k-preserved : goal.loop-k-preserved
+loop-k-preserved c =
+    let e : 8 * c.loop-k.k + 8 ≡ 8 * (c.loop-k.k + 1) = omega arith in
+    rw e at (every_more is_ascii c.args.s.now (8 * c.loop-k.k) 8 c.loop-k.invariant (sym c.ascii8.ensures ∙ not-false _ (ap not c.if-not-ascii8.false)))
 
 pub returns : goal.returns
-returns c = λ z. every_whole is_ascii c.args.s.now c.loop-i.i (length c.args.s.now - 8) 8 c.loop-i-test.false (omega arith) c.loop-i.invariant.1 (sym c.ascii8-2.ensures ∙ z)
+returns c = λ z. every_whole is_ascii c.args.s.now (8 * c.loop-k.k) (length c.args.s.now - 8) 8 (omega arith) (omega arith) c.loop-k.invariant (sym c.ascii8-2.ensures ∙ z)

@@ -1,5 +1,4 @@
 -- `text::encoding::char_length` meets its contract.
-use borrow.Author.Rules.{rules}
 use native.Mathlib.Omega.{arith}
 use mathlib.Core.Path.{refl, sym, ap, ◌∙◌}
 use Rattle.text.specs.Chars.{wait_of, length_after}

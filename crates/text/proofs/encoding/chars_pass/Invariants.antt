@@ -1,12 +1,9 @@
 -- `text::encoding::chars_pass` meets its contract. The loop's invariant: what is left is UTF-8 if and only if the whole text is.
 -- The measure is what is left.
-use borrow.Author.Rules.{rules}
-use native.Mathlib.Omega.{arith}
-use mathlib.Core.Path.{◌≡◌, refl, sym, ◌∙◌}
-use Prim.Native.Nat.{◌+◌, ◌-◌, ◌≤◌}
+use mathlib.Core.Path.{◌≡◌}
+use Prim.Native.Nat.{◌-◌, ◌≤◌}
 use lib.ListN.{length, drop}
 use Rattle.definition.specs.Utf8.{is_utf8}
-use Rattle.text.proofs.States.{step_wrong, step_on, step_in, step_end}
 use Rattle.text.proofs.encoding.chars_pass.Given as goal
 
 abbrev pub invariant-loop-i : goal.invariant-loop-i

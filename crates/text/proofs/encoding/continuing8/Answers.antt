@@ -1,5 +1,4 @@
 -- `text::encoding::continuing8` meets its contract.
-use borrow.Author.Rules.{rules}
 use native.Mathlib.Omega.{arith}
 use mathlib.Core.Path.{refl}
 use lib.Bits.{and_le_l}

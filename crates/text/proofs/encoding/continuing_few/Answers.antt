@@ -1,8 +1,7 @@
--- `text::encoding::continuing_few` meets its contract. The loop's invariant: what is counted are the bytes so far. The measure is what is left.
-use borrow.Author.Rules.{rules}
+-- `text::encoding::continuing_few` meets its contract. The loop's invariant: what is counted are the bytes so far.
 use native.Mathlib.Omega.{arith}
 use mathlib.Core.Path.{◌≡◌, refl, ap, ◌∙◌}
-use Prim.Native.Nat.{ℕ, ◌+◌, ◌-◌, ◌≤◌}
+use Prim.Native.Nat.{ℕ, ◌+◌}
 use Rattle.definition.specs.Bytes.{part}
 use Rattle.definition_bytes.specs.Same.{part_length}
 use Rattle.utf8_laws.specs.Scalars.{continuing, continuing_few}
@@ -12,31 +11,19 @@ use Rattle.text.proofs.encoding.continuing_few.Goals as goal
 -- one byte more
 next : (c : goal.After-continues-count) → c.loop-i.count + c.continues-count.result ≡ continuing (part c.args.s.now c.args.at (c.loop-i.i + 1))
 next c =
-    omega (arith, c.loop-i.invariant.1, c.continues-count.ensures, byte_more c.args.s.now c.args.at c.loop-i.i (omega arith))
+    omega (arith, c.loop-i.invariant, c.continues-count.ensures, byte_more c.args.s.now c.args.at c.loop-i.i (omega arith))
 
 pub loop-i-init : goal.loop-i-init
 unfolding continuing
-loop-i-init c = (omega arith, refl)
-
-pub overflow_add-at : goal.overflow_add-at
-overflow_add-at c = omega arith
-
-pub bounds-s-at : goal.bounds-s-at
-bounds-s-at c = omega arith
+loop-i-init c = refl
 
 pub overflow_add-count : goal.overflow_add-count
 overflow_add-count c = omega (arith, next c, continuing_few (part c.args.s.now c.args.at (c.loop-i.i + 1)), part_length c.args.s.now c.args.at (c.loop-i.i + 1) (omega arith))
 
-pub overflow_add-i : goal.overflow_add-i
-overflow_add-i c = omega arith
-
-pub loop-i-smaller : goal.loop-i-smaller
-loop-i-smaller c = omega arith
-
 pub loop-i-preserved : goal.loop-i-preserved
-loop-i-preserved c = (omega arith, next c)
+loop-i-preserved c = next c
 
 pub returns : goal.returns
 returns c =
     let e : c.loop-i.i ≡ c.args.n = omega arith in
-    c.loop-i.invariant.1 ∙ ap (λ (k : ℕ). continuing (part c.args.s.now c.args.at k)) e
+    c.loop-i.invariant ∙ ap (λ (k : ℕ). continuing (part c.args.s.now c.args.at k)) e

@@ -1,5 +1,4 @@
 -- `text::encoding::count_scalars` meets its contract: every byte that continues no character begins a scalar value.
-use borrow.Author.Rules.{rules}
 use native.Mathlib.Omega.{arith}
 use Prim.Native.Nat.{◌+◌, ◌-◌, ◌/◌, ◌≤◌}
 use mathlib.Core.Path.{◌≡◌}

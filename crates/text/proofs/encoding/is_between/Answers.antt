@@ -1,8 +1,6 @@
 -- `text::encoding::is_between` meets its contract.
-use native.Mathlib.Omega.{arith}
 use mathlib.Core.Path.{sym}
 use Rattle.text.proofs.Between.{between_end, between_at}
-use borrow.Author.Rules.{rules}
 use Rattle.text.proofs.encoding.is_between.Goals as goal
 
 pub returns-then-s-at : goal.returns-then-s-at

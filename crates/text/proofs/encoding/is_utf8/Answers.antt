@@ -1,7 +1,6 @@
 -- `text::encoding::is_utf8` meets its contract: ASCII texts are UTF-8, and texts whose bytes are all placed.
 use mathlib.Core.Path.{sym}
 use Rattle.text.proofs.States.{utf8_plain}
-use borrow.Author.Rules.{rules}
 use Rattle.text.proofs.encoding.is_utf8.Goals as goal
 
 pub returns-then-all_ascii : goal.returns-then-all_ascii

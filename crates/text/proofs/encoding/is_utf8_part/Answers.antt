@@ -1,5 +1,4 @@
 -- `text::encoding::is_utf8_part` meets its contract.
-use borrow.Author.Rules.{rules}
 use mathlib.Core.Path.{ap, ◌∙◌}
 use Rattle.definition.specs.Utf8.{is_utf8}
 use Rattle.text.proofs.Numbers.{part_lent}

@@ -1,6 +1,5 @@
 -- `text::encoding::short_ascii` meets its contract.
 use mathlib.Core.Bool.{false≢true}
-use borrow.Author.Rules.{rules}
 use Rattle.text.proofs.encoding.short_ascii.Goals as goal
 
 pub returns-then-n-s : goal.returns-then-n-s

@@ -1,5 +1,4 @@
 -- `text::encoding::short_known` meets its contract.
-use borrow.Author.Rules.{rules}
 use native.Mathlib.Omega.{arith}
 use mathlib.Core.Path.{sym, ◌∙◌}
 use Rattle.text.proofs.encoding.short_known.Goals as goal

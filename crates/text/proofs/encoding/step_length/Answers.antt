@@ -1,5 +1,4 @@
 -- `text::encoding::step_length` meets its contract.
-use borrow.Author.Rules.{rules}
 use native.Mathlib.Omega.{arith}
 use mathlib.Core.Path.{sym, ◌∙◌}
 use Rattle.text.proofs.States.{step_run, step_short, step_char}

@@ -1,15 +1,7 @@
 -- `text::encoding::tails_length` meets its contract, byte by byte.
-use Prim.Native.Nat.{◌+◌}
-use borrow.Author.Rules.{rules}
-use borrow.Author.Tests.{not-true, not-false}
-use lib.ListN.{drop}
-use mathlib.Core.Bool.{true}
-use mathlib.Core.Path.{◌≡◌, refl, sym, ◌∙◌}
+use mathlib.Core.Path.{refl, sym, ◌∙◌}
 use native.Mathlib.Omega.{arith}
-use Rattle.text.specs.Chars.{tails_pass}
 use Rattle.text.proofs.States.{second_wrong, third_wrong, two_right, three_right, four_by}
-use mathlib.Core.Path.{ap}
-use mathlib.Core.Bool.{not}
 use Rattle.text.proofs.encoding.tails_length.Goals as goal
 
 pub returns-then-not-in_range : goal.returns-then-not-in_range

@@ -1,7 +1,5 @@
 -- `text::parts::ends_of` meets its contract.
 use mathlib.Core.Path.{refl}
-use borrow.Author.Rules.{rules}
-use Rattle.text.proofs.parts.ends_of.Lts as lts
 use Rattle.text.proofs.parts.ends_of.Goals as goal
 
 pub returns : goal.returns

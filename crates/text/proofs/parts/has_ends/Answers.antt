@@ -1,8 +1,6 @@
 -- `text::parts::has_ends` meets its contract.
 use native.Mathlib.Omega.{arith}
 use Rattle.text.proofs.Same.{ends_lengths, ends_first, ends_last}
-use borrow.Author.Rules.{rules}
-use Rattle.text.proofs.parts.has_ends.Lts as lts
 use Rattle.text.proofs.parts.has_ends.Goals as goal
 
 pub returns-then-a-n : goal.returns-then-a-n

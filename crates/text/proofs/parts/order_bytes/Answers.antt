@@ -1,5 +1,4 @@
 -- `text::parts::order_bytes` meets its contract: std's order of what is left of the two texts, which stands as the whole texts do.
-use borrow.Author.Rules.{rules}
 use mathlib.Core.Path.{◌≡◌, refl, sym, ap, ◌∙◌}
 use lib.ListN.{drop}
 use Rattle.std.proofs.lemmas.List.{take_rest}

@@ -1,5 +1,4 @@
 -- `text::parts::order_part` meets its contract.
-use borrow.Author.Rules.{rules}
 use mathlib.Core.Path.{refl, ◌∙◌}
 use Rattle.text.proofs.Numbers.{part_lent}
 use Rattle.text.proofs.parts.order_part.Goals as goal

@@ -3,8 +3,6 @@ use mathlib.Core.Path.{ap, ◌∙◌}
 use lib.ListN.{length}
 use Rattle.text.proofs.Numbers.{part_lent}
 use Rattle.text.proofs.Same.{ends_as}
-use borrow.Author.Rules.{rules}
-use Rattle.text.proofs.parts.part_ends.Lts as lts
 use Rattle.definition_bytes.specs.Same.{part_length}
 use Rattle.text.proofs.parts.part_ends.Goals as goal
 

@@ -4,8 +4,6 @@ use mathlib.Core.Path.{ap, ◌∙◌}
 use mathlib.Core.List.{List}
 use Rattle.definition.specs.Bytes.{same_bytes}
 use Rattle.text.proofs.Numbers.{part_lent}
-use borrow.Author.Rules.{rules}
-use Rattle.text.proofs.parts.part_has_ends.Lts as lts
 use Rattle.text.proofs.parts.part_has_ends.Goals as goal
 
 pub returns : goal.returns

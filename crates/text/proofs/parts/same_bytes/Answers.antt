@@ -1,5 +1,4 @@
 -- `text::parts::same_bytes` meets its contract.
-use borrow.Author.Rules.{rules}
 use mathlib.Core.Path.{sym}
 use Rattle.definition_bytes.specs.Same.{unlike_length}
 use Rattle.text.proofs.parts.same_bytes.Goals as goal

@@ -2,8 +2,6 @@
 use mathlib.Core.Path.{sym}
 use Rattle.text.proofs.Same.{same_on, same_stop, same_last, words_equal, words_unlike}
 use native.Mathlib.Omega.{arith}
-use borrow.Author.Rules.{rules}
-use Rattle.text.proofs.parts.same_each.Lts as lts
 use Rattle.text.proofs.parts.same_each.Goals as goal
 
 pub returns-then-word32 : goal.returns-then-word32

@@ -2,8 +2,6 @@
 use mathlib.Core.Path.{sym}
 use Rattle.text.proofs.Same.{same_on, same_stop, same_last, words_equal, words_unlike}
 use native.Mathlib.Omega.{arith}
-use borrow.Author.Rules.{rules}
-use Rattle.text.proofs.parts.same_pairs.Lts as lts
 use Rattle.text.proofs.parts.same_pairs.Goals as goal
 
 pub returns-then-word16 : goal.returns-then-word16

@@ -1,5 +1,4 @@
 -- `text::parts::same_part` meets its contract.
-use borrow.Author.Rules.{rules}
 use mathlib.Core.Path.{refl, ◌∙◌}
 use Rattle.text.proofs.Numbers.{part_lent}
 use Rattle.text.proofs.parts.same_part.Goals as goal

@@ -1,5 +1,4 @@
 -- `text::placed::agrees` meets its contract.
-use borrow.Author.Rules.{rules}
 use Rattle.text.proofs.Along.{same_answer}
 use Rattle.text.proofs.placed.agrees.Goals as goal
 

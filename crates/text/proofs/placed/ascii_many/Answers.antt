@@ -6,7 +6,6 @@ use borrow.Author.Tests.{ltb-true}
 use Rattle.text.specs.Chars.{is_ascii}
 use Rattle.text.proofs.Ascii.{every_join}
 use Rattle.text.proofs.Along.{ascii_all, ascii_next, ascii_bytes}
-use borrow.Author.Rules.{rules}
 use Rattle.text.proofs.placed.ascii_many.Goals as goal
 
 pub returns : goal.returns

@@ -3,7 +3,6 @@ use mathlib.Core.Bool.{false≢true}
 use Prim.Native.Nat.{◌+◌}
 use borrow.Author.Tests.{not-false}
 use Rattle.text.proofs.Along.{placed_join, placed_behind}
-use borrow.Author.Rules.{rules}
 use mathlib.Core.Path.{ap}
 use mathlib.Core.Bool.{not}
 use Rattle.text.proofs.placed.ascii_most.Goals as goal

@@ -1,10 +1,8 @@
 -- `text::placed::each` meets its contract. The loop's invariant: the bytes that were tested are placed. The measure is what is left.
 use native.Mathlib.Omega.{arith}
 use mathlib.Core.Bool.{false≢true}
-use Prim.Native.Nat.{◌+◌, ◌-◌, ◌≤◌}
-use lib.ListN.{length}
+use Prim.Native.Nat.{◌+◌}
 use borrow.Author.Tests.{not-false}
-use Rattle.text.specs.Placed.{PlacedIn}
 use Rattle.text.proofs.Along.{placed_none, placed_join, placed_last}
 use mathlib.Core.Path.{ap}
 use mathlib.Core.Bool.{not}

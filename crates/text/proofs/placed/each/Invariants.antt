@@ -1,11 +1,7 @@
 -- `text::placed::each` meets its contract. The loop's invariant: the bytes that were tested are placed. The measure is what is left.
-use native.Mathlib.Omega.{arith}
-use mathlib.Core.Bool.{false≢true}
-use Prim.Native.Nat.{◌+◌, ◌-◌, ◌≤◌}
+use Prim.Native.Nat.{◌-◌, ◌≤◌}
 use lib.ListN.{length}
-use borrow.Author.Tests.{not-false}
 use Rattle.text.specs.Placed.{PlacedIn}
-use Rattle.text.proofs.Along.{placed_none, placed_join, placed_last}
 use Rattle.text.proofs.placed.each.Given as goal
 
 abbrev pub invariant-loop-i : goal.invariant-loop-i

@@ -1,11 +1,10 @@
 -- `text::placed::ends_right` meets its contract: four tests.
 use native.Mathlib.Omega.{arith}
-use mathlib.Core.Path.{◌≡◌, sym, subst}
+use mathlib.Core.Path.{◌≡◌, subst}
 use mathlib.Core.Bool.{and-eq-true_iff}
 use Prim.Native.Nat.{ℕ, ◌+◌, ◌-◌}
 use lib.ListN.{length, get_or}
 use Rattle.text.specs.Placed.{Placed}
-use borrow.Author.Rules.{rules}
 use Rattle.text.proofs.placed.ends_right.Goals as goal
 
 pub returns : goal.returns

@@ -1,5 +1,4 @@
 -- `text::placed::is_bounded` meets its contract.
-use borrow.Author.Rules.{rules}
 use Rattle.text.proofs.Along.{bounded_by}
 use Rattle.text.proofs.placed.is_bounded.Goals as goal
 

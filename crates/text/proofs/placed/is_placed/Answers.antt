@@ -1,7 +1,6 @@
 -- `text::placed::is_placed` meets its contract: the two tests have one answer, and the byte is within its bounds.
-use mathlib.Core.Path.{sym, ap, ◌∙◌}
+use mathlib.Core.Path.{sym, ◌∙◌}
 use mathlib.Core.Bool.{and-eq-true_iff}
-use borrow.Author.Rules.{rules}
 use Rattle.text.proofs.placed.is_placed.Goals as goal
 
 pub returns : goal.returns

@@ -1,7 +1,6 @@
 -- `text::placed::is_plain` meets its contract: the two tests have one answer, and there are no bounds.
-use mathlib.Core.Path.{sym, ap, ◌∙◌}
+use mathlib.Core.Path.{sym, ◌∙◌}
 use mathlib.Core.Bool.{and-eq-true_iff}
-use borrow.Author.Rules.{rules}
 use Rattle.text.proofs.placed.is_plain.Goals as goal
 
 pub returns : goal.returns

@@ -1,5 +1,4 @@
 -- `text::placed::is_unbound` meets its contract.
-use borrow.Author.Rules.{rules}
 use Rattle.text.proofs.Along.{unbound_by}
 use Rattle.text.proofs.placed.is_unbound.Goals as goal
 

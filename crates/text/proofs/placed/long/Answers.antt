@@ -1,9 +1,8 @@
 -- `text::placed::long` meets its contract. The loop's invariant: the bytes that were tested are placed. The measure is what is left.
 use native.Mathlib.Omega.{arith}
 use mathlib.Core.Bool.{false≢true}
-use Prim.Native.Nat.{◌+◌, ◌-◌, ◌≤◌}
+use Prim.Native.Nat.{◌+◌, ◌-◌}
 use lib.ListN.{length}
-use Rattle.text.specs.Placed.{PlacedIn}
 use Rattle.text.proofs.Along.{placed_none, placed_join}
 use Rattle.text.proofs.placed.long.Goals as goal
 

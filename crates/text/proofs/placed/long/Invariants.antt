@@ -1,10 +1,7 @@
 -- `text::placed::long` meets its contract. The loop's invariant: the bytes that were tested are placed. The measure is what is left.
-use native.Mathlib.Omega.{arith}
-use mathlib.Core.Bool.{false≢true}
 use Prim.Native.Nat.{◌+◌, ◌-◌, ◌≤◌}
 use lib.ListN.{length}
 use Rattle.text.specs.Placed.{PlacedIn}
-use Rattle.text.proofs.Along.{placed_none, placed_join}
 use Rattle.text.proofs.placed.long.Given as goal
 
 abbrev pub invariant-loop-i : goal.invariant-loop-i

@@ -1,7 +1,6 @@
 -- `text::placed::passes_block` meets its contract by one of two tests.
 use native.Mathlib.Omega.{arith}
 use borrow.Author.Tests.{not-false}
-use borrow.Author.Rules.{rules}
 use mathlib.Core.Path.{ap}
 use mathlib.Core.Bool.{not}
 use Rattle.text.proofs.placed.passes_block.Goals as goal

@@ -1,5 +1,4 @@
 -- `text::placed::passes_many` meets its contract by one of three tests.
-use borrow.Author.Rules.{rules}
 use Rattle.text.proofs.placed.passes_many.Goals as goal
 
 pub returns-then-ascii_many : goal.returns-then-ascii_many

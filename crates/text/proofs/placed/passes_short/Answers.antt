@@ -1,6 +1,5 @@
 -- `text::placed::passes_short` meets its contract.
 use mathlib.Core.Bool.{false≢true}
-use borrow.Author.Rules.{rules}
 use Rattle.text.proofs.placed.passes_short.Goals as goal
 
 pub returns-then-n-eq-MANY : goal.returns-then-n-eq-MANY

@@ -1,5 +1,4 @@
 -- `text::placed::passes_step` meets its contract.
-use borrow.Author.Rules.{rules}
 use Rattle.text.proofs.placed.passes_step.Goals as goal
 
 pub returns-then-ascii_most : goal.returns-then-ascii_most

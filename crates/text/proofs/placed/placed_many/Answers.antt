@@ -2,7 +2,6 @@
 use mathlib.Core.Path.{refl}
 use mathlib.Core.Bool.{and-eq-true_iff}
 use Rattle.text.proofs.Along.{placed_four}
-use borrow.Author.Rules.{rules}
 use Rattle.text.proofs.placed.placed_many.Goals as goal
 
 pub returns : goal.returns
