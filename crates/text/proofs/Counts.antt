@@ -1,7 +1,7 @@
 -- The bracket count along a text: where it is too high, where too few bytes are left that add one, and one byte more.
 -- Assumes nothing.
 use Prim.Native.Nat.{ℕ, suc, ◌+◌, ◌-◌, ◌≤◌, ◌<◌}
-use mathlib.Core.Path.{◌≡◌, refl, ap}
+use mathlib.Core.Path.{◌≡◌}
 use mathlib.Core.Bool.{Bool, true, false, cond, ◌||◌}
 use mathlib.Core.List.{List, [], ◌∷◌}
 use native.Mathlib.Numerals.{add-one}
@@ -13,8 +13,6 @@ use lib.Seq.{drop-cons}
 use Rattle.definition.specs.Brackets.Place.{outside, quoted, escaped}
 use Rattle.definition.specs.Brackets.{Place, place_after, count_after, too_deep_from}
 use Rattle.definition.specs.Limits.{max_brackets}
-use Rattle.std.specs.List.{filter}
-use Rattle.utf8_laws.specs.Bytes.{by_test}
 use Rattle.text.specs.Places.{opening_in}
 
 -- a count above the limit is too deep, whatever follows
@@ -67,11 +65,13 @@ deep_never s i p n h l =
 
 -- ---- counting the bytes that open
 
--- the bytes that a test leaves of a text are as many
-pub length-filter_opening : (s : List ℕ) → length (filter (λ b. eqb b 0x5B || eqb b 0x28) s) ≡ opening_in s
+-- one byte more
+pub opening_on : (s : List ℕ) (i : ℕ) → i < length s → (o : Bool) → o ≡ (eqb (get_or s i 0) 0x5B || eqb (get_or s i 0) 0x28) → opening_in (drop i s) ≡ cond o (suc (opening_in (drop (i + 1) s))) (opening_in (drop (i + 1) s))
 unfolding opening_in
-length-filter_opening [] = refl
-length-filter_opening (b ∷ s) = by_test (eqb b 0x5B || eqb b 0x28) (λ t. rw t (ap suc (length-filter_opening s))) (λ f. rw f (length-filter_opening s))
+opening_on s i h o k = rw (add-one, drop-cons s i 0 h, k)
+
+pub opening_behind : (s : List ℕ) (i : ℕ) → length s ≤ i → opening_in (drop i s) ≡ 0
+opening_behind s i h = let m = opening_most (drop i s) in omega (arith, m, length-drop i s)
 
 -- one byte more
 pub deep_on : (s : List ℕ) (i : ℕ) (p : Place) (n : ℕ) → i < length s → n ≤ max_brackets

@@ -1,9 +1,9 @@
 -- The order of texts by their bytes, along two texts.
 -- Assumes nothing.
-use Prim.Native.Nat.{ℕ, suc, ◌+◌, ◌≤◌, ◌<◌, compare, Ordering}
+use Prim.Native.Nat.{ℕ, suc, ◌+◌, ◌≤◌, ◌<◌, min, compare, Ordering}
 use native.Mathlib.Numerals.{add-one}
 use native.Mathlib.Omega.{arith}
-use mathlib.Core.Path.{◌≡◌, refl, ◌∙◌}
+use mathlib.Core.Path.{◌≡◌, refl, sym, ap, ◌∙◌}
 use mathlib.Core.Bool.{true, false, true≢false, false≢true}
 use mathlib.Core.List.{List, [], ◌∷◌, ◌++◌}
 use borrow.Author.Tests.{eq-eqb, ne_eqb, le-leb, lt-leb}
@@ -11,8 +11,8 @@ use lib.Dec.{is_le, compare_is_eq}
 use lib.ListN.{length, drop, get_or, drop_of_length-le}
 use lib.Seq.{drop-cons}
 use Rattle.definition.specs.Bytes.{part, order_bytes}
-use Rattle.std.specs.Cmp.Lexicographic.{slice_cmp}
-use Rattle.std.specs.Ordering.{nat_cmp}
+use Rattle.std.specs.declared.cmp.Ordering.{Ordering as Order}
+use Rattle.std.specs.Ordering.{nat_cmp, is_ne}
 use Rattle.std.proofs.lemmas.Cmp.{ranked, by_ranked}
 use Rattle.text.specs.Orders.{answer}
 use Rattle.text.proofs.Same.{part_rest}
@@ -66,18 +66,6 @@ head_gt : (x y : ℕ) (s t : List ℕ) → y < x → order_bytes (x ∷ s) (y �
 unfolding order_bytes
 head_gt x y s t h = rw (compare_gt x y h, order_bytes) refl
 
--- std's order of two lists of numbers is that of two texts
-pub slice_cmp-order : (s t : List ℕ) → slice_cmp nat_cmp s t ≡ answer (order_bytes s t)
-unfolding order_bytes
-slice_cmp-order [] [] = refl
-slice_cmp-order [] (y ∷ t) = refl
-slice_cmp-order (x ∷ s) [] = refl
-slice_cmp-order (x ∷ s) (y ∷ t) =
-    by_ranked (x < y) (x ≡ y) (y < x) (nat_cmp x y) (ranked x y (nat_cmp x y) refl)
-    (λ e h. rw (e, compare_lt x y h, order_bytes) refl)
-    (λ e h. rw (e, compare_eq x y h, order_bytes) (slice_cmp-order s t))
-    (λ e h. rw (e, compare_gt x y h, order_bytes) refl)
-
 -- a common front decides nothing
 order_append : (p s t : List ℕ) → order_bytes (p ++ s) (p ++ t) ≡ order_bytes s t
 order_append [] s t = refl
@@ -116,3 +104,26 @@ module _ (s t : List ℕ) (i : ℕ) where
   pub order_ends : length s ≤ i → length t ≤ i → order_bytes (drop i s) (drop i t) ≡ Ordering.eq
   unfolding order_bytes
   order_ends hs ht = rw (drop_of_length-le s hs, drop_of_length-le t ht)
+
+  -- unlike bytes decide, as std compares them
+  pub order_decides : i < length s → i < length t → (o : Order) → o ≡ nat_cmp (get_or s i 0) (get_or t i 0) → is_ne o ≡ true → o ≡ answer (order_bytes (drop i s) (drop i t))
+  order_decides hs ht o e n =
+      by_ranked _ _ _ o (ranked (get_or s i 0) (get_or t i 0) o e)
+      (λ k h. k ∙ sym (ap answer (order_lower hs ht h)))
+      (λ k h. absurd (false≢true (rw k at n)))
+      (λ k h. k ∙ sym (ap answer (order_higher hs ht h)))
+
+  pub order_same : (o : Order) → o ≡ nat_cmp (get_or s i 0) (get_or t i 0) → is_ne o ≡ false → get_or s i 0 ≡ get_or t i 0
+  order_same o e n =
+      by_ranked _ _ _ o (ranked (get_or s i 0) (get_or t i 0) o e)
+      (λ k h. absurd (true≢false (rw k at n)))
+      (λ k h. h)
+      (λ k h. absurd (true≢false (rw k at n)))
+
+  -- where the shorter text ends, the lengths decide
+  pub order_lengths : (i ≡ min (length s) (length t)) → (o : Order) → o ≡ nat_cmp (length s) (length t) → o ≡ answer (order_bytes (drop i s) (drop i t))
+  order_lengths m o e =
+      by_ranked _ _ _ o (ranked (length s) (length t) o e)
+      (λ k h. k ∙ sym (ap answer (order_shorter (omega arith) (omega arith))))
+      (λ k h. k ∙ sym (ap answer (order_ends (omega arith) (omega arith))))
+      (λ k h. k ∙ sym (ap answer (order_longer (omega arith) (omega arith))))

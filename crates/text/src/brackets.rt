@@ -76,7 +76,14 @@ fn count_after(p: Place, n: usize, b: u8) -> usize
 fn opening(s: &[u8]) -> usize
     ensures { result ≡ opening_in s.now }
 {
-    s.iter().filter(|b| either(**b, b'[', b'(')).count()
+    let mut n = 0;
+    // A `for`: `filter` and `count` took twice as long, since they are not compiled to many bytes a step.
+    for b in s {
+        if either(*b, b'[', b'(') {
+            n += 1;
+        }
+    }
+    n
 }
 
 // Whether the bracket count of s passes 32 at some moment, byte by byte.

@@ -281,6 +281,7 @@ fn chars_pass(s: &[u8]) -> bool
     ensures { result ≡ is_utf8 s.now }
 {
     let mut i = 0;
+    // A `while`: a step passes eight bytes or one character, so that there is no range to go over.
     while i < s.len() {
         let n = step_length(s, i);
         if n == 0 {

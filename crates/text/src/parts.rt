@@ -149,8 +149,13 @@ fn same_front(a: &[u8], b: &[u8]) -> usize
 pub fn order_bytes(a: &[u8], b: &[u8]) -> Ordering
     ensures { result ≡ answer (order_bytes a.now b.now) }
 {
-    let i = same_front(a, b);
-    (&a[i..]).cmp(&&b[i..])
+    for i in same_front(a, b)..a.len().min(b.len()) {
+        let found = a[i].cmp(&b[i]);
+        if found.is_ne() {
+            return found;
+        }
+    }
+    a.len().cmp(&b.len())
 }
 
 // The order of the n bytes of s from a on and the m bytes of t from b on.

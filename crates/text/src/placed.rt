@@ -303,6 +303,7 @@ fn long(s: &[u8]) -> bool
     let end = s.len() - BEFORE;
     let mut kind = looks_like(s, 0, end);
     let mut i = 0;
+    // A `while`: each step says how far it goes, so that there is no range to go over.
     while MOST <= end - i {
         let n = step_at(s, i, end - i);
         kind = passes_step(s, i, n, kind);
@@ -335,6 +336,7 @@ fn each(s: &[u8], n: usize) -> bool
 {
     let last = s.len() - (n + BEFORE);
     let mut i = 0;
+    // A `while`: the step is n, so that a range would count steps and each place be a product.
     while i < last {
         if !passes_short(s, i, n) {
             return false;

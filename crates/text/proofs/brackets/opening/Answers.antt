@@ -1,14 +1,19 @@
--- `text::brackets::opening` meets its contract. What is counted is the length of the list that the test leaves.
-use mathlib.Core.Path.{◌∙◌}
-use mathlib.Core.Bool.{◌||◌}
-use lib.Dec.{eqb}
-use Rattle.std.proofs.Common.{rules, tests}
-use Rattle.std.proofs.lemmas.Iterator.{YieldsList-from_slice}
-use Rattle.std.proofs.lemmas.Iterator.Consumers.{count_from_yields_List, YieldsList-from_filter}
-use Rattle.text.proofs.Counts.{length-filter_opening}
+-- `text::brackets::opening` meets its contract. What was counted and what is left give the whole.
+use mathlib.Core.Path.{sym, ◌∙◌}
+use mathlib.Core.Bool.{true, false}
+use native.Mathlib.Omega.{arith}
+use Rattle.text.proofs.Counts.{opening_on, opening_behind}
 use Rattle.text.proofs.brackets.opening.Goals as goal
+use Rattle.text.proofs.brackets.opening.Goals.{then-either, else-either}
+
+pub loop-b-preserved : goal.loop-b-preserved
+loop-b-preserved c =
+    elim c.if-either.branch [
+      | then-either w ↦ (let o = opening_on c.args.s.now c.loop-b.b-index (omega arith) true (sym w.if-either.true ∙ c.either.ensures) in (omega arith, omega (arith, o, w.n-is, c.loop-b.invariant.1)))
+      | else-either w ↦ (let o = opening_on c.args.s.now c.loop-b.b-index (omega arith) false (sym w.if-either.false ∙ c.either.ensures) in (omega arith, omega (arith, o, w.n-is, c.loop-b.invariant.1)))
+    ]
 
 pub returns : goal.returns
 returns c =
-    let s = c.args.s.now in
-    count_from_yields_List _ _ c.count.ensures.ran (YieldsList-from_filter _ (λ b. eqb b 0x5B || eqb b 0x28) (YieldsList-from_slice s cc) c.filter.ensures.closure (λ x r q k. search (rules, tests))) ∙ length-filter_opening s
+    let o = opening_behind c.args.s.now c.loop-b.b-index (omega arith) in
+    omega (arith, o, c.loop-b.invariant.1)
