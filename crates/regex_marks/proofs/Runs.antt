@@ -130,10 +130,6 @@ read_end_lem s t ms i {b} room e h g = record { of = λ x cs q u r. go x cs (g.o
         let l : cs ≡ d.done = d.eq ∙ ap (λ j. d.done ++ j) (encode_all_nil d.left n) ∙ append-nil d.done in
         subst (λ j. Told (Describes x j) b) (sym l) d.told
 
--- the same marks
-pub read_same : {s t ms ms' : List ℕ} {i : ℕ} {b : Bool} → ms' ≡ ms → Read s t i ms b → Read s t i ms' b
-read_same {s} {t} {ms} {ms'} {i} {b} e r = subst (λ l. Read s t i l b) (sym e) r
-
 -- where nothing is marked, no text goes on
 pub read_dead : {s t ms : List ℕ} {i : ℕ} {b : Bool} (room : ℕ) → room ≡ length ms → 0 < i → Clear ms → Read s t i ms b → Ran s t room false
 read_dead {s} {t} {ms} {i} {b} room e h z g =

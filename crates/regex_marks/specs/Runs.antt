@@ -1,5 +1,5 @@
 -- What a run over a text answers. Assumes nothing: these are definitions.
-use Rattle.std.specs.Prelude.{◌≡◌, Bool, true, ◌&&◌, List, [], ◌∷◌, ◌++◌, ◌⊎◌, ℕ, ◌+◌, ◌≤◌, length, drop, get_or}
+use Rattle.std.specs.Prelude.{◌≡◌, Bool, ◌&&◌, List, [], ◌∷◌, ◌++◌, ◌⊎◌, ℕ, ◌+◌, ◌≤◌, length, drop, get_or}
 use Rattle.std.proofs.Math.Seq.{slice}
 use Rattle.definition.specs.Utf8.{encode_all}
 use Rattle.regex_definition.specs.Words.{Told}
@@ -10,11 +10,6 @@ use Rattle.regex_marks.specs.Marks.{size, Rest, Good}
 -- every mark is 0
 pub record Clear (ms : List ℕ) : Type 0 where
   pub at : (i : ℕ) → get_or ms i 0 ≡ 0
-
--- the marks are as they were, and b is true only if every one is 0
-pub record Dead (ms ms' : List ℕ) (b : Bool) : Type 0 where
-  pub same : ms' ≡ ms
-  pub clear : b ≡ true → Clear ms
 
 -- the marks have read the first characters of the text cs, whose bytes are those of t before i
 pub record Reading (x : Regexp) (cs t : List ℕ) (i : ℕ) (ms : List ℕ) (b : Bool) : Type 0 where

@@ -7,13 +7,13 @@ mod passes;
 
 ghost use Rattle.std.specs.Prelude.{◌≡◌, true, ◌+◌, ◌-◌, ◌≤◌, ◌<◌, ◌^◌, length};
 ghost use Rattle.regex_marks.specs.Moves.{Fits, ShiftedBy, CopiedBy, EndlessBy};
-ghost use Rattle.regex_marks.specs.Runs.{Read, Ran, Clear, Dead, Grows, Weighs, Capped, Entered};
+ghost use Rattle.regex_marks.specs.Runs.{Read, Ran, Clear, Grows, Weighs, Capped, Entered};
 ghost use Rattle.regex_marks.specs.Passes.{pass_of};
 ghost use Rattle.regex_code.specs.Flat.{Word};
 
 use passes::{
-    Pass, bare, bare_loop, bit, chain, either, enters, joined, last, less, lesser, link, looped,
-    pack, second, stop, unmarked, unpack,
+    Pass, bare, bare_loop, bit, chain, either, enters, joined, last, less, link, looped, pack,
+    second, stop, unmarked, unpack,
 };
 use regex_chars::{char_at, class_has};
 use regex_code::{skip, skip_class, small, wide};
@@ -23,7 +23,7 @@ fn hits(code: &[u32], at: usize, enter: bool, c: u32) -> bool
     requires { at < length code.now }
     ensures { Entered code.now at enter c result }
 {
-    if enter { class_has(code, at, c) } else { false }
+    enter && class_has(code, at, c)
 }
 
 // One character of the class at `at`.
@@ -40,7 +40,7 @@ fn spot(code: &[u32], at: usize, marks: &mut [u8], base: usize, enter: bool, c: 
     marks[base] = bit(hit);
     let n = skip_class(code, at);
     Pass {
-        next: lesser(n, code.len()),
+        next: n.min(code.len()),
         size: 1,
         empty: false,
         was: was,
@@ -111,7 +111,7 @@ fn counted(code: &[u32], at: usize, marks: &mut [u8], base: usize, enter: bool, 
     let hi = wide(code[at + 2]);
     if hi == 0 {
         let n = skip(code, at + 3);
-        let s = unmarked(lesser(n, code.len()), lo == 0);
+        let s = unmarked(n.min(code.len()), lo == 0);
         return pack(s);
     }
     copies(code, at + 3, marks, base, lo, hi, enter, c)
@@ -315,25 +315,14 @@ fn weigh_least(code: &[u32], at: usize, cap: usize) -> Weight
 fn clear(marks: &mut [u8])
     ensures { Clear marks.new }
 {
-    let mut i = 0;
-    while i < marks.len() {
-        marks[i] = 0;
-        i += 1;
-    }
+    marks.fill(0);
 }
 
 // Whether no mark is set: then no text goes on from here.
-fn dead(marks: &mut [u8]) -> bool
-    ensures { Dead marks.old marks.new result }
+pub fn dead(marks: &[u8]) -> bool
+    ensures { result ≡ true → Clear marks.now }
 {
-    let mut i = 0;
-    while i < marks.len() {
-        if marks[i] != 0 {
-            return false;
-        }
-        i += 1;
-    }
-    true
+    marks.iter().all(|&m| m == 0)
 }
 
 // The rest of the text, from a place on to which the marks have read it; `told` says whether what was read is described.
@@ -353,18 +342,16 @@ pub fn read(
     let end = text.len();
     let mut last = told;
     let mut i = from;
+    // A loop over i: a step is as long as the character that stands there.
     while i < end {
         let first = i == 0;
         let c = char_at(text, i, end);
         let p = shift(code, 0, marks, 0, first, c.value);
-        let s = unpack(p);
-        last = s.now;
-        if grows {
-            if last {
-                return true;
-            }
+        last = unpack(p).now;
+        if grows && last {
+            return true;
         }
-        if dead(marks) {
+        if dead(&marks[..]) {
             return false;
         }
         i = c.next;
@@ -382,6 +369,5 @@ pub fn run(code: &[u32], text: &[u8], marks: &mut [u8], grows: bool) -> bool
     clear(marks);
     let p = shift(code, 0, marks, 0, false, 0);
     let s = unpack(p);
-    let e = s.empty;
-    read(code, text, marks, 0, e, grows)
+    read(code, text, marks, 0, s.empty, grows)
 }

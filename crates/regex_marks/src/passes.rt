@@ -1,5 +1,5 @@
 // What a pass over a part says, what is said of two parts from what is said of each, and the same in one word.
-ghost use Rattle.std.specs.Prelude.{◌≡◌, ◌&&◌, ◌||◌, ◌+◌, ◌≤◌, ◌<◌, ◌^◌, pred, min, eqb};
+ghost use Rattle.std.specs.Prelude.{◌≡◌, ◌&&◌, ◌||◌, ◌+◌, ◌≤◌, ◌<◌, ◌^◌, pred, eqb};
 ghost use Rattle.regex_marks.specs.Passes.{flag_of, pass_of, empty_of, second_of, joined_of, chain_of, fork_of, link_of, loop_of, last_of, enter_of, stop_of, bare_of, bare_loop_of};
 
 // What a pass over a part says: the place behind its code, the number of its marks, whether it describes the empty word, and
@@ -16,25 +16,25 @@ pub struct Pass {
 pub fn either(a: bool, b: bool) -> bool
     ensures { result ≡ (a || b) }
 {
-    if a { true } else { b }
+    a || b
 }
 
 pub fn both(a: bool, b: bool) -> bool
     ensures { result ≡ (a && b) }
 {
-    if a { b } else { false }
+    a && b
 }
 
 pub fn bit(b: bool) -> u8
     ensures { eqb result 1 ≡ b }
 {
-    if b { 1 } else { 0 }
+    u8::from(b)
 }
 
 pub fn less(n: usize) -> usize
     ensures { result ≡ pred n }
 {
-    if n == 0 { 0 } else { n - 1 }
+    n.saturating_sub(1)
 }
 
 // Whether the second of two parts is entered.
@@ -153,12 +153,12 @@ pub fn looped(lo: usize, s: Pass) -> Pass
     }
 }
 
-// A pass in one word: the place behind the code, 16 bits for the number of marks, and a bit for each of the three. A word comes back in a register, and a
-// struct takes room in every frame of the recursion.
+// A pass in one word: the place behind the code, 16 bits for the number of marks, and a bit for each of the three.
+// Packed for the stack that is promised: a word comes back in a register, and a struct takes room in every frame of the recursion `copying`.
 pub fn flag(b: bool) -> usize
     ensures { (result ≡ flag_of b) × (result ≤ 1) }
 {
-    if b { 1 } else { 0 }
+    usize::from(b)
 }
 
 pub fn pack(s: Pass) -> usize
@@ -181,12 +181,6 @@ pub fn unpack(w: usize) -> Pass
         was: w / 2 % 2 == 1,
         now: w % 2 == 1,
     }
-}
-
-pub fn lesser(a: usize, b: usize) -> usize
-    ensures { result ≡ min a b }
-{
-    if a <= b { a } else { b }
 }
 
 // A part with no marks.

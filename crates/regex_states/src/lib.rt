@@ -11,13 +11,12 @@
 
 ghost use Rattle.std.specs.Prelude.{◌≡◌, true, ◌&&◌, ◌+◌, ◌*◌, ◌≤◌, ◌<◌, eqb, length};
 ghost use Rattle.regex_match.specs.Tested.{Tested};
-ghost use Rattle.regex_marks.specs.Runs.{Clear};
 ghost use Rattle.regex_states.specs.Ready.{cells, width, count, Tables, Ready};
 ghost use Rattle.regex_states.specs.Texts.{Inside, Followed, Stepped};
 ghost use Rattle.regex_states.specs.Rooms.{Found, Put, Blank, Settling, Room, Placed, Noted, Traced, Suits, Weighed, Empties, Sealed, Headed, Beyond, AllLow};
 
 use regex_chars::char_at;
-use regex_marks::{read, shift, weigh};
+use regex_marks::{dead, read, shift, weigh};
 use regex_match::test;
 use regex_plain::{ask, open_ended};
 
@@ -111,13 +110,6 @@ fn find(sets: &[u8], marks: &[u8], count: usize) -> usize
         }
     }
     0
-}
-
-// Whether no mark is set: then no text goes on from here.
-fn dead(marks: &[u8]) -> bool
-    ensures { result ≡ true → Clear marks.now }
-{
-    marks.iter().all(|&m| m == 0)
 }
 
 // Writes the marks into row k.

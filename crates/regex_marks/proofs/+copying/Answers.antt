@@ -95,11 +95,11 @@ counted-overflow_add-at-then-hi-eq0 t c = omega (arith, c.requires.0.place, c.re
 
 -- counted
 pub counted-pack-requires-then-hi-eq0 : goal.counted-pack-requires-then-hi-eq0
-counted-pack-requires-then-hi-eq0 t c = rw c.unmarked-s.ensures (omega (arith, c.lesser.ensures, c.requires.0.words), omega arith)
+counted-pack-requires-then-hi-eq0 t c = rw c.unmarked-s.ensures (omega (arith, c.min.ensures, c.requires.0.words), omega arith)
 
 -- counted
 pub counted-returns-then-hi-eq0 : goal.counted-returns-then-hi-eq0
-counted-returns-then-hi-eq0 t c = let k = clip_skip (omega (arith, c.if-code-at-lt3.false)) c.skip-n.ensures c.lesser.ensures in shifted_by (c.pack-then-hi-eq0.ensures ∙ c.unmarked-s.ensures) (shift_none _ _ _ _ _ c.requires.0.room _ c.requires.1.here c.requires.1.is c.wide-lo.ensures c.wide-hi.ensures c.if-hi-eq0.true k.0 k.1)
+counted-returns-then-hi-eq0 t c = let k = clip_skip (omega (arith, c.if-code-at-lt3.false)) c.skip-n.ensures c.min.ensures in shifted_by (c.pack-then-hi-eq0.ensures ∙ c.unmarked-s.ensures) (shift_none _ _ _ _ _ c.requires.0.room _ c.requires.1.here c.requires.1.is c.wide-lo.ensures c.wide-hi.ensures c.if-hi-eq0.true k.0 k.1)
 
 -- counted
 pub counted-overflow_add-at-3 : goal.counted-overflow_add-at-3

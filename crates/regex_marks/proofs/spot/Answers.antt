@@ -13,4 +13,4 @@ pub skip_class-n-requires : goal.skip_class-n-requires
 skip_class-n-requires c = c.requires.fact_1.here
 
 pub returns : goal.returns
-returns c = let k = clip_class c.requires.fact_1.here c.skip_class-n.ensures c.lesser.ensures in spot_hit _ _ _ _ _ c.requires.fact_2 _ c.requires.fact_1.here c.requires.fact_1.is c.if-marks-base.false _ c.bit.ensures c.hits-hit.ensures k.0 k.1
+returns c = let k = clip_class c.requires.fact_1.here c.skip_class-n.ensures c.min.ensures in spot_hit _ _ _ _ _ c.requires.fact_2 _ c.requires.fact_1.here c.requires.fact_1.is c.if-marks-base.false _ c.bit.ensures c.hits-hit.ensures k.0 k.1
