@@ -4,7 +4,7 @@
 
 #![tactic(auto)]
 
-ghost use Rattle.std.specs.Prelude.{◌≡◌, ◌+◌, ◌≤◌, ◌<◌, min, max, true, length, get_or};
+ghost use Rattle.std.specs.Prelude.{◌≡◌, ◌+◌, ◌≤◌, ◌<◌, true, length, get_or};
 ghost use Rattle.regex_total.specs.Answers.{no_width, Inside, Matched, Repeated, Paired, Joined, Some, Enough, Widths, Capped, Apart, Reaches};
 
 use regex_chars::{char_at, class_has};
@@ -21,10 +21,7 @@ fn one(code: &[u32], at: usize, text: &[u8], from: usize, to: usize) -> bool
         return false;
     }
     let c = char_at(text, from, to);
-    if c.next != to {
-        return false;
-    }
-    class_has(code, at, c.value)
+    c.next == to && class_has(code, at, c.value)
 }
 
 // Whether the part from..to of the text is described by the code at `at`.
@@ -80,19 +77,7 @@ pub struct Width {
 fn capped(n: usize) -> usize
     ensures { Capped n result }
 {
-    if n < 2147483648 { n } else { 2147483648 }
-}
-
-fn lesser(a: usize, b: usize) -> usize
-    ensures { result ≡ min a b }
-{
-    if a <= b { a } else { b }
-}
-
-fn greater(a: usize, b: usize) -> usize
-    ensures { result ≡ max a b }
-{
-    if a <= b { b } else { a }
+    n.min(2147483648)
 }
 
 // The most bytes that a character of the class at `at` has: those of the end of its range, if it is one range and no complement.
@@ -100,19 +85,10 @@ fn reach(code: &[u32], at: usize) -> usize
     requires { at < length code.now }
     ensures { Reaches code.now at result }
 {
-    if code.len() - at < 5 {
+    if code.len() - at < 5 || code[at + 1] == 1 || code[at + 2] != 1 || 0x80 <= code[at + 4] {
         return 4;
     }
-    if code[at + 1] == 1 {
-        return 4;
-    }
-    if code[at + 2] != 1 {
-        return 4;
-    }
-    if code[at + 4] < 0x80 {
-        return 1;
-    }
-    4
+    1
 }
 
 fn no_width(at: usize) -> Width
@@ -165,8 +141,7 @@ fn in_a_row(code: &[u32], at: usize) -> Width
     ensures { Widths code.now at result.next result.least result.most }
 {
     let a = measure(code, at + 1);
-    let n = a.next;
-    let b = measure(code, n);
+    let b = measure(code, a.next);
     Width {
         next: b.next,
         least: capped(a.least + b.least),
@@ -180,12 +155,11 @@ fn one_of(code: &[u32], at: usize) -> Width
     ensures { Widths code.now at result.next result.least result.most }
 {
     let a = measure(code, at + 1);
-    let n = a.next;
-    let b = measure(code, n);
+    let b = measure(code, a.next);
     Width {
         next: b.next,
-        least: lesser(a.least, b.least),
-        most: greater(a.most, b.most),
+        least: a.least.min(b.least),
+        most: a.most.max(b.most),
     }
 }
 
@@ -235,10 +209,8 @@ fn looped(code: &[u32], at: usize) -> Width
 fn apart(n: usize, lo: usize, hi: usize, least: usize, most: usize) -> bool
     ensures { result ≡ true → Apart n lo hi least most }
 {
-    if 0 < least {
-        if n / least < lo {
-            return true;
-        }
+    if 0 < least && n / least < lo {
+        return true;
     }
     if n == 0 {
         return false;
@@ -309,10 +281,7 @@ fn pair(
     requires { (Inside text.now from mid) × ((Inside text.now mid to) × (Some h n)) }
     ensures { Paired code.now at l h at m n text.now from mid to result }
 {
-    if times(code, at, l, h, text, from, mid) {
-        return times(code, at, m, n, text, mid, to);
-    }
-    false
+    times(code, at, l, h, text, from, mid) && times(code, at, m, n, text, mid, to)
 }
 
 // .. by it l to h times, and then m to n times.
@@ -332,6 +301,7 @@ fn cuts(
     ensures { Joined code.now at l h at m n text.now from to result }
 {
     let mut i = from;
+    // A loop over i: a step is as long as the character that stands there.
     while i < to {
         if pair(code, at, l, h, m, n, text, from, i, to) {
             return true;
@@ -347,10 +317,7 @@ fn both(code: &[u32], a: usize, b: usize, text: &[u8], from: usize, mid: usize, 
     requires { (Inside text.now from mid) × ((Inside text.now mid to) × (a ≤ b)) }
     ensures { Paired code.now a 1 1 b 1 1 text.now from mid to result }
 {
-    if matches(code, a, text, from, mid) {
-        return matches(code, b, text, mid, to);
-    }
-    false
+    matches(code, a, text, from, mid) && matches(code, b, text, mid, to)
 }
 
 // .. by the code at a, and then by that at b.
@@ -360,6 +327,7 @@ fn row(code: &[u32], a: usize, b: usize, text: &[u8], from: usize, to: usize) ->
     ensures { Joined code.now a 1 1 b 1 1 text.now from to result }
 {
     let mut i = from;
+    // A loop of its own beside that of `cuts`: by `times` with a count of one, each part would take more of the stack that is promised.
     while i < to {
         if both(code, a, b, text, from, i, to) {
             return true;

@@ -19,8 +19,8 @@ pub both-returns-then-matches : goal.both-returns-then-matches
 both-returns-then-matches t c = pair_both _ _ _ _ _ _ _ _ _ _ _ (once c.matches.ensures) c.if-matches.true (once c.matches-then-matches.ensures)
 
 -- both
-pub both-returns : goal.both-returns
-both-returns t c = pair_none _ _ _ _ _ _ _ _ _ _ _ (once c.matches.ensures) c.if-matches.false
+pub both-returns-else-matches : goal.both-returns-else-matches
+both-returns-else-matches t c = rw c.if-matches.false (pair_none _ _ _ _ _ _ _ _ _ _ _ (once c.matches.ensures) c.if-matches.false)
 
 -- cuts
 pub cuts-loop-i-init : goal.cuts-loop-i-init
@@ -135,8 +135,8 @@ pub pair-returns-then-times : goal.pair-returns-then-times
 pair-returns-then-times t c = pair_both _ _ _ _ _ _ _ _ _ _ _ c.times.ensures c.if-times.true c.times-then-times.ensures
 
 -- pair
-pub pair-returns : goal.pair-returns
-pair-returns t c = pair_none _ _ _ _ _ _ _ _ _ _ _ c.times.ensures c.if-times.false
+pub pair-returns-else-times : goal.pair-returns-else-times
+pair-returns-else-times t c = rw c.if-times.false (pair_none _ _ _ _ _ _ _ _ _ _ _ c.times.ensures c.if-times.false)
 
 -- row
 pub row-loop-i-init : goal.row-loop-i-init

@@ -141,4 +141,4 @@ one_of-measure-b-requires t c = (omega (arith, c.decreases, c.requires.0, c.meas
 
 -- one_of
 pub one_of-returns : goal.one_of-returns
-one_of-returns t c = span_or _ _ c.requires.0 c.measure-a.ensures c.measure-b.ensures c.requires.1 c.lesser.ensures c.greater.ensures
+one_of-returns t c = span_or _ _ c.requires.0 c.measure-a.ensures c.measure-b.ensures c.requires.1 c.min.ensures c.max.ensures
