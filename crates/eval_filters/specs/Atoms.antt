@@ -19,7 +19,7 @@ use Rattle.eval_front.specs.Loops.{InReach}
 use Rattle.eval_front.specs.Heads.{name_ends}
 use Rattle.eval_front.specs.Fronts.{never, single, along_start, one_asked, reach_next, done_lost, done_found}
 use Rattle.eval_filters.specs.Queries.{begins_node, found_lost}
-use Rattle.eval_filters.specs.Tests.{AskShort, DoneShort, AskAgainst, DoneAgainst, AskNode, DoneNode, DonePlain, plain_one, short_tested, short_asked, short_compared, against_value, against_nothing, against_node, short_query}
+use Rattle.eval_filters.specs.Tests.{AskShort, DoneShort, AskAgainst, DoneAgainst, AskNode, DoneNode, Plain, plain_one, short_tested, short_asked, short_compared, against_value, against_nothing, against_node, short_query}
 use Rattle.eval_filters.specs.declared.Told.{Told}
 use Rattle.eval_filters.specs.declared.Nodes.{Nodes}
 use Rattle.eval_filters.specs.declared.atoms.Atom.{Atom}
@@ -154,11 +154,9 @@ pub record AgainstAt (P : List ℕ) (z e op next : ℕ) : Type 0 where
   pub op_is : op ≡ get_or P (w + 1) 0
   pub next_is : next ≡ w + 2
 
-abbrev pub DoneBehind : List ℕ → ℕ → ℕ → Behind → Type 0
-DoneBehind P z e r = r.some ≡ true → AgainstAt P z e r.op r.next
-
-pub none_behind : {P : List ℕ} {z e : ℕ} {r : Behind} → r.some ≡ false → DoneBehind P z e r
-none_behind n i = absurd (never (sym n ∙ i))
+abbrev pub DoneBehind : List ℕ → ℕ → ℕ → Option Behind → Type 0
+DoneBehind P z e None = Unit {0}
+DoneBehind P z e (Some r) = AgainstAt P z e r.op r.next
 
 -- ---- the test of one member
 
@@ -237,25 +235,24 @@ module _ {P L S X : List ℕ} {root node q e : ℕ} (a : AskShort P L S X root n
   told_room = let h = a.within.few_p in omega (arith, b.room)
 
   -- nothing is found
-  plain_absent : (r : Option ℕ) → DoneOne P L S X (q + 1 + 3) node r → r ≡ None → DonePlain P L S X node q (record { n = 0; first = 0; z = q + 1 + 9; some = true })
+  plain_absent : (r : Option ℕ) → DoneOne P L S X (q + 1 + 3) node r → r ≡ None → Plain P L S X node q (record { n = 0; first = 0; z = q + 1 + 9 })
   plain_absent r o i =
       let d = name_lost told_given a.within.node_in told_query b.here r o i in
       record {
         inside = λ u. absurd (omega arith);
-        past = λ u f k h. ap (λ (x : ℕ). q + 1 + x) (sym (name_long a.within.few_p b.here h));
-        found = λ u. found_lost P L S X a.within.tab node q a.within.node_in _ d refl 0x19;
-        onward = λ u. absurd (never (sym u));
+        past = λ f k h. ap (λ (x : ℕ). q + 1 + x) (sym (name_long a.within.few_p b.here h));
+        found = found_lost P L S X a.within.tab node q a.within.node_in _ d refl 0x19;
       }
 
   -- node m is found
-  plain_found : (r : Option ℕ) → DoneOne P L S X (q + 1 + 3) node r → (m : ℕ) → r ≡ Some m → DonePlain P L S X node q (record { n = 1; first = m; z = q + 1 + 9; some = true })
+  plain_found : (r : Option ℕ) → DoneOne P L S X (q + 1 + 3) node r → (m : ℕ) → r ≡ Some m → Plain P L S X node q (record { n = 1; first = m; z = q + 1 + 9 })
   plain_found r o m i =
       let d = name_reached told_given a.within.node_in told_query b.here r o m i in
       let x : q + 1 + 8 + 1 ≡ q + 1 + 9 = omega arith in
-      subst (λ (z : ℕ). DonePlain P L S X node q (record { n = 1; first = m; z = z; some = true })) x
+      subst (λ (z : ℕ). Plain P L S X node q (record { n = 1; first = m; z = z })) x
       (plain_one (record { given = told_given; node_in = a.within.node_in; query = told_query }) _ d m refl b.here.end_is)
 
-  module _ (v : Nodes) (d : DonePlain P L S X node q v) (s : v.some ≡ true) (z : v.z ≡ q + 1 + 9) where
+  module _ (v : Nodes) (d : Plain P L S X node q v) (z : v.z ≡ q + 1 + 9) where
     mode_is : get_or P v.z 0 ≡ get_or P (q + 1 + 9) 0
     mode_is = ap (λ (x : ℕ). get_or P x 0) z
 
@@ -264,14 +261,14 @@ module _ {P L S X : List ℕ} {root node q e : ℕ} (a : AskShort P L S X root n
         let h = b.has i in
         let h1 = h.1 in
         let x : v.z + 1 ≡ t.next = omega arith in
-        subst (λ (y : ℕ). DoneShort P L S X root node q e (tells r y)) x (short_tested a node told_begins v d s (mode_is ∙ h.0) r u)
+        subst (λ (y : ℕ). DoneShort P L S X root node q e (tells r y)) x (short_tested a node told_begins v d (mode_is ∙ h.0) r u)
 
     module _ (i : t.form ≡ 1 → ⊥) where
       told_behind : AgainstAt P v.z e t.op t.next
       told_behind = subst (λ (y : ℕ). AgainstAt P y e t.op t.next) (sym z) (b.compared i)
 
       told_against : AskAgainst P L S X v.n v.first v.z e
-      told_against = short_asked a node told_begins v d s told_behind.low told_behind.high
+      told_against = short_asked a node told_begins v d told_behind.low told_behind.high
 
       pub told_value : AskValue P L v.z
       told_value = against_value told_against told_behind.more
@@ -279,7 +276,7 @@ module _ {P L S X : List ℕ} {root node q e : ℕ} (a : AskShort P L S X root n
       told_by : (r : Bits) → DoneAgainst P L S X v.n v.first v.z e (record { acc = r; q = told_behind.w + 2; some = true }) → DoneShort P L S X root node q e (tells r t.next)
       told_by r g =
           subst (λ (y : ℕ). DoneShort P L S X root node q e (tells r y)) (sym told_behind.next_is)
-          (short_compared a node told_begins v d s told_behind.low told_behind.high _ g)
+          (short_compared a node told_begins v d told_behind.low told_behind.high _ g)
 
       told_nothing : v.n ≡ 0 → DoneShort P L S X root node q e (tells false t.next)
       told_nothing u = let g = told_behind in told_by false (against_nothing told_against g.more g.w g.past g.inside g.compare_is u)
@@ -294,17 +291,17 @@ module _ {P L S X : List ℕ} {root node q e : ℕ} (a : AskShort P L S X root n
   atom_absent r o i = by (eqb t.form 1) refl
     where
       by : (x : Bits) → eqb t.form 1 ≡ x → DoneShort P L S X root node q e (tells false t.next)
-      by true j = told_tested _ (plain_absent r o i) refl refl (eqb-true t.form 1 j) false refl
-      by false j = told_nothing _ (plain_absent r o i) refl refl (eqb-false t.form 1 j) refl
+      by true j = told_tested _ (plain_absent r o i) refl (eqb-true t.form 1 j) false refl
+      by false j = told_nothing _ (plain_absent r o i) refl (eqb-false t.form 1 j) refl
 
   -- there is node m
   module _ (r : Option ℕ) (o : DoneOne P L S X (q + 1 + 3) node r) (m : ℕ) (i : r ≡ Some m) where
     pub atom_has : t.form ≡ 1 → DoneShort P L S X root node q e (tells true t.next)
-    atom_has j = told_tested _ (plain_found r o m i) refl refl j true refl
+    atom_has j = told_tested _ (plain_found r o m i) refl j true refl
 
     module _ (j : t.form ≡ 1 → ⊥) where
       pub atom_asks : AskNode P L S X m (q + 1 + 9)
-      atom_asks = record { tab = a.within.tab; node_in = o.inside m i; literal = told_value _ (plain_found r o m i) refl refl j }
+      atom_asks = record { tab = a.within.tab; node_in = o.inside m i; literal = told_value _ (plain_found r o m i) refl j }
 
       pub atom_compared : (y : Bits) → DoneNode P L S X m (q + 1 + 9) t.op y → DoneShort P L S X root node q e (tells y t.next)
-      atom_compared y g = told_node _ (plain_found r o m i) refl refl j (λ k. absurd (omega arith)) y g
+      atom_compared y g = told_node _ (plain_found r o m i) refl j (λ k. absurd (omega arith)) y g

@@ -21,7 +21,7 @@ use Rattle.eval_values.specs.declared.Operand.TheVariants.{Int}
 use Rattle.eval_items.specs.LeafLaws.{literal_room, done_integer}
 use Rattle.eval_items.specs.Leaves.{AskOne, DoneOne}
 use Rattle.eval_front.specs.Visits.{Query, Head, AskVisit, Emitted, DoneReach}
-use Rattle.eval_front.specs.Fronts.{never, done_found}
+use Rattle.eval_front.specs.Fronts.{done_found}
 use Rattle.eval_front.specs.Turns.{visit_lost, visit_end}
 use Rattle.eval_filters.specs.Queries.{Within, begins_node}
 use Rattle.eval_filters.specs.Tests.{Left, AskShort, DoneShort, AskLogic, DoneLogic, logic_not, logic_and_enter, logic_and_skip, logic_or_enter, logic_or_skip, short_query}
@@ -31,7 +31,6 @@ use Rattle.eval_filters.specs.Kept.{Tested, AskTest, DoneTest, AskKept, InKept}
 use Rattle.eval_filters.specs.Atoms.{AskCode, AtomAt, AgainstAt, NameAt, tells, start_here, name_lost, name_reached, name_one}
 use Rattle.eval_filters.specs.declared.atoms.Atom.{Atom}
 use Rattle.eval_filters.specs.declared.kept.Pair.{Pair}
-use Rattle.eval_filters.specs.declared.counts.Counts.{Counts}
 
 -- ---- what follows a test
 
@@ -270,8 +269,9 @@ pub join_kind_lem : (k : ℕ) → join_kind k ≡ true → (0x16 ≤ k) × (k �
 unfolding join_kind
 join_kind_lem k e = (leb-true 0x16 k (and_left (leb 0x16 k) (leb k 0x17) e), leb-true k 0x17 (and_right (leb 0x16 k) (leb k 0x17) e))
 
-abbrev pub DonePair : List ℕ → ℕ → ℕ → Pair → Type 0
-DonePair P p z r = r.some ≡ true → PairAt P p z r.left r.join r.right
+abbrev pub DonePair : List ℕ → ℕ → ℕ → Option Pair → Type 0
+DonePair P p z None = Unit {0}
+DonePair P p z (Some r) = PairAt P p z r.left r.join r.right
 
 pub record JoinedTo (P : List ℕ) (left : Atom) (q z : ℕ) (r : Pair) : Type 0 where
   pub same : r.left ≡ left
@@ -279,13 +279,14 @@ pub record JoinedTo (P : List ℕ) (left : Atom) (q z : ℕ) (r : Pair) : Type 0
   pub negated : r.join ≡ 0x15 → (get_or P q 0 ≡ 0x15) × (q + 1 ≡ z)
   pub joined : Joins r.join → JoinedAt P q z r.join r.right
 
-abbrev pub DoneJoined : List ℕ → Atom → ℕ → ℕ → Pair → Type 0
-DoneJoined P left q z r = r.some ≡ true → JoinedTo P left q z r
+abbrev pub DoneJoined : List ℕ → Atom → ℕ → ℕ → Option Pair → Type 0
+DoneJoined P left q z None = Unit {0}
+DoneJoined P left q z (Some r) = JoinedTo P left q z r
 
 -- the first test with what was read behind it
-pub pair_joined : {P : List ℕ} {p z : ℕ} {left : Atom} {r : Pair} → AtomAt P p z left → DoneJoined P left left.next z r → DonePair P p z r
-pair_joined {P} {p} {z} {left} {r} a d e =
-    let y = d e in
+pub pair_joined : {P : List ℕ} {p z : ℕ} {left : Atom} (r : Option Pair) → AtomAt P p z left → DoneJoined P left left.next z r → DonePair P p z r
+pair_joined None a d = tt
+pair_joined {P} {p} {z} {left} (Some r) a y =
     record {
       left = subst (λ (t : Atom). AtomAt P p z t) (sym y.same) a;
       alone = λ i. absurd (y.other i);
@@ -293,14 +294,12 @@ pair_joined {P} {p} {z} {left} {r} a d e =
       joined = λ i. subst (λ (t : Atom). JoinedAt P t.next z r.join r.right) (sym y.same) (y.joined i);
     }
 
-pub pair_alone : {P : List ℕ} {p z : ℕ} {left right : Atom} {b : Bits} → AtomAt P p z left → (b ≡ true → left.next ≡ z) → DonePair P p z (record { left = left; join = 0; right = right; some = b })
-pair_alone a d e = record { left = a; alone = λ i. d e; negated = λ i. absurd (omega arith); joined = λ i. absurd (i.0 refl) }
+pub pair_alone : {P : List ℕ} {p z : ℕ} {left right : Atom} → AtomAt P p z left → left.next ≡ z → PairAt P p z left 0 right
+pair_alone a d = record { left = a; alone = λ i. d; negated = λ i. absurd (omega arith); joined = λ i. absurd (i.0 refl) }
 
-abbrev pub DoneCounts : List ℕ → ℕ → ℕ → Counts → Type 0
-DoneCounts P p z r = r.some ≡ true → CountsAt P p z r.op
-
-pub none_counts : {P : List ℕ} {p z op : ℕ} → DoneCounts P p z (record { op = op; some = false })
-none_counts e = absurd (never e)
+abbrev pub DoneCounts : List ℕ → ℕ → ℕ → Option ℕ → Type 0
+DoneCounts P p z None = Unit {0}
+DoneCounts P p z (Some op) = CountsAt P p z op
 
 pub counts_at : {P : List ℕ} {p z op next : ℕ} → get_or P p 0 ≡ 2 → Head P (p + 1) 8 → get_or P (p + 1 + 4) 0 ≡ 0x0A → get_or P (p + 1 + 5) 0 ≡ 0x19 → get_or P (p + 1 + 6) 0 ≡ 0x10 → AgainstAt P (p + 1 + 6) z op next → next ≡ z → p + 1 + 6 < length P → CountsAt P p z op
 counts_at {P} {p} {z} {op} {next} a h b c i d e r =

@@ -24,7 +24,7 @@ use Rattle.eval_items.specs.Leaves.{begins_at}
 use Rattle.eval_front.specs.Visits.{Query}
 use Rattle.eval_front.specs.Fronts.{never}
 use Rattle.eval_filters.specs.Queries.{Within, begins_root, begins_node}
-use Rattle.eval_filters.specs.Tests.{Left, FirstIs, DonePlain, AskShort, DoneShort, compares_as, none_compares, none_same, none_below, first_is, valued, query_at, short_mode}
+use Rattle.eval_filters.specs.Tests.{Left, FirstIs, Plain, AskShort, DoneShort, compares_as, none_compares, none_same, none_below, first_is, valued, query_at, short_mode}
 use Rattle.eval_filters.specs.declared.Told.{Told}
 use Rattle.eval_filters.specs.declared.Nodes.{Nodes}
 
@@ -110,16 +110,16 @@ module _ {P L S X : List ℕ} {root node n first z e : ℕ} (a : AskBeside P L S
   pub beside_query : Query P L (z + 1)
   beside_query = let y = beside_at a.acc a.v a.want a.todo in record { f = y.f; k = y.k; at = y.at }
 
-  module _ (r : Nodes) (d : DonePlain P L S X from z r) (s : r.some ≡ true) where
+  module _ (r : Nodes) (d : Plain P L S X from z r) where
     pub beside_past : (z < r.z) × (r.z < length P)
-    beside_past = let y = beside_at a.acc a.v a.want a.todo in let h = y.bound in let p = d.past s y.f y.k y.at in (omega arith, omega arith)
+    beside_past = let y = beside_at a.acc a.v a.want a.todo in let h = y.bound in let p = d.past y.f y.k y.at in (omega arith, omega arith)
 
     module _ (o : r.z < e) (c : get_or P r.z 0 ≡ 0x14) where
       beside_valued : (acc : Bits) (v : Value) (want : Bits) (t : Todo P L z e (node_at S X root) (node_at S X node) acc Value.nothing v want)
           → Todo P L r.z e (node_at S X root) (node_at S X node) acc v (first_value (eval_segments (beside_at acc v want t).f (node_at S X from) (node_at S X from ∷ []))) want
       beside_valued acc v want t =
           let y = beside_at acc v want t in
-          let p = d.past s y.f y.k y.at in
+          let p = d.past y.f y.k y.at in
           let i : get_or P r.z 0 ≡ get_or P (z + 1 + length (code_segments y.f y.k)) 0 = ap (λ (x : ℕ). get_or P x 0) p in
           todo_to P L _ r.z e _ _ acc acc _ _ _ _ want p refl refl refl
           (y.is_first_lem (λ j. absurd (omega arith)) (λ j. absurd (omega arith)) (λ j. absurd (omega arith)) _ refl)
@@ -128,7 +128,7 @@ module _ {P L S X : List ℕ} {root node n first z e : ℕ} (a : AskBeside P L S
       beside_operator = (at_compare P L r.z e _ _ _ _ _ _ (beside_valued a.acc a.v a.want a.todo) o c).bound
 
       other_is : (f : Segments) (k : ℕ) → SegmentsAt P L (z + 1) k f → FirstIs S X r.n r.first (first_value (eval_segments f (node_at S X from) (node_at S X from ∷ [])))
-      other_is f k h = let g = d.found s f k h in record { none = λ i. sym (found_none S X _ _ r.n r.first g i); some = λ i. sym (found_first S X _ _ r.n r.first g i) }
+      other_is f k h = let g = d.found f k h in record { none = λ i. sym (found_none S X _ _ r.n r.first g i); some = λ i. sym (found_first S X _ _ r.n r.first g i) }
 
       pub beside_done : (t : Bits) → DoneFirst S X n first r.n r.first (get_or P (r.z + 1) 0) t → DoneBeside P L S X root node n first z e (record { acc = t; q = r.z + 2; some = true })
       beside_done t h =
@@ -142,15 +142,15 @@ module _ {P L S X : List ℕ} {root node n first z e : ℕ} (a : AskBeside P L S
 
 -- ---- from the first query on
 
-module _ {P L S X : List ℕ} {root node q e : ℕ} (a : AskShort P L S X root node q e) (from : ℕ) (b : from ≡ begins_at (get_or P q 0) root node) (r : Nodes) (d : DonePlain P L S X from q r) (s : r.some ≡ true) (k : get_or P r.z 0 ≤ 2) where
+module _ {P L S X : List ℕ} {root node q e : ℕ} (a : AskShort P L S X root node q e) (from : ℕ) (b : from ≡ begins_at (get_or P q 0) root node) (r : Nodes) (d : Plain P L S X from q r) (k : get_or P r.z 0 ≤ 2) where
   pub short_beside : AskBeside P L S X root node r.n r.first r.z e
-  short_beside = record { within = a.within; inside = d.inside; acc = _; v = _; want = _; todo = valued a from b r d s (omega arith) a.acc a.want a.todo; kind = k }
+  short_beside = record { within = a.within; inside = d.inside; acc = _; v = _; want = _; todo = valued a from b r d (omega arith) a.acc a.want a.todo; kind = k }
 
   pub beside_short : (t : Told) → DoneBeside P L S X root node r.n r.first r.z e t → DoneShort P L S X root node q e t
   beside_short t g =
       record {
-        further = λ i. omega (arith, g.further i, (short_mode a from b r d s).0);
+        further = λ i. omega (arith, g.further i, (short_mode a from b r d).0);
         goes = λ i acc want l.
             let y = query_at a from b acc want l in
-            g.goes i acc _ want (first_is a from b r d s (omega arith) y.f y.k y.at) (valued a from b r d s (omega arith) acc want l);
+            g.goes i acc _ want (first_is a from b r d (omega arith) y.f y.k y.at) (valued a from b r d (omega arith) acc want l);
       }

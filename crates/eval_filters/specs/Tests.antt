@@ -1,6 +1,6 @@
 -- Tests of a node that are told without registers: what the functions ask and give, and the laws that take what is left of a filter's code further by one test.
 -- P is the plan, L the pool, S the table, X the text. Assumes nothing.
-use Rattle.std.specs.Prelude.{ℕ, ◌+◌, ◌-◌, ◌≤◌, ◌<◌, ◌≡◌, refl, List, [], ◌∷◌, Bool as Bits, true, false, not, ◌&&◌, ltb, leb, ℤ, length, get_or, Option, Some, None}
+use Rattle.std.specs.Prelude.{ℕ, ◌+◌, ◌-◌, ◌≤◌, ◌<◌, ◌≡◌, refl, List, [], ◌∷◌, Bool as Bits, true, false, not, ◌&&◌, ltb, leb, ℤ, length, get_or, Option, Some, None, Result, Ok, Err}
 use Rattle.std.proofs.Common.{sym, ap, ◌∙◌, subst, arith, leb-true}
 use Rattle.definition.specs.Bytes.{number, part, signed64, same_bytes}
 use Rattle.definition.specs.Limits.{max_plan, max_int}
@@ -34,6 +34,7 @@ use Rattle.eval_front.specs.Visits.{Query, AskReach, DoneReach}
 use Rattle.eval_front.specs.declared.Reached.{Reached}
 use Rattle.eval_filters.specs.Queries.{Within, begins_root, begins_node, past_of, found_lost, found_one}
 use Rattle.eval_filters.specs.declared.Told.{Told}
+use Rattle.eval_front.specs.declared.More.{More}
 use Rattle.eval_filters.specs.declared.Nodes.{Nodes}
 
 -- ---- values that are those values
@@ -146,39 +147,42 @@ pub record DoneAgainst (P L S X : List ℕ) (n first z e : ℕ) (r : Told) : Typ
 
 -- ---- a query that needs no evaluation
 
-pub record DonePlain (P L S X : List ℕ) (from q : ℕ) (r : Nodes) : Type 0 where
+pub record Plain (P L S X : List ℕ) (from q : ℕ) (r : Nodes) : Type 0 where
   pub inside : 0 < r.n → r.first < node_count S
-  pub past : r.some ≡ true → (f : Segments) (k : ℕ) → SegmentsAt P L (q + 1) k f → r.z ≡ q + 1 + length (code_segments f k)
-  pub found : r.some ≡ true → (f : Segments) (k : ℕ) → SegmentsAt P L (q + 1) k f → Found S X (eval_segments f (node_at S X from) (node_at S X from ∷ [])) (max_int - 1) r.n r.first
-  pub onward : r.some ≡ false → DoneReach P L S X from (q + 1) (record { node = Some r.first; pc = r.z })
+  pub past : (f : Segments) (k : ℕ) → SegmentsAt P L (q + 1) k f → r.z ≡ q + 1 + length (code_segments f k)
+  pub found : (f : Segments) (k : ℕ) → SegmentsAt P L (q + 1) k f → Found S X (eval_segments f (node_at S X from) (node_at S X from ∷ [])) (max_int - 1) r.n r.first
+
+-- or where the rest of it stands
+abbrev pub DonePlain : List ℕ → List ℕ → List ℕ → List ℕ → ℕ → ℕ → Result Nodes More → Type 0
+DonePlain P L S X from q (Ok r) = Plain P L S X from q r
+DonePlain P L S X from q (Err m) = DoneReach P L S X from (q + 1) (record { node = Some m.node; pc = m.pc })
 
 -- the end of a query is one byte
 end_past : (P : List ℕ) (p : ℕ) → get_or P p 0 ≡ 0x0A → DonePast P p (p + 1)
 end_past P p e f k h = ap (λ (n : ℕ). p + n) (sym (end_long P p k f h e))
 
+-- where names and indices lead to a node, and more is to be done there
+pub plain_none : {P L S X : List ℕ} {from pc : ℕ} {r : Reached} → DoneReach P L S X from pc r → {m : ℕ} → r.node ≡ Some m → DoneReach P L S X from pc (record { node = Some m; pc = r.pc })
+plain_none {P} {L} {S} {X} {from} {pc} {r} d e = subst (λ (y : Option ℕ). DoneReach P L S X from pc (record { node = y; pc = r.pc })) e d
+
 -- by where names and indices lead
 module _ {P L S X : List ℕ} {from q : ℕ} (a : AskReach P L S X from (q + 1)) (r : Reached) (d : DoneReach P L S X from (q + 1) r) where
-  pub plain_lost : r.node ≡ None → (z : ℕ) → DonePast P r.pc z → DonePlain P L S X from q (record { n = 0; first = 0; z = z; some = true })
+  pub plain_lost : r.node ≡ None → (z : ℕ) → DonePast P r.pc z → Plain P L S X from q (record { n = 0; first = 0; z = z })
   plain_lost e z p =
       record {
         inside = λ i. absurd (omega arith);
-        past = λ i. past_of P L S X a.given.tab from q a.node_in r d z p;
-        found = λ i. found_lost P L S X a.given.tab from q a.node_in r d e 0x19;
-        onward = λ i. absurd (never (sym i));
+        past = past_of P L S X a.given.tab from q a.node_in r d z p;
+        found = found_lost P L S X a.given.tab from q a.node_in r d e 0x19;
       }
 
   module _ (m : ℕ) (e : r.node ≡ Some m) where
-    pub plain_one : get_or P r.pc 0 ≡ 0x0A → DonePlain P L S X from q (record { n = 1; first = m; z = r.pc + 1; some = true })
+    pub plain_one : get_or P r.pc 0 ≡ 0x0A → Plain P L S X from q (record { n = 1; first = m; z = r.pc + 1 })
     plain_one c =
         record {
           inside = λ i. d.node_in m e;
-          past = λ i. past_of P L S X a.given.tab from q a.node_in r d (r.pc + 1) (end_past P r.pc c);
-          found = λ i. found_one P L S X a.given.tab from q a.node_in r d m e c 0x19;
-          onward = λ i. absurd (never (sym i));
+          past = past_of P L S X a.given.tab from q a.node_in r d (r.pc + 1) (end_past P r.pc c);
+          found = found_one P L S X a.given.tab from q a.node_in r d m e c 0x19;
         }
-
-    pub plain_none : DonePlain P L S X from q (record { n = 0; first = m; z = r.pc; some = false })
-    plain_none = record { inside = λ i. absurd (omega arith); past = λ i. absurd (never i); found = λ i. absurd (never i); onward = λ i. subst (λ (y : Option ℕ). DoneReach P L S X from (q + 1) (record { node = y; pc = r.pc })) e d }
 
 -- ---- a test
 
@@ -297,9 +301,9 @@ module _ {P L S X : List ℕ} {root node q e : ℕ} (a : AskShort P L S X root n
   pub short_query : Query P L (q + 1)
   short_query = let y = query_at a.acc a.want a.todo in record { f = y.f; k = y.k; at = y.at }
 
-  module _ (r : Nodes) (d : DonePlain P L S X from q r) (s : r.some ≡ true) where
+  module _ (r : Nodes) (d : Plain P L S X from q r) where
     pub short_mode : (q < r.z) × (r.z < length P)
-    short_mode = let y = query_at a.acc a.want a.todo in let h = y.bound in let p = d.past s y.f y.k y.at in (omega arith, omega arith)
+    short_mode = let y = query_at a.acc a.want a.todo in let h = y.bound in let p = d.past y.f y.k y.at in (omega arith, omega arith)
 
     pub short_tested : get_or P r.z 0 ≡ 0x18 → (t : Bits) → t ≡ ltb 0 r.n → DoneShort P L S X root node q e (record { acc = t; q = r.z + 1; some = true })
     short_tested c t u =
@@ -307,20 +311,20 @@ module _ {P L S X : List ℕ} {root node q e : ℕ} (a : AskShort P L S X root n
           further = λ i. omega (arith, short_mode.0);
           goes = λ i acc want l.
               let y = query_at acc want l in
-              let p = d.past s y.f y.k y.at in
+              let p = d.past y.f y.k y.at in
               todo_to P L _ (r.z + 1) e _ _ t t _ _ _ _ want (ap (λ (x : ℕ). x + 1) p) refl refl refl
-              (y.is_test (subst (λ (x : ℕ). get_or P x 0 ≡ 0x18) p c) t (u ∙ found_test S X _ _ r.n r.first (d.found s y.f y.k y.at)));
+              (y.is_test (subst (λ (x : ℕ). get_or P x 0 ≡ 0x18) p c) t (u ∙ found_test S X _ _ r.n r.first (d.found y.f y.k y.at)));
         }
 
     module _ (under : get_or P r.z 0 < 0x18) where
       pub first_is : (f : Segments) (k : ℕ) → SegmentsAt P L (q + 1) k f → FirstIs S X r.n r.first (first_value (eval_segments f (node_at S X from) (node_at S X from ∷ [])))
-      first_is f k h = let g = d.found s f k h in record { none = λ i. sym (found_none S X _ _ r.n r.first g i); some = λ i. sym (found_first S X _ _ r.n r.first g i) }
+      first_is f k h = let g = d.found f k h in record { none = λ i. sym (found_none S X _ _ r.n r.first g i); some = λ i. sym (found_first S X _ _ r.n r.first g i) }
 
       pub valued : (acc want : Bits) (l : Left P L q e (node_at S X root) (node_at S X node) acc want)
           → Todo P L r.z e (node_at S X root) (node_at S X node) acc Value.nothing (first_value (eval_segments (query_at acc want l).f (node_at S X from) (node_at S X from ∷ []))) want
       valued acc want l =
           let y = query_at acc want l in
-          let p = d.past s y.f y.k y.at in
+          let p = d.past y.f y.k y.at in
           let c : get_or P r.z 0 ≡ get_or P (q + 1 + length (code_segments y.f y.k)) 0 = ap (λ (x : ℕ). get_or P x 0) p in
           todo_to P L _ r.z e _ _ acc acc _ _ _ _ want p refl refl refl
           (y.is_first_lem (λ i. absurd (omega arith)) (λ i. absurd (omega arith)) (λ i. absurd (omega arith)) _ refl)

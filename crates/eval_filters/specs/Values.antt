@@ -1,6 +1,6 @@
 -- Comparisons of values that need no query evaluated: what is asked and given of each operand, and what the comparison leaves of a filter's code. P is the plan, L the pool, S the
 -- table, X the text. Assumes nothing.
-use Rattle.std.specs.Prelude.{ℕ, ◌+◌, ◌-◌, ◌≤◌, ◌<◌, ◌≡◌, refl, Bool as Bits, true, false, ℤ, pos, length, get_or}
+use Rattle.std.specs.Prelude.{ℕ, ◌+◌, ◌-◌, ◌≤◌, ◌<◌, ◌≡◌, refl, Bool as Bits, true, false, ℤ, pos, length, get_or, Option, Some, None}
 use Rattle.std.proofs.Math.Path.{sym, ap}
 use Rattle.std.proofs.Common.{◌∙◌, subst, arith}
 use mathlib.Core.List.{List, [], ◌∷◌}
@@ -24,7 +24,7 @@ use Rattle.eval_items.specs.Leaves.{AskValue, DoneValue, begins_at}
 use Rattle.eval_front.specs.Visits.{Query}
 use Rattle.eval_front.specs.Fronts.{never}
 use Rattle.eval_filters.specs.Queries.{Within, begins_root, begins_node}
-use Rattle.eval_filters.specs.Tests.{Left, DonePlain, AskShort, DoneShort, compares_as}
+use Rattle.eval_filters.specs.Tests.{Left, Plain, AskShort, DoneShort, compares_as}
 use Rattle.eval_filters.specs.declared.Told.{Told}
 use Rattle.eval_filters.specs.declared.Nodes.{Nodes}
 use Rattle.eval_filters.specs.declared.values.Valued.{Valued}
@@ -69,7 +69,6 @@ pub record AskFound (P : List ℕ) (n z : ℕ) : Type 0 where
   pub no_test : get_or P z 0 ≡ 0x18 → ⊥
 
 pub record DoneFound (P S X : List ℕ) (n first z : ℕ) (r : Valued) : Type 0 where
-  pub told : r.some ≡ true
   pub fine : (L : List ℕ) → Fine S X L r.v
   pub later : z ≤ r.q
   pub goes : (L : List ℕ) (q e : ℕ) (R N J : Json) (acc : Bits) (x y : Value) (want : Bits) (a : QueryAt P L q e R N acc x y want J) → z ≡ q + 1 + length (code_segments a.f a.k)
@@ -91,10 +90,9 @@ byte_at : (P : List ℕ) (z k b : ℕ) → z ≡ k → get_or P z 0 ≡ b → ge
 byte_at P z k b i c = subst (λ (x : ℕ). get_or P x 0 ≡ b) i c
 
 module _ {P S X : List ℕ} {n first z : ℕ} where
-  pub found_counted : get_or P z 0 ≡ 0x19 → (v : ℤ) → v ≡ pos n → DoneFound P S X n first z (record { v = Int v; q = z + 1; some = true })
+  pub found_counted : get_or P z 0 ≡ 0x19 → (v : ℤ) → v ≡ pos n → DoneFound P S X n first z (record { v = Int v; q = z + 1 })
   found_counted c v w =
       record {
-        told = refl;
         fine = λ L. tt;
         later = omega arith;
         goes = λ L q e R N J acc x y want a i f.
@@ -102,10 +100,9 @@ module _ {P S X : List ℕ} {n first z : ℕ} where
             (a.is_count (byte_at P z _ _ i c) (Value.integer v) (ap Value.integer w ∙ found_count S X _ n first f));
       }
 
-  pub found_valued : get_or P z 0 ≡ 0x1B → (v : Operand) → OnlyOf S X n first v → DoneFound P S X n first z (record { v = v; q = z + 1; some = true })
+  pub found_valued : get_or P z 0 ≡ 0x1B → (v : Operand) → OnlyOf S X n first v → DoneFound P S X n first z (record { v = v; q = z + 1 })
   found_valued c v t =
       record {
-        told = refl;
         fine = t.fine;
         later = omega arith;
         goes = λ L q e R N J acc x y want a i f.
@@ -113,10 +110,9 @@ module _ {P S X : List ℕ} {n first z : ℕ} where
             (a.is_value (byte_at P z _ _ i c) (meaning S X L v) (only_found L t _ f));
       }
 
-  pub found_headed : (get_or P z 0 ≡ 0x18 → ⊥) → (get_or P z 0 ≡ 0x19 → ⊥) → (get_or P z 0 ≡ 0x1B → ⊥) → (v : Operand) → FirstOf S X n first v → DoneFound P S X n first z (record { v = v; q = z; some = true })
+  pub found_headed : (get_or P z 0 ≡ 0x18 → ⊥) → (get_or P z 0 ≡ 0x19 → ⊥) → (get_or P z 0 ≡ 0x1B → ⊥) → (v : Operand) → FirstOf S X n first v → DoneFound P S X n first z (record { v = v; q = z })
   found_headed c d g v t =
       record {
-        told = refl;
         fine = t.fine;
         later = omega arith;
         goes = λ L q e R N J acc x y want a i f.
@@ -136,13 +132,14 @@ pub record AskOperand (P L S X : List ℕ) (root node q e : ℕ) : Type 0 where
   pub more : q < e
 
 -- the value at q is the last one, and the last one before it the one before
-pub record DoneOperand (P L S X : List ℕ) (root node q e : ℕ) (r : Valued) : Type 0 where
-  pub fine : r.some ≡ true → Fine S X L r.v
-  pub further : r.some ≡ true → q < r.q
-  pub goes : r.some ≡ true → (acc : Bits) (x y : Value) (want : Bits) → Todo P L q e (node_at S X root) (node_at S X node) acc x y want → Todo P L r.q e (node_at S X root) (node_at S X node) acc y (meaning S X L r.v) want
+pub record Operates (P L S X : List ℕ) (root node q e : ℕ) (r : Valued) : Type 0 where
+  pub fine : Fine S X L r.v
+  pub further : q < r.q
+  pub goes : (acc : Bits) (x y : Value) (want : Bits) → Todo P L q e (node_at S X root) (node_at S X node) acc x y want → Todo P L r.q e (node_at S X root) (node_at S X node) acc y (meaning S X L r.v) want
 
-pub operand_none : {P L S X : List ℕ} {root node q e : ℕ} {r : Valued} → r.some ≡ false → DoneOperand P L S X root node q e r
-operand_none o = record { fine = λ t. absurd (never (sym o ∙ t)); further = λ t. absurd (never (sym o ∙ t)); goes = λ t. absurd (never (sym o ∙ t)) }
+abbrev pub DoneOperand : List ℕ → List ℕ → List ℕ → List ℕ → ℕ → ℕ → ℕ → ℕ → Option Valued → Type 0
+DoneOperand P L S X root node q e None = Unit {0}
+DoneOperand P L S X root node q e (Some r) = Operates P L S X root node q e r
 
 module _ {P L S X : List ℕ} {root node q e : ℕ} (a : AskOperand P L S X root node q e) where
   pub operand_in : q < length P
@@ -158,28 +155,28 @@ module _ {P L S X : List ℕ} {root node q e : ℕ} (a : AskOperand P L S X root
     pub value_query : Query P L (q + 1)
     value_query = let y = value_at a.acc a.x a.y a.want a.todo in record { f = y.f; k = y.k; at = y.at }
 
-    module _ (w : Nodes) (d : DonePlain P L S X from q w) (s : w.some ≡ true) where
+    module _ (w : Nodes) (d : Plain P L S X from q w) where
       pub value_past : (q < w.z) × (w.z < length P)
       value_past =
           let y = value_at a.acc a.x a.y a.want a.todo in
           let h = y.bound in
-          let p = d.past s y.f y.k y.at in
+          let p = d.past y.f y.k y.at in
           (omega arith, omega arith)
 
       pub value_asked : (get_or P w.z 0 ≡ 0x18 → ⊥) → AskFound P w.n w.z
       value_asked t =
           let y = value_at a.acc a.x a.y a.want a.todo in
-          let n = (d.found s y.f y.k y.at).number in
+          let n = (d.found y.f y.k y.at).number in
           record { few = omega arith; small = a.within.few_p; place = value_past.1; no_test = t }
 
-      pub value_done : (r : Valued) → DoneFound P S X w.n w.first w.z r → DoneOperand P L S X root node q e r
+      pub value_done : (r : Valued) → DoneFound P S X w.n w.first w.z r → Operates P L S X root node q e r
       value_done r g =
           let p = value_past.0 in
           let l = g.later in
           record {
-            fine = λ i. g.fine L;
-            further = λ i. omega arith;
-            goes = λ i acc x y want t. let k = value_at acc x y want t in g.goes L q e _ _ _ acc x y want k (d.past s k.f k.k k.at) (d.found s k.f k.k k.at);
+            fine = g.fine L;
+            further = omega arith;
+            goes = λ acc x y want t. let k = value_at acc x y want t in g.goes L q e _ _ _ acc x y want k (d.past k.f k.k k.at) (d.found k.f k.k k.at);
           }
 
   -- a literal
@@ -196,30 +193,30 @@ module _ {P L S X : List ℕ} {root node q e : ℕ} (a : AskOperand P L S X root
     pub value_literal_past : AskLiteral P q
     value_literal_past = let g = asked_here in record { l = g.l; k = g.k; holds = g.holds }
 
-    pub literal_operand_lem : (v : Operand) → DoneValue P L q v → (z : ℕ) → DoneLiteral P q z → DoneOperand P L S X root node q e (record { v = v; q = z; some = true })
+    pub literal_operand_lem : (v : Operand) → DoneValue P L q v → (z : ℕ) → DoneLiteral P q z → Operates P L S X root node q e (record { v = v; q = z })
     literal_operand_lem v d z f =
         let h = asked_here in
         let p = f h.l h.k h.holds in
         record {
-          fine = λ i. (d h.l h.k h.holds h.pool h.right).fine S X;
-          further = λ i. omega (arith, literal_two h.l h.k);
-          goes = λ i acc x y want t. let g = value_here acc x y want t in g.then (meaning S X L v) ((d g.l g.k g.holds g.pool g.right).means S X) z (f g.l g.k g.holds);
+          fine = (d h.l h.k h.holds h.pool h.right).fine S X;
+          further = omega (arith, literal_two h.l h.k);
+          goes = λ acc x y want t. let g = value_here acc x y want t in g.then (meaning S X L v) ((d g.l g.k g.holds g.pool g.right).means S X) z (f g.l g.k g.holds);
         }
 
   -- one with another behind it
-  module _ (r : Valued) (d : DoneOperand P L S X root node q e r) (s : r.some ≡ true) (l : r.q < e) where
+  module _ (r : Valued) (d : Operates P L S X root node q e r) (l : r.q < e) where
     pub operand_next : AskOperand P L S X root node r.q e
-    operand_next = record { within = a.within; acc = _; x = _; y = _; want = _; todo = d.goes s a.acc a.x a.y a.want a.todo; more = l }
+    operand_next = record { within = a.within; acc = _; x = _; y = _; want = _; todo = d.goes a.acc a.x a.y a.want a.todo; more = l }
 
     -- and its length
-    pub operand_length : get_or P r.q 0 ≡ 0x1A → (n : ℕ) → n ≡ length_in S X L r.v → (k : ℤ) → k ≡ pos n → DoneOperand P L S X root node q e (record { v = Int k; q = r.q + 1; some = true })
+    pub operand_length : get_or P r.q 0 ≡ 0x1A → (n : ℕ) → n ≡ length_in S X L r.v → (k : ℤ) → k ≡ pos n → Operates P L S X root node q e (record { v = Int k; q = r.q + 1 })
     unfolding length_value
     operand_length c n i k j =
         record {
-          fine = λ u. tt;
-          further = λ u. omega (arith, d.further s);
-          goes = λ u acc x y want t. at_length P L r.q e _ _ acc y (meaning S X L r.v) want (d.goes s acc x y want t) l c (Value.integer k)
-              (ap Value.integer j ∙ ap (λ (z : ℕ). Value.integer (pos z)) (i ∙ length_means S X L a.within.tab r.v (d.fine s)));
+          fine = tt;
+          further = omega (arith, d.further);
+          goes = λ acc x y want t. at_length P L r.q e _ _ acc y (meaning S X L r.v) want (d.goes acc x y want t) l c (Value.integer k)
+              (ap Value.integer j ∙ ap (λ (z : ℕ). Value.integer (pos z)) (i ∙ length_means S X L a.within.tab r.v d.fine));
         }
 
 -- ---- the comparison of two
@@ -242,9 +239,9 @@ module _ {P L S X : List ℕ} {root node q e : ℕ} (a : AskLeft P L S X root no
   pub test_operand_lem : AskOperand P L S X root node q e
   test_operand_lem = record { within = a.within; acc = a.acc; x = _; y = _; want = a.want; todo = a.todo; more = a.more }
 
-  module _ (r : Valued) (d : DoneOperand P L S X root node q e r) (s : r.some ≡ true) (u : Valued) (g : DoneOperand P L S X root node r.q e u) (t : u.some ≡ true) (l : u.q < e) where
+  module _ (r : Valued) (d : Operates P L S X root node q e r) (u : Valued) (g : Operates P L S X root node r.q e u) (l : u.q < e) where
     both : (acc want : Bits) → Left P L q e (node_at S X root) (node_at S X node) acc want → Todo P L u.q e (node_at S X root) (node_at S X node) acc (meaning S X L r.v) (meaning S X L u.v) want
-    both acc want o = g.goes t acc _ _ want (d.goes s acc _ _ want o)
+    both acc want o = g.goes acc _ _ want (d.goes acc _ _ want o)
 
     pub both_in : u.q < length P
     both_in = todo_in P L u.q e _ _ _ _ _ _ (both a.acc a.want a.todo) l
@@ -256,7 +253,7 @@ module _ {P L S X : List ℕ} {root node q e : ℕ} (a : AskLeft P L S X root no
       pub both_done : (b : Bits) → Compares (meaning S X L r.v) (meaning S X L u.v) (get_or P (u.q + 1) 0) b → DoneShort P L S X root node q e (record { acc = b; q = u.q + 2; some = true })
       both_done b h =
           record {
-            further = λ i. omega (arith, d.further s, g.further t);
+            further = λ i. omega (arith, d.further, g.further);
             goes = λ i acc want o. let k = at_compare P L u.q e _ _ acc _ _ want (both acc want o) l c in k.then b (h k.o k.byte);
           }
 

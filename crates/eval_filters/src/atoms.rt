@@ -34,12 +34,11 @@ pub struct Atom {
     pub next: usize,
 }
 
-// The operator behind a literal, and the place behind that; `some` is false where there is none.
+// The operator behind a literal, and the place behind that.
 #[derive(Clone, Copy)]
 pub struct Behind {
     pub op: u8,
     pub next: usize,
-    pub some: bool,
 }
 
 // What a test says of a node, and the place of its member among the node's members: there the member of the next node is looked for first.
@@ -77,40 +76,28 @@ fn literal_size(k: u8) -> usize
 }
 
 // The literal at z and the comparison behind it, in code that ends at e.
-pub fn behind_literal(plan: &[u8], z: usize, e: usize) -> Behind
+pub fn behind_literal(plan: &[u8], z: usize, e: usize) -> Option<Behind>
     requires { AskCode plan.now z e }
     ensures { DoneBehind plan.now z e result }
 {
     if e <= z {
-        return not_behind();
+        return None;
     }
     let k = plan[z];
     if !crate::is_literal(k) {
-        return not_behind();
+        return None;
     }
     let w = z + literal_size(k);
     if e < w + 2 {
-        return not_behind();
+        return None;
     }
     if plan[w] != COMPARE {
-        return not_behind();
+        return None;
     }
-    Behind {
+    Some(Behind {
         op: plan[w + 1],
         next: w + 2,
-        some: true,
-    }
-}
-
-// No comparison with a literal.
-fn not_behind() -> Behind
-    ensures { result.some ≡ false }
-{
-    Behind {
-        op: 0,
-        next: 0,
-        some: false,
-    }
+    })
 }
 
 // The form of a comparison with a literal of kind k by an operator.
@@ -156,10 +143,9 @@ pub fn read_atom(plan: &[u8], q: usize, e: usize) -> Atom
             next: c + 10,
         };
     }
-    let b = behind_literal(plan, c + 9, e);
-    if !b.some {
+    let Some(b) = behind_literal(plan, c + 9, e) else {
         return no_atom();
-    }
+    };
     let op = b.op;
     Atom {
         form: form_of(k, op),
@@ -171,7 +157,7 @@ pub fn read_atom(plan: &[u8], q: usize, e: usize) -> Atom
 }
 
 // No test of one member.
-fn no_atom() -> Atom
+pub fn no_atom() -> Atom
     ensures { result.form ≡ 0 }
 {
     Atom {

@@ -11,13 +11,6 @@ use plan_format::kinds::{COUNT, CURRENT, END, INTEGER};
 use table::records;
 use text::bytes;
 
-// The operator between the number of children and an integer; `some` is false where there is no such test.
-#[derive(Clone, Copy)]
-pub struct Counts {
-    pub op: u8,
-    pub some: bool,
-}
-
 // Whether the number of children of a node stands so to the integer behind p.
 fn count_passes(
     plan: &[u8],
@@ -76,36 +69,32 @@ pub fn keep_counts(
 }
 
 // The operator of a test of the number of children from p up to z.
-pub fn read_counts(plan: &[u8], p: usize, z: usize) -> Counts
+pub fn read_counts(plan: &[u8], p: usize, z: usize) -> Option<u8>
     requires { AskCode plan.now p z }
     ensures { DoneCounts plan.now p z result }
 {
     if z < p + 11 {
-        return Counts { op: 0, some: false };
+        return None;
     }
     if plan[p] != CURRENT {
-        return Counts { op: 0, some: false };
+        return None;
     }
     let c = p + 1;
     if bytes::word32(plan, c) != WILDCARD_HEAD {
-        return Counts { op: 0, some: false };
+        return None;
     }
     if plan[c + 4] != END {
-        return Counts { op: 0, some: false };
+        return None;
     }
     if plan[c + 5] != COUNT {
-        return Counts { op: 0, some: false };
+        return None;
     }
     if plan[c + 6] != INTEGER {
-        return Counts { op: 0, some: false };
+        return None;
     }
-    let b = atoms::behind_literal(plan, c + 6, z);
-    if !b.some {
-        return Counts { op: 0, some: false };
+    let b = atoms::behind_literal(plan, c + 6, z)?;
+    if b.next != z {
+        return None;
     }
-    let op = b.op;
-    Counts {
-        op,
-        some: b.next == z,
-    }
+    Some(b.op)
 }

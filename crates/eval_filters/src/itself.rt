@@ -1,5 +1,5 @@
 // A node itself, `@` with no segment, compared with a literal, where nothing follows: read from the plan once for all nodes of a range.
-ghost use Rattle.std.specs.Prelude.{◌≡◌, false, length, get_or};
+ghost use Rattle.std.specs.Prelude.{◌≡◌, length, get_or};
 ghost use Rattle.eval_filters.specs.Atoms.{AskCode};
 ghost use Rattle.eval_filters.specs.Kept.{AskTest, AskKept};
 ghost use Rattle.eval_filters.specs.Keeps.{DoneRange};
@@ -8,50 +8,37 @@ ghost use Rattle.eval_filters.specs.Itself.{ItselfAt, DoneItself};
 use crate::atoms;
 use plan_format::kinds::{CURRENT, END};
 
-// The form of the comparison, as an atom has it, and its operator; `some` is false where there is no such test.
+// The form of the comparison, as an atom has it, and its operator.
 #[derive(Clone, Copy)]
 pub struct Itself {
     pub form: u8,
     pub op: u8,
-    pub some: bool,
-}
-
-// No such test.
-fn no_itself() -> Itself
-    ensures { result.some ≡ false }
-{
-    Itself {
-        form: 0,
-        op: 0,
-        some: false,
-    }
 }
 
 // The test from p up to z.
-pub fn read_itself(plan: &[u8], p: usize, z: usize) -> Itself
+pub fn read_itself(plan: &[u8], p: usize, z: usize) -> Option<Itself>
     requires { AskCode plan.now p z }
     ensures { DoneItself plan.now p z result }
 {
     if z < p + 3 {
-        return no_itself();
+        return None;
     }
     if plan[p] != CURRENT {
-        return no_itself();
+        return None;
     }
     if plan[p + 1] != END {
-        return no_itself();
+        return None;
     }
     let k = plan[p + 2];
-    let b = atoms::behind_literal(plan, p + 2, z);
-    if !b.some {
-        return no_itself();
+    let b = atoms::behind_literal(plan, p + 2, z)?;
+    if b.next != z {
+        return None;
     }
     let op = b.op;
-    Itself {
+    Some(Itself {
         form: atoms::form_of(k, op),
         op,
-        some: b.next == z,
-    }
+    })
 }
 
 // The nodes from i up to e for which it holds.

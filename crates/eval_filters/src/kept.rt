@@ -27,13 +27,12 @@ const COUNTED: u8 = 2;
 
 const ITSELF: u8 = 3;
 
-// A test of one member and, where join is `&&` or `||`, another; where it is `!`, the negation of the first. `some` is false where there is no such test.
+// A test of one member and, where join is `&&` or `||`, another; where it is `!`, the negation of the first.
 #[derive(Clone, Copy)]
 pub struct Pair {
     pub left: Atom,
     pub join: u8,
     pub right: Atom,
-    pub some: bool,
 }
 
 // The place behind a node that is put into the list with what follows, and the place of the member that follows among the node's members.
@@ -222,85 +221,61 @@ fn keep_pair(
 }
 
 // The test from p up to z of one member, or of two.
-fn read_pair(plan: &[u8], p: usize, z: usize) -> Pair
+fn read_pair(plan: &[u8], p: usize, z: usize) -> Option<Pair>
     requires { AskCode plan.now p z }
     ensures { DonePair plan.now p z result }
 {
     let left = atoms::read_atom(plan, p, z);
     if left.form == 0 {
-        return Pair {
-            left,
-            join: 0,
-            right: left,
-            some: false,
-        };
+        return None;
     }
     let q = left.next;
-    if z <= q {
-        return Pair {
+    if z < q {
+        return None;
+    }
+    if q == z {
+        return Some(Pair {
             left,
             join: 0,
             right: left,
-            some: q == z,
-        };
+        });
     }
     read_joined(plan, left, q, z)
 }
 
 // The same where an operator stands at q behind the first test.
-fn read_joined(plan: &[u8], left: Atom, q: usize, z: usize) -> Pair
+fn read_joined(plan: &[u8], left: Atom, q: usize, z: usize) -> Option<Pair>
     requires { AskCode plan.now q z × (q < z) }
     ensures { DoneJoined plan.now left q z result }
 {
     let join = plan[q];
     if join == NOT {
-        return Pair {
+        if q + 1 != z {
+            return None;
+        }
+        return Some(Pair {
             left,
             join,
             right: left,
-            some: q + 1 == z,
-        };
+        });
     }
     if !is_join(join) {
-        return Pair {
-            left,
-            join,
-            right: left,
-            some: false,
-        };
+        return None;
     }
     if z < q + 3 {
-        return Pair {
-            left,
-            join,
-            right: left,
-            some: false,
-        };
+        return None;
     }
     if plans::past_sized(plan, q) != z {
-        return Pair {
-            left,
-            join,
-            right: left,
-            some: false,
-        };
+        return None;
     }
     let right = atoms::read_atom(plan, q + 3, z);
     if right.form == 0 {
-        return Pair {
-            left,
-            join,
-            right,
-            some: false,
-        };
+        return None;
     }
-    let next = right.next;
-    Pair {
-        left,
-        join,
-        right,
-        some: next == z,
+    if right.next != z {
+        return None;
     }
+    Some(Pair { left, join, right })
 }
 
 // Whether a byte is that of `&&` or `||`.
@@ -325,44 +300,47 @@ pub struct Form {
     pub tail: usize,
 }
 
-// The filter from p up to z, at the end of its query, where it tests no member.
-fn read_alone(plan: &[u8], p: usize, z: usize, rest: usize, g: Pair) -> Form
-    requires ask_code { AskCode plan.now p z }
-    requires rest_value { get_or plan.now rest 0 ≡ 0x0A }
-    ensures { FormAt plan.now p z rest result }
+// Every other filter, with what follows.
+fn no_form(tail: usize) -> Form
+    ensures { (result.way ≡ 0) × (result.tail ≡ tail) }
 {
-    let left = g.left;
-    let right = g.right;
-    let v = itself::read_itself(plan, p, z);
-    if v.some {
-        return Form {
-            way: ITSELF,
-            op: v.op,
-            form: v.form,
-            left,
-            right,
-            tail: 0,
-        };
-    }
-    let c = counts::read_counts(plan, p, z);
-    if c.some {
-        return Form {
-            way: COUNTED,
-            op: c.op,
-            form: 0,
-            left,
-            right,
-            tail: 0,
-        };
-    }
     Form {
         way: 0,
         op: 0,
         form: 0,
-        left,
-        right,
-        tail: 0,
+        left: atoms::no_atom(),
+        right: atoms::no_atom(),
+        tail,
     }
+}
+
+// The filter from p up to z, at the end of its query, where it tests no member.
+fn read_alone(plan: &[u8], p: usize, z: usize, rest: usize) -> Form
+    requires ask_code { AskCode plan.now p z }
+    requires rest_value { get_or plan.now rest 0 ≡ 0x0A }
+    ensures { FormAt plan.now p z rest result }
+{
+    if let Some(v) = itself::read_itself(plan, p, z) {
+        return Form {
+            way: ITSELF,
+            op: v.op,
+            form: v.form,
+            left: atoms::no_atom(),
+            right: atoms::no_atom(),
+            tail: 0,
+        };
+    }
+    if let Some(op) = counts::read_counts(plan, p, z) {
+        return Form {
+            way: COUNTED,
+            op,
+            form: 0,
+            left: atoms::no_atom(),
+            right: atoms::no_atom(),
+            tail: 0,
+        };
+    }
+    no_form(0)
 }
 
 // The filter from p up to z with what follows at rest.
@@ -372,34 +350,23 @@ pub fn read_form(plan: &[u8], p: usize, z: usize, rest: usize) -> Form
     ensures { FormAt plan.now p z rest result }
 {
     let tail = tail_of(plan, rest);
-    let g = read_pair(plan, p, z);
-    if tail == 0 {
-        if !g.some {
-            return read_alone(plan, p, z, rest, g);
+    let Some(g) = read_pair(plan, p, z) else {
+        if tail == 0 {
+            return read_alone(plan, p, z, rest);
         }
-    }
-    let left = g.left;
-    let right = g.right;
+        return no_form(tail);
+    };
     if tail <= 1 {
-        if g.some {
-            return Form {
-                way: MEMBERS,
-                op: g.join,
-                form: 0,
-                left,
-                right,
-                tail,
-            };
-        }
+        return Form {
+            way: MEMBERS,
+            op: g.join,
+            form: 0,
+            left: g.left,
+            right: g.right,
+            tail,
+        };
     }
-    Form {
-        way: 0,
-        op: 0,
-        form: 0,
-        left,
-        right,
-        tail,
-    }
+    no_form(tail)
 }
 
 // The nodes from i up to e that such a filter keeps, with what follows.

@@ -23,6 +23,7 @@ ghost use Rattle.eval_filters.specs.Values.{AskLeft};
 ghost use Rattle.eval_filters.specs.Tests.{literal_kind, logic_kind, AskNode, DoneNode, AskAgainst, DoneAgainst, DonePlain, AskShort, DoneShort, AskLogic, DoneLogic};
 ghost use Rattle.eval_filters.specs.Turns.{AskTurn, DoneTurn};
 
+use eval_front::More;
 use eval_items::{leaves, plans};
 use eval_values::operands;
 use plan_format::kinds::{AND, COMPARE, CONSTANT, CURRENT, END, INTEGER, NOT, OR, TEST, TEXT};
@@ -49,13 +50,12 @@ pub struct Told {
     pub some: bool,
 }
 
-// How many nodes a query finds, the first of them, and the place behind the query; `some` is false where that takes evaluation.
+// How many nodes a query finds, the first of them, and the place behind the query.
 #[derive(Clone, Copy)]
 pub struct Nodes {
     pub n: usize,
     pub first: usize,
     pub z: usize,
-    pub some: bool,
 }
 
 // Whether ==, !=, < or <= holds between two numbers in that order.
@@ -230,8 +230,15 @@ fn against(
     }
 }
 
-// What the query at q finds from a node, where it is of names and indices.
-fn plain_nodes(plan: &[u8], pool: &[u8], table: &[u8], text: &[u8], from: usize, q: usize) -> Nodes
+// What the query at q finds from a node, where it is of names and indices; or where they lead, where more of it takes evaluation.
+fn plain_nodes(
+    plan: &[u8],
+    pool: &[u8],
+    table: &[u8],
+    text: &[u8],
+    from: usize,
+    q: usize,
+) -> Result<Nodes, More>
     requires { AskReach plan.now pool.now table.now text.now from (q + 1) }
     ensures { DonePlain plan.now pool.now table.now text.now from q result }
 {
@@ -239,27 +246,16 @@ fn plain_nodes(plan: &[u8], pool: &[u8], table: &[u8], text: &[u8], from: usize,
     let c = r.pc;
     let Some(m) = r.node else {
         let z = plans::past_query(plan, c);
-        return Nodes {
-            n: 0,
-            first: 0,
-            z,
-            some: true,
-        };
+        return Ok(Nodes { n: 0, first: 0, z });
     };
     if plan[c] == END {
-        return Nodes {
+        return Ok(Nodes {
             n: 1,
             first: m,
             z: c + 1,
-            some: true,
-        };
+        });
     }
-    Nodes {
-        n: 0,
-        first: m,
-        z: c,
-        some: false,
-    }
+    Err(More { node: m, pc: c })
 }
 
 // The query at q that is tested, or compared with a literal or with another query, in code that ends at e. Where nothing is told, `acc` says whether values may tell it.
@@ -277,12 +273,16 @@ fn short_test(
     ensures { DoneShort plan.now pool.now table.now text.now root node q e result }
 {
     let from = leaves::begins(plan[q], root, node);
-    let v = plain_nodes(plan, pool, table, text, from, q);
+    let v = match plain_nodes(plan, pool, table, text, from, q) {
+        Ok(v) => v,
+        Err(m) => {
+            return children::count_test(
+                plan, pool, table, text, root, node, from, q, e, m.node, m.pc,
+            );
+        }
+    };
     let n = v.n;
     let z = v.z;
-    if !v.some {
-        return children::count_test(plan, pool, table, text, root, node, from, q, e, v.first, z);
-    }
     let mode = plan[z];
     if mode == TEST {
         return Told {

@@ -119,11 +119,10 @@ pub fn beside(
         return untold(z);
     }
     let from = leaves::begins(plan[z], root, node);
-    let v = crate::plain_nodes(plan, pool, table, text, from, z);
-    let w = v.z;
-    if !v.some {
+    let Ok(v) = crate::plain_nodes(plan, pool, table, text, from, z) else {
         return untold(z);
-    }
+    };
+    let w = v.z;
     if e <= w {
         return untold(z);
     }

@@ -4,7 +4,6 @@ ghost use Rattle.std.specs.Prelude.{◌≡◌, true, false, ◌≤◌, get_or};
 ghost use Rattle.table_laws.specs.Accepted.{Accepted};
 ghost use Rattle.eval_values.specs.Alike.{Compares};
 ghost use Rattle.eval_values.specs.Means.{meaning, Pair};
-ghost use Rattle.eval_values.specs.declared.Operand.TheVariants.{Int};
 ghost use Rattle.eval_filters.specs.Tests.{DoneShort};
 ghost use Rattle.eval_filters.specs.Values.{AskNodes, OnlyOf, FirstOf, AskFound, DoneFound, AskOperand, DoneOperand, AskLeft};
 
@@ -13,19 +12,11 @@ use eval_items::{leaves, plans};
 use eval_values::{Operand, operands};
 use plan_format::kinds::{COMPARE, COUNT, CURRENT, LENGTH, TEST, VALUE};
 
-// A value and the place behind it; `some` is false where it takes evaluation.
+// A value and the place behind it.
 #[derive(Clone, Copy)]
 pub struct Valued {
     pub v: Operand,
     pub q: usize,
-    pub some: bool,
-}
-
-// An integer, where `some` is true.
-#[derive(Clone, Copy)]
-pub struct Whole {
-    pub z: i64,
-    pub some: bool,
 }
 
 // The value of the only one of n nodes, and null where there is not one.
@@ -62,37 +53,17 @@ fn found_value(plan: &[u8], table: &[u8], text: &[u8], n: usize, first: usize, z
         return Valued {
             v: Operand::Int(k),
             q: z + 1,
-            some: true,
         };
     }
     if mode == VALUE {
         let v = only_value(table, text, n, first);
-        return Valued {
-            v,
-            q: z + 1,
-            some: true,
-        };
+        return Valued { v, q: z + 1 };
     }
     let v = first_value(table, text, n, first);
-    Valued {
-        v,
-        q: z,
-        some: true,
-    }
+    Valued { v, q: z }
 }
 
-// No value.
-fn no_value(q: usize) -> Valued
-    ensures { result.some ≡ false }
-{
-    Valued {
-        v: Operand::Nothing,
-        q,
-        some: false,
-    }
-}
-
-// The value of the query at q with what is asked of it, where it is of names and indices.
+// The value of the query at q with what is asked of it, where it is of names and indices; none where it takes evaluation.
 fn query_value(
     plan: &[u8],
     pool: &[u8],
@@ -102,21 +73,20 @@ fn query_value(
     node: usize,
     q: usize,
     e: usize,
-) -> Valued
+) -> Option<Valued>
     requires ask_operand { AskOperand plan.now pool.now table.now text.now root node q e }
     requires q_bound { get_or plan.now q 0 ≤ 2 }
     ensures { DoneOperand plan.now pool.now table.now text.now root node q e result }
 {
     let from = leaves::begins(plan[q], root, node);
-    let w = crate::plain_nodes(plan, pool, table, text, from, q);
+    let Ok(w) = crate::plain_nodes(plan, pool, table, text, from, q) else {
+        return None;
+    };
     let z = w.z;
-    if !w.some {
-        return no_value(q);
-    }
     if plan[z] == TEST {
-        return no_value(q);
+        return None;
     }
-    found_value(plan, table, text, w.n, w.first, z)
+    Some(found_value(plan, table, text, w.n, w.first, z))
 }
 
 // The value at q: a literal, or what is asked of a query.
@@ -129,7 +99,7 @@ fn operand(
     node: usize,
     q: usize,
     e: usize,
-) -> Valued
+) -> Option<Valued>
     requires { AskOperand plan.now pool.now table.now text.now root node q e }
     ensures { DoneOperand plan.now pool.now table.now text.now root node q e result }
 {
@@ -138,15 +108,11 @@ fn operand(
         return query_value(plan, pool, table, text, root, node, q, e);
     }
     if !crate::is_literal(k) {
-        return no_value(q);
+        return None;
     }
     let v = leaves::literal(plan, pool, q);
     let z = plans::past_literal(plan, q);
-    Valued {
-        v,
-        q: z,
-        some: true,
-    }
+    Some(Valued { v, q: z })
 }
 
 // The value at q, or its length where that is asked for behind it.
@@ -159,45 +125,24 @@ fn measured(
     node: usize,
     q: usize,
     e: usize,
-) -> Valued
+) -> Option<Valued>
     requires { AskOperand plan.now pool.now table.now text.now root node q e }
     ensures { DoneOperand plan.now pool.now table.now text.now root node q e result }
 {
-    let a = operand(plan, pool, table, text, root, node, q, e);
+    let a = operand(plan, pool, table, text, root, node, q, e)?;
     let z = a.q;
-    let x = a.v;
-    if !a.some {
-        return a;
-    }
     if e <= z {
-        return a;
+        return Some(a);
     }
     if plan[z] != LENGTH {
-        return a;
+        return Some(a);
     }
-    let n = operands::length(table, text, pool, x);
+    let n = operands::length(table, text, pool, a.v);
     let k = n as i64;
-    Valued {
+    Some(Valued {
         v: Operand::Int(k),
         q: z + 1,
-        some: true,
-    }
-}
-
-// The integer that a value is.
-fn as_int(x: Operand) -> Whole
-    ensures { result.some ≡ true → x ≡ Int result.z }
-{
-    match x {
-        Operand::Int(z) => Whole { z, some: true },
-        Operand::Nothing => Whole { z: 0, some: false },
-        Operand::Null => Whole { z: 0, some: false },
-        Operand::Bool(_) => Whole { z: 0, some: false },
-        Operand::Float(_) => Whole { z: 0, some: false },
-        Operand::Pool(_, _) => Whole { z: 0, some: false },
-        Operand::Text(_, _) => Whole { z: 0, some: false },
-        Operand::Node(_) => Whole { z: 0, some: false },
-    }
+    })
 }
 
 // Two values by an operator. Two integers come first, since the slices of a call go through memory.
@@ -206,11 +151,9 @@ fn compare_operands(table: &[u8], text: &[u8], pool: &[u8], op: u8, x: Operand, 
     requires pair { Pair table.now text.now pool.now x y }
     ensures { Compares (meaning table.now text.now pool.now x) (meaning table.now text.now pool.now y) op result }
 {
-    let a = as_int(x);
-    let b = as_int(y);
-    if a.some {
-        if b.some {
-            return crate::compare_ints(op, a.z, b.z);
+    if let Operand::Int(a) = x {
+        if let Operand::Int(b) = y {
+            return crate::compare_ints(op, a, b);
         }
     }
     eval_values::compare_values(table, text, pool, op, x, y)
@@ -230,19 +173,17 @@ pub fn value_test(
     requires { AskLeft plan.now pool.now table.now text.now root node q e }
     ensures { DoneShort plan.now pool.now table.now text.now root node q e result }
 {
-    let a = measured(plan, pool, table, text, root, node, q, e);
-    let z = a.q;
-    if !a.some {
+    let Some(a) = measured(plan, pool, table, text, root, node, q, e) else {
         return pairs::untold(q);
-    }
+    };
+    let z = a.q;
     if e <= z {
         return pairs::untold(q);
     }
-    let b = measured(plan, pool, table, text, root, node, z, e);
-    let w = b.q;
-    if !b.some {
+    let Some(b) = measured(plan, pool, table, text, root, node, z, e) else {
         return pairs::untold(q);
-    }
+    };
+    let w = b.q;
     if e <= w {
         return pairs::untold(q);
     }

@@ -42,10 +42,8 @@ pub fn skip_selectors(plan: &[u8], p: usize, n: usize) -> usize
     ensures { DoneSkip plan.now p n result }
 {
     let mut q = p;
-    let mut m = n;
-    while 1 < m {
+    for m in 1..n {
         q = next_selector(plan, q);
-        m -= 1;
     }
     next_selector(plan, q)
 }
@@ -56,6 +54,7 @@ pub fn past_query(plan: &[u8], pc: usize) -> usize
     ensures { DonePast plan.now pc result }
 {
     let mut p = pc;
+    // A loop over p: a segment is as long as its selectors are, so `for` says no step.
     while plan[p] != END {
         let n = bytes::word16(plan, p + 1);
         p = skip_selectors(plan, p + lengths::SIZE_ITEM, n);

@@ -28,12 +28,7 @@ fn of_text(kind: u8, text: &[u8], pool: &[u8], s: &[u8], a: usize, n: usize, y: 
     match y {
         Operand::Pool(b, m) => of_parts(kind, s, a, n, pool, b, m),
         Operand::Text(b, m) => of_parts(kind, s, a, n, text, b, m),
-        Operand::Nothing => false,
-        Operand::Null => false,
-        Operand::Bool(_) => false,
-        Operand::Int(_) => false,
-        Operand::Float(_) => false,
-        Operand::Node(_) => false,
+        _ => false,
     }
 }
 
@@ -45,11 +40,6 @@ pub fn regex_values(kind: u8, text: &[u8], pool: &[u8], x: Operand, y: Operand) 
     match x {
         Operand::Pool(a, n) => of_text(kind, text, pool, pool, a, n, y),
         Operand::Text(a, n) => of_text(kind, text, pool, text, a, n, y),
-        Operand::Nothing => false,
-        Operand::Null => false,
-        Operand::Bool(_) => false,
-        Operand::Int(_) => false,
-        Operand::Float(_) => false,
-        Operand::Node(_) => false,
+        _ => false,
     }
 }

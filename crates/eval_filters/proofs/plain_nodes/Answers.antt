@@ -23,4 +23,4 @@ pub returns-then-plan-c-eq-END : goal.returns-then-plan-c-eq-END
 returns-then-plan-c-eq-END c = plain_one c.requires _ c.reach-r.ensures _ c.in-Some.is c.if-plan-c-eq-END.true
 
 pub returns : goal.returns
-returns c = plain_none c.requires _ c.reach-r.ensures _ c.in-Some.is
+returns c = plain_none c.reach-r.ensures c.in-Some.is

@@ -19,8 +19,8 @@ returns-then-not-names_member c = λ n. absurd (n c.no_atom-then-not-names_membe
 pub returns-then-k-eq-TEST : goal.returns-then-k-eq-TEST
 returns-then-k-eq-TEST c = λ n. record { current = c.if-plan-q-ne-CURRENT.false; here = c.names_member.ensures (not-false _ (ap not c.if-not-names_member.false)); start_is = c.word16-start.ensures.is; size_is = c.word16-size.ensures.is; has = λ i. (c.if-k-eq-TEST.true, refl); compared = λ i. absurd (i refl); form_is = form_none _ _ _ (omega arith); more = omega (arith, c.if-e-q.false); room = omega (arith, c.if-e-q.false, c.requires.inside) }
 
-pub returns-then-not-b : goal.returns-then-not-b
-returns-then-not-b c = λ n. absurd (n c.no_atom-then-not-b.ensures)
+pub returns-in_default : goal.returns-in_default
+returns-in_default c = λ n. absurd (n c.no_atom-in_default.ensures)
 
 pub returns : goal.returns
 returns c =
@@ -31,7 +31,7 @@ returns c =
       start_is = c.word16-start.ensures.is;
       size_is = c.word16-size.ensures.is;
       has = λ i. absurd ((form_says _ _ _ c.form_of.ensures).0 i);
-      compared = λ i. c.behind_literal-b.ensures (not-false _ c.if-not-b.false);
+      compared = λ i. c.in-Some.ensures;
       form_is = (form_says _ _ _ c.form_of.ensures).1;
       more = omega (arith, c.if-e-q.false);
       room = omega (arith, c.if-e-q.false, c.requires.inside);

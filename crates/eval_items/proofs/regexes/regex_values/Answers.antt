@@ -17,21 +17,3 @@ returns-in-Pool c = c.of_text.ensures ∙ ap (λ (z : Operand). regex_in (scope_
 
 pub returns-in-Text : goal.returns-in-Text
 returns-in-Text c = c.of_text-in-Text.ensures ∙ ap (λ (z : Operand). regex_in (scope_for c.args.kind) (text_in c.args.text.now c.args.pool.now z) (text_in c.args.text.now c.args.pool.now c.args.y)) (sym c.in-Text.is)
-
-pub returns-in-Nothing : goal.returns-in-Nothing
-returns-in-Nothing c = ap (λ (z : Operand). regex_in (scope_for c.args.kind) (text_in c.args.text.now c.args.pool.now z) (text_in c.args.text.now c.args.pool.now c.args.y)) (sym c.in-Nothing.is)
-
-pub returns-in-Null : goal.returns-in-Null
-returns-in-Null c = ap (λ (z : Operand). regex_in (scope_for c.args.kind) (text_in c.args.text.now c.args.pool.now z) (text_in c.args.text.now c.args.pool.now c.args.y)) (sym c.in-Null.is)
-
-pub returns-in-Bool : goal.returns-in-Bool
-returns-in-Bool c = ap (λ (z : Operand). regex_in (scope_for c.args.kind) (text_in c.args.text.now c.args.pool.now z) (text_in c.args.text.now c.args.pool.now c.args.y)) (sym c.in-Bool.is)
-
-pub returns-in-Int : goal.returns-in-Int
-returns-in-Int c = ap (λ (z : Operand). regex_in (scope_for c.args.kind) (text_in c.args.text.now c.args.pool.now z) (text_in c.args.text.now c.args.pool.now c.args.y)) (sym c.in-Int.is)
-
-pub returns-in-Float : goal.returns-in-Float
-returns-in-Float c = ap (λ (z : Operand). regex_in (scope_for c.args.kind) (text_in c.args.text.now c.args.pool.now z) (text_in c.args.text.now c.args.pool.now c.args.y)) (sym c.in-Float.is)
-
-pub returns-in-Node : goal.returns-in-Node
-returns-in-Node c = ap (λ (z : Operand). regex_in (scope_for c.args.kind) (text_in c.args.text.now c.args.pool.now z) (text_in c.args.text.now c.args.pool.now c.args.y)) (sym c.in-Node.is)
