@@ -8,12 +8,12 @@ ghost use Rattle.compile.specs.Outcomes.{outcome};
 ghost use Rattle.select.specs.Selections.{selected};
 ghost use Rattle.run.specs.Outcomes.{ran};
 
-use compile::Compiled;
-use run::Ran;
-use select::Selection;
+use compile::{CompileRefusal, Lengths};
+use run::RunRefusal;
+use select::SelectRefusal;
 
 // From any bytes to a plan and a pool in the lent rooms, or a refusal: 1 to 6, 8 or 12.
-pub fn compile(query: &[u8], plan: &mut [u8], pool: &mut [u8]) -> Compiled
+pub fn compile(query: &[u8], plan: &mut [u8], pool: &mut [u8]) -> Result<Lengths, CompileRefusal>
     ensures { CompilesOnly query.now plan.old pool.old (outcome result plan.new pool.new) }
 {
     compile::compile(query, plan, pool)
@@ -26,7 +26,7 @@ pub fn select<'a>(
     text: &'a [u8],
     list: &mut [u32],
     start: usize,
-) -> Selection
+) -> Result<usize, SelectRefusal>
     ensures { SelectsOnly query.now table.now text.now list.old start (selected result list.new) }
 {
     select::select(query, table, text, list, start)
@@ -40,7 +40,7 @@ pub fn run<'a>(
     text: &'a [u8],
     list: &mut [u32],
     start: usize,
-) -> Ran
+) -> Result<usize, RunRefusal>
     ensures { RunsOnly plan.now pool.now table.now text.now list.old start (ran result list.new) }
 {
     run::run(plan, pool, table, text, list, start)

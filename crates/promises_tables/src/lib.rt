@@ -7,25 +7,25 @@ ghost use Rattle.promises_stated.specs.Promises.{ChecksRecordsOnly, ChecksTextsO
 ghost use Rattle.table.specs.Outcomes.{reported, answered};
 ghost use Rattle.table_path.specs.Outcomes.{told};
 
-use table::TableChecked;
-use table_path::PathWritten;
+use table::TableRefusal;
+use table_path::PathRefusal;
 
 // Whether the records of a table keep to the rules that read no text, or refusal 9 or 10.
-pub fn check_records(table: &[u8], text: &[u8]) -> TableChecked
+pub fn check_records(table: &[u8], text: &[u8]) -> Result<(), TableRefusal>
     ensures { ChecksRecordsOnly table.now text.now (reported result) }
 {
     table::check_records(table, text)
 }
 
 // Whether the texts and keys of a table keep to the rules, whatever else its records hold, or refusal 9 or 17.
-pub fn check_texts(table: &[u8], text: &[u8]) -> TableChecked
+pub fn check_texts(table: &[u8], text: &[u8]) -> Result<(), TableRefusal>
     ensures { ChecksTextsOnly table.now text.now (reported result) }
 {
     table::check_texts(table, text)
 }
 
 // The pair: whether a table and its text keep to all rules, or refusal 9, 10 or 17.
-pub fn check_table(table: &[u8], text: &[u8]) -> TableChecked
+pub fn check_table(table: &[u8], text: &[u8]) -> Result<(), TableRefusal>
     ensures { ChecksTableOnly table.now text.now (reported result) }
 {
     table::check_table(table, text)
@@ -48,7 +48,12 @@ pub fn key_of_node<'a>(table: &[u8], text: &'a [u8], node: usize, number: &mut u
 }
 
 // The Normalized Path of a node, in the first bytes of the lent room, or a refusal: 9, 10, 15, 16 or 17, and then the room is as it was.
-pub fn path_of_node(table: &[u8], text: &[u8], node: usize, room: &mut [u8]) -> PathWritten
+pub fn path_of_node(
+    table: &[u8],
+    text: &[u8],
+    node: usize,
+    room: &mut [u8],
+) -> Result<usize, PathRefusal>
     ensures { PathOnly table.now text.now node room.old (told result room.new) }
 {
     table_path::path_of_node(table, text, node, room)

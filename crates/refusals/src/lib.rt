@@ -2,14 +2,15 @@
 
 #![tactic(auto)]
 
-ghost use Rattle.refusals.specs.Numbers.{CompileTells, RunTells, SelectTells, CheckTells, PathTells};
+ghost use Rattle.refusals.specs.Numbers.{CompileTells, RunTells, SelectTells, CheckTells, PathTells, number_of_table, node_of_table, number_of_run, node_of_run};
+ghost use Rattle.std.specs.Prelude.{◌≡◌};
 
-use compile::Compiled;
 use compile::numbers::number_of;
-use run::Ran;
-use select::Selection;
-use table::TableChecked;
-use table_path::PathWritten;
+use compile::{CompileRefusal, Lengths};
+use run::RunRefusal;
+use select::SelectRefusal;
+use table::TableRefusal;
+use table_path::PathRefusal;
 
 // What compile came to: the refusal, or 0; and two lengths.
 #[derive(Clone, Copy)]
@@ -42,21 +43,67 @@ pub struct PathNumbers {
     pub node: usize,
 }
 
-pub fn of_compile(compiled: Compiled) -> CompileNumbers
+// The number of what the check of a table finds.
+fn table_number(refusal: TableRefusal) -> u8
+    ensures { result ≡ number_of_table refusal }
+{
+    match refusal {
+        TableRefusal::WrongSize => 9,
+        TableRefusal::WrongNode(_) => 10,
+        TableRefusal::WrongText(_) => 17,
+    }
+}
+
+// The node that it names.
+fn table_node(refusal: TableRefusal) -> usize
+    ensures { result ≡ node_of_table refusal }
+{
+    match refusal {
+        TableRefusal::WrongSize => 0,
+        TableRefusal::WrongNode(i) => i,
+        TableRefusal::WrongText(i) => i,
+    }
+}
+
+// The number of a run's refusal.
+fn run_number(refusal: RunRefusal) -> u8
+    ensures { result ≡ number_of_run refusal }
+{
+    match refusal {
+        RunRefusal::WrongPlan => 11,
+        RunRefusal::Table(wrong) => table_number(wrong),
+        RunRefusal::WrongStart => 14,
+        RunRefusal::NoRoom => 13,
+    }
+}
+
+// The node that it names.
+fn run_node(refusal: RunRefusal) -> usize
+    ensures { result ≡ node_of_run refusal }
+{
+    match refusal {
+        RunRefusal::Table(wrong) => table_node(wrong),
+        RunRefusal::WrongPlan => 0,
+        RunRefusal::WrongStart => 0,
+        RunRefusal::NoRoom => 0,
+    }
+}
+
+pub fn of_compile(compiled: Result<Lengths, CompileRefusal>) -> CompileNumbers
     ensures { CompileTells compiled result }
 {
     match compiled {
-        Compiled::Written(plan, pool) => CompileNumbers {
+        Ok(Lengths { plan, pool }) => CompileNumbers {
             refusal: 0,
             plan,
             pool,
         },
-        Compiled::Refused(refusal) => CompileNumbers {
+        Err(CompileRefusal::Query(refusal)) => CompileNumbers {
             refusal: number_of(refusal),
             plan: 0,
             pool: 0,
         },
-        Compiled::SmallRoom(plan, pool) => CompileNumbers {
+        Err(CompileRefusal::SmallRoom(Lengths { plan, pool })) => CompileNumbers {
             refusal: 12,
             plan,
             pool,
@@ -64,116 +111,74 @@ pub fn of_compile(compiled: Compiled) -> CompileNumbers
     }
 }
 
-pub fn of_run(ran: Ran) -> RunNumbers
+pub fn of_run(ran: Result<usize, RunRefusal>) -> RunNumbers
     ensures { RunTells ran result }
 {
     match ran {
-        Ran::Selected(count) => RunNumbers {
+        Ok(count) => RunNumbers {
             refusal: 0,
             count,
             node: 0,
         },
-        Ran::WrongPlan => RunNumbers {
-            refusal: 11,
+        Err(refusal) => RunNumbers {
+            refusal: run_number(refusal),
             count: 0,
-            node: 0,
-        },
-        Ran::WrongSize => RunNumbers {
-            refusal: 9,
-            count: 0,
-            node: 0,
-        },
-        Ran::WrongNode(i) => RunNumbers {
-            refusal: 10,
-            count: 0,
-            node: i,
-        },
-        Ran::WrongText(i) => RunNumbers {
-            refusal: 17,
-            count: 0,
-            node: i,
-        },
-        Ran::WrongStart => RunNumbers {
-            refusal: 14,
-            count: 0,
-            node: 0,
-        },
-        Ran::NoRoom => RunNumbers {
-            refusal: 13,
-            count: 0,
-            node: 0,
+            node: run_node(refusal),
         },
     }
 }
 
-pub fn of_select(selection: Selection) -> RunNumbers
+pub fn of_select(selection: Result<usize, SelectRefusal>) -> RunNumbers
     ensures { SelectTells selection result }
 {
     match selection {
-        Selection::Refused(refusal) => RunNumbers {
+        Ok(count) => of_run(Ok(count)),
+        Err(SelectRefusal::Run(refusal)) => of_run(Err(refusal)),
+        Err(SelectRefusal::Query(refusal)) => RunNumbers {
             refusal: number_of(refusal),
             count: 0,
             node: 0,
         },
-        Selection::Ran(ran) => of_run(ran),
     }
 }
 
-pub fn of_check(checked: TableChecked) -> CheckNumbers
+pub fn of_check(checked: Result<(), TableRefusal>) -> CheckNumbers
     ensures { CheckTells checked result }
 {
     match checked {
-        TableChecked::Accepted => CheckNumbers {
+        Ok(()) => CheckNumbers {
             refusal: 0,
             node: 0,
         },
-        TableChecked::WrongSize => CheckNumbers {
-            refusal: 9,
-            node: 0,
-        },
-        TableChecked::WrongNode(i) => CheckNumbers {
-            refusal: 10,
-            node: i,
-        },
-        TableChecked::WrongText(i) => CheckNumbers {
-            refusal: 17,
-            node: i,
+        Err(refusal) => CheckNumbers {
+            refusal: table_number(refusal),
+            node: table_node(refusal),
         },
     }
 }
 
-pub fn of_path(written: PathWritten) -> PathNumbers
+pub fn of_path(written: Result<usize, PathRefusal>) -> PathNumbers
     ensures { PathTells written result }
 {
     match written {
-        PathWritten::Written(n) => PathNumbers {
+        Ok(size) => PathNumbers {
             refusal: 0,
-            size: n,
+            size,
             node: 0,
         },
-        PathWritten::WrongSize => PathNumbers {
-            refusal: 9,
+        Err(PathRefusal::Table(wrong)) => PathNumbers {
+            refusal: table_number(wrong),
             size: 0,
-            node: 0,
+            node: table_node(wrong),
         },
-        PathWritten::WrongNode(i) => PathNumbers {
-            refusal: 10,
-            size: 0,
-            node: i,
-        },
-        PathWritten::WrongText(i) => PathNumbers {
-            refusal: 17,
-            size: 0,
-            node: i,
-        },
-        PathWritten::NoNode => PathNumbers {
+        Err(PathRefusal::NoNode) => PathNumbers {
             refusal: 15,
             size: 0,
             node: 0,
         },
-        PathWritten::SmallRoom(n) => PathNumbers {
+        Err(PathRefusal::SmallRoom(size)) => PathNumbers {
             refusal: 16,
-            size: n,
+            size,
             node: 0,
         },
     }

@@ -1,5 +1,5 @@
 -- From what evaluation leaves in the part of the list that it was lent to the outcome of a run. Assumes nothing.
-use Rattle.std.specs.Prelude.{ℕ, ◌+◌, ◌-◌, ◌≤◌, ◌<◌, min, ◌≡◌, refl, Bool, true, false, leb}
+use Rattle.std.specs.Prelude.{ℕ, ◌+◌, ◌-◌, ◌≤◌, ◌<◌, min, ◌≡◌, refl, Bool, true, false, leb, Ok, Err}
 use Rattle.std.proofs.Common.{sym, ◌∙◌, drop_of_length-le, drop-drop}
 use Rattle.std.proofs.Math.Path.{ap, subst}
 use mathlib.Core.List.{List, [], ◌∷◌, ◌++◌, append-nil, append_assoc}
@@ -22,15 +22,16 @@ use Rattle.definition.specs.Outcomes.{Translates, spelled, not_spelled, RunOutco
 use Rattle.definition.specs.Outcomes.Reading.{form, refused}
 use Rattle.basics.specs.Bools.{and_left, and_right}
 use Rattle.table.specs.Outcomes.{reported}
-use Rattle.table.specs.declared.TableChecked.{TableChecked}
-use Rattle.table.specs.declared.TableChecked.TheVariants.{Accepted as Right, WrongSize as Sized, WrongNode as Wrong, WrongText as Text}
+use Rattle.table.specs.declared.TableRefusal.{TableRefusal}
+use Rattle.table.specs.declared.TableRefusal.TheVariants.{WrongSize as Sized, WrongNode as Wrong, WrongText as Text}
+use Rattle.table_laws.specs.Outcomes.{report_accepted, report_sized, report_wrong, report_text}
 use Rattle.eval_laws.specs.Bytes.{holds_whole, holds_tail}
 use Rattle.eval_laws.specs.States.{st, emit, emit_whole}
 use Rattle.eval_laws.specs.Segments.{ids}
 use Rattle.eval_laws.specs.Emits.{go}
 use Rattle.eval_laws.specs.Items.{SegmentsAt}
 use Rattle.plan_check.specs.Checks.{Accepts}
-use Rattle.run.specs.declared.Ran.TheVariants.{Selected, WrongPlan, WrongSize, WrongNode, WrongText, WrongStart, NoRoom}
+use Rattle.run.specs.declared.RunRefusal.TheVariants.{WrongPlan, Table, WrongStart, NoRoom}
 use Rattle.run.specs.Outcomes.{ran, Planned, RunsForm, DonePlacing}
 
 -- ---- the plan behind its first byte
@@ -98,7 +99,7 @@ module _ (P L T X l : List ℕ) (start : ℕ) (h : start ≤ length l) (p : List
         omega (arith, y.1, k),
       )
 
-  pub places_selected : n ≤ length l - start → DonePlacing P L T X l start (ran (Selected n) after)
+  pub places_selected : n ≤ length l - start → DonePlacing P L T X l start (ran (Ok n) after)
   unfolding ran place_from place
   places_selected g q t =
       let xs = selected q (tree T X) in
@@ -107,67 +108,38 @@ module _ (P L T X l : List ℕ) (start : ℕ) (h : start ≤ length l) (p : List
       let a : take (length l - start) xs ≡ xs = take_all (length l - start) xs (omega arith) in
       rw (le-leb start (length l) h, le-leb (length xs) (length l - start) (omega arith)) (λ i. record { refusal = 0; count = m i; node = 0; places = (y.0 ∙ ap (sets l start) a) i })
 
-  pub places_full : length l - start < n → DonePlacing P L T X l start (ran NoRoom after)
+  pub places_full : length l - start < n → DonePlacing P L T X l start (ran (Err NoRoom) after)
   unfolding ran place_from place refuse_run
   places_full g q t =
       let xs = selected q (tree T X) in
       let y = filled q t in
       rw (le-leb start (length l) h, lt-leb (length xs) (length l - start) (omega (arith, y.1))) (λ i. record { refusal = 13; count = 0; node = 0; places = y.0 i })
 
-pub places_beyond : (P L T X l : List ℕ) (start : ℕ) → length l < start → DonePlacing P L T X l start (ran WrongStart l)
+pub places_beyond : (P L T X l : List ℕ) (start : ℕ) → length l < start → DonePlacing P L T X l start (ran (Err WrongStart) l)
 unfolding ran place_from refuse_run
 places_beyond P L T X l start h q t = rw (lt-leb start (length l) h)
 
 -- ---- behind the check of the table
 
-accepted_by : (c : Checked) → reported Right ≡ report_table c → c ≡ accepted
-unfolding reported report_table
-accepted_by accepted e = refl
-accepted_by sized e = let z : ◌≡◌ {A = ℕ} 0 9 = ap (λ (o : TableOutcome). o.refusal) e in absurd (omega arith)
-accepted_by (wrong_at i) e = let z : ◌≡◌ {A = ℕ} 0 10 = ap (λ (o : TableOutcome). o.refusal) e in absurd (omega arith)
-accepted_by (text_at i) e = let z : ◌≡◌ {A = ℕ} 0 17 = ap (λ (o : TableOutcome). o.refusal) e in absurd (omega arith)
+-- a check that refuses nothing accepts
+pub table_accepted : (T X : List ℕ) → reported (Ok tt) ≡ table_outcome T X → check_table T X ≡ accepted
+unfolding reported table_outcome
+table_accepted T X h = report_accepted (check_table T X) (ap (λ (o : TableOutcome). o.refusal) (sym h))
 
-sized_by : (c : Checked) → reported Sized ≡ report_table c → c ≡ sized
-unfolding reported report_table
-sized_by accepted e = let z : ◌≡◌ {A = ℕ} 9 0 = ap (λ (o : TableOutcome). o.refusal) e in absurd (omega arith)
-sized_by sized e = refl
-sized_by (wrong_at i) e = let z : ◌≡◌ {A = ℕ} 9 10 = ap (λ (o : TableOutcome). o.refusal) e in absurd (omega arith)
-sized_by (text_at i) e = let z : ◌≡◌ {A = ℕ} 9 17 = ap (λ (o : TableOutcome). o.refusal) e in absurd (omega arith)
-
-wrong_by : (i : ℕ) (c : Checked) → reported (Wrong i) ≡ report_table c → c ≡ wrong_at i
-unfolding reported report_table
-wrong_by i accepted e = let z : ◌≡◌ {A = ℕ} 10 0 = ap (λ (o : TableOutcome). o.refusal) e in absurd (omega arith)
-wrong_by i sized e = let z : ◌≡◌ {A = ℕ} 10 9 = ap (λ (o : TableOutcome). o.refusal) e in absurd (omega arith)
-wrong_by i (wrong_at j) e = ap wrong_at (sym (ap (λ (o : TableOutcome). o.node) e))
-wrong_by i (text_at j) e = let z : ◌≡◌ {A = ℕ} 10 17 = ap (λ (o : TableOutcome). o.refusal) e in absurd (omega arith)
-
-text_by : (i : ℕ) (c : Checked) → reported (Text i) ≡ report_table c → c ≡ text_at i
-unfolding reported report_table
-text_by i accepted e = let z : ◌≡◌ {A = ℕ} 17 0 = ap (λ (o : TableOutcome). o.refusal) e in absurd (omega arith)
-text_by i sized e = let z : ◌≡◌ {A = ℕ} 17 9 = ap (λ (o : TableOutcome). o.refusal) e in absurd (omega arith)
-text_by i (wrong_at j) e = let z : ◌≡◌ {A = ℕ} 17 10 = ap (λ (o : TableOutcome). o.refusal) e in absurd (omega arith)
-text_by i (text_at j) e = ap text_at (sym (ap (λ (o : TableOutcome). o.node) e))
-
-pub table_accepted : (T X : List ℕ) (c : TableChecked) → reported c ≡ table_outcome T X → c ≡ Right → check_table T X ≡ accepted
-unfolding table_outcome
-table_accepted T X c e i = accepted_by (check_table T X) (ap reported (sym i) ∙ e)
-
-module _ (P L T X l : List ℕ) (start : ℕ) (c : TableChecked) (e : reported c ≡ table_outcome T X) where
-  pub form_placed : c ≡ Right → (o : RunOutcome) → DonePlacing P L T X l start o → RunsForm P L T X l start o
+module _ (P L T X l : List ℕ) (start : ℕ) where
+  pub form_placed : reported (Ok tt) ≡ table_outcome T X → (o : RunOutcome) → DonePlacing P L T X l start o → RunsForm P L T X l start o
   unfolding run_by run_table
-  form_placed i o d q t = d q t ∙ ap (λ (k : Checked). run_table k q T X l start) (sym (table_accepted T X c e i))
+  form_placed h o d q t = d q t ∙ ap (λ (k : Checked). run_table k q T X l start) (sym (table_accepted T X h))
 
-  pub form_sized : c ≡ Sized → RunsForm P L T X l start (ran WrongSize l)
-  unfolding run_by run_table table_outcome ran refuse_run
-  form_sized i q t = ap (λ (k : Checked). run_table k q T X l start) (sym (sized_by (check_table T X) (ap reported (sym i) ∙ e)))
+  form_by : (r : TableRefusal) (c : Checked) → check_table T X ≡ c → ((q : Query) → ran (Err (Table r)) l ≡ run_table c q T X l start) → RunsForm P L T X l start (ran (Err (Table r)) l)
+  unfolding run_by
+  form_by r c e same q t = same q ∙ ap (λ (k : Checked). run_table k q T X l start) (sym e)
 
-  pub form_wrong : (m : ℕ) → c ≡ Wrong m → RunsForm P L T X l start (ran (WrongNode m) l)
-  unfolding run_by run_table table_outcome ran refuse_run
-  form_wrong m i q t = ap (λ (k : Checked). run_table k q T X l start) (sym (wrong_by m (check_table T X) (ap reported (sym i) ∙ e)))
-
-  pub form_text : (m : ℕ) → c ≡ Text m → RunsForm P L T X l start (ran (WrongText m) l)
-  unfolding run_by run_table table_outcome ran refuse_run
-  form_text m i q t = ap (λ (k : Checked). run_table k q T X l start) (sym (text_by m (check_table T X) (ap reported (sym i) ∙ e)))
+  pub form_refused : (r : TableRefusal) → reported (Err r) ≡ table_outcome T X → RunsForm P L T X l start (ran (Err (Table r)) l)
+  unfolding reported table_outcome ran run_table refuse_run
+  form_refused Sized h = form_by Sized sized (report_sized (check_table T X) (ap (λ (o : TableOutcome). o.refusal) (sym h))) (λ q. refl)
+  form_refused (Wrong i) h = form_by (Wrong i) (wrong_at i) (report_wrong (check_table T X) (ap (λ (o : TableOutcome). o.refusal) (sym h)) ∙ ap wrong_at (ap (λ (o : TableOutcome). o.node) (sym h))) (λ q. refl)
+  form_refused (Text i) h = form_by (Text i) (text_at i) (report_text (check_table T X) (ap (λ (o : TableOutcome). o.refusal) (sym h)) ∙ ap text_at (ap (λ (o : TableOutcome). o.node) (sym h))) (λ q. refl)
 
 -- ---- behind the check of the plan
 
@@ -178,7 +150,7 @@ is_planned_lem (Accepts.refused n) e = absurd (let z : ◌≡◌ {A = ℕ} 0 1 =
 pub run_planned : (P L T X l : List ℕ) (start : ℕ) (r : Bool) → Accepts P L r → r ≡ true → (o : RunOutcome) → RunsForm P L T X l start o → Runs P L T X l start o
 run_planned P L T X l start r a e o d = let p = is_planned_lem a e in record { reading = form p.q; reads = spelled p.q p.translates; is = d p.q p.translates }
 
-pub run_refused : (P L T X l : List ℕ) (start : ℕ) (r : Bool) → Accepts P L r → r ≡ false → Runs P L T X l start (ran WrongPlan l)
+pub run_refused : (P L T X l : List ℕ) (start : ℕ) (r : Bool) → Accepts P L r → r ≡ false → Runs P L T X l start (ran (Err WrongPlan) l)
 unfolding ran run_by refuse_run
 run_refused P L T X l start r (Accepts.accepted q t) e = absurd (let z : ◌≡◌ {A = ℕ} 0 1 = cc in omega arith)
 run_refused P L T X l start r (Accepts.refused n) e = record { reading = refused 11; reads = not_spelled n; is = refl }

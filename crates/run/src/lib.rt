@@ -2,31 +2,36 @@
 
 #![tactic(auto)]
 
+ghost use Rattle.std.specs.Prelude.{◌≡◌};
 ghost use Rattle.definition.specs.Outcomes.{Runs};
 ghost use Rattle.run.specs.Outcomes.{ran, Planned, RunsForm, AskPlacing, DonePlacing};
 
-use table::TableChecked;
+use table::TableRefusal;
 
-// What a run comes to.
+// Why no node is selected, or not every one has a place.
 #[derive(Clone, Copy)]
-pub enum Ran {
-    // So many nodes are selected, and their numbers stand in the list from the start position on.
-    Selected(usize),
+pub enum RunRefusal {
     // Refusal 11: the plan and the pool are not the translation of a query form.
     WrongPlan,
-    // Refusal 9: the table's size or the text's is wrong.
-    WrongSize,
-    // Refusal 10: the least node at which a rule on records fails.
-    WrongNode(usize),
-    // Refusal 17: the least node at which a rule on texts and keys fails.
-    WrongText(usize),
+    // Refusals 9, 10 and 17: what the check of the table finds.
+    Table(TableRefusal),
     // Refusal 14: the start position is beyond the list's length.
     WrongStart,
     // Refusal 13: more nodes are selected than there are places from the start position on, and the first of them stand there.
     NoRoom,
 }
 
-// The nodes that a plan selects of an accepted table, into the places from the start position on.
+impl From<TableRefusal> for RunRefusal {
+    ghost use Rattle.run.specs.declared.RunRefusal.TheVariants.{Table};
+
+    ghost from_gives = { λ refusal given. given ≡ Table refusal };
+
+    fn from(refusal: TableRefusal) -> RunRefusal {
+        RunRefusal::Table(refusal)
+    }
+}
+
+// The nodes that a plan selects of an accepted table, into the places from the start position on, and how many they are.
 fn place_nodes<'a>(
     plan: &'a [u8],
     pool: &'a [u8],
@@ -34,12 +39,12 @@ fn place_nodes<'a>(
     text: &'a [u8],
     list: &mut [u32],
     start: usize,
-) -> Ran
+) -> Result<usize, RunRefusal>
     requires { AskPlacing plan.now pool.now table.now text.now }
     ensures { DonePlacing plan.now pool.now table.now text.now list.old start (ran result list.new) }
 {
     if list.len() < start {
-        return Ran::WrongStart;
+        return Err(RunRefusal::WrongStart);
     }
     let room = list.len() - start;
     let n = eval::entrance::evaluate(
@@ -55,9 +60,9 @@ fn place_nodes<'a>(
         room,
     );
     if n <= room {
-        Ran::Selected(n)
+        Ok(n)
     } else {
-        Ran::NoRoom
+        Err(RunRefusal::NoRoom)
     }
 }
 
@@ -69,16 +74,12 @@ pub fn run_form<'a>(
     text: &'a [u8],
     list: &mut [u32],
     start: usize,
-) -> Ran
+) -> Result<usize, RunRefusal>
     requires { Planned plan.now pool.now }
     ensures { RunsForm plan.now pool.now table.now text.now list.old start (ran result list.new) }
 {
-    match table::check_table(table, text) {
-        TableChecked::Accepted => place_nodes(plan, pool, table, text, list, start),
-        TableChecked::WrongSize => Ran::WrongSize,
-        TableChecked::WrongNode(i) => Ran::WrongNode(i),
-        TableChecked::WrongText(i) => Ran::WrongText(i),
-    }
+    table::check_table(table, text)?;
+    place_nodes(plan, pool, table, text, list, start)
 }
 
 // Runs a plan.
@@ -89,11 +90,11 @@ pub fn run<'a>(
     text: &'a [u8],
     list: &mut [u32],
     start: usize,
-) -> Ran
+) -> Result<usize, RunRefusal>
     ensures { Runs plan.now pool.now table.now text.now list.old start (ran result list.new) }
 {
     if plan_check::check_plan(plan, pool) {
         return run_form(plan, pool, table, text, list, start);
     }
-    Ran::WrongPlan
+    Err(RunRefusal::WrongPlan)
 }

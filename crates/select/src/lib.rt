@@ -5,30 +5,49 @@
 
 ghost use Rattle.std.specs.Prelude.{◌≡◌, ◌≤◌, length};
 ghost use Rattle.definition.specs.Outcomes.{RunOutcome, Selects, early};
-ghost use Rattle.compile.specs.Steps.{Enough};
+ghost use Rattle.compile.specs.Steps.{Enough, Sizes};
 ghost use Rattle.compile_unique.specs.Readings.{OneSelect};
 ghost use Rattle.select.specs.Selections.{selected};
 
 use compile::Refusal;
-use compile::numbers::refusal_of;
 use compile::rooms::{
     BRIEF, BRIEF_PLAN_ROOM, BRIEF_POOL_ROOM, MIDDLE, MIDDLE_PLAN_ROOM, MIDDLE_POOL_ROOM, NO_BYTE,
     PLAN_ROOM, POOL_ROOM, SHORT, SHORT_PLAN_ROOM, SHORT_POOL_ROOM, SMALL, SMALL_PLAN_ROOM,
     SMALL_POOL_ROOM, TINY, TINY_PLAN_ROOM, TINY_POOL_ROOM, early_refusal, parse, verdict,
 };
 use parser_items::Step;
-use run::{Ran, run_form};
+use run::{RunRefusal, run_form};
 
-// What a selection comes to.
+// Why no node is selected, or not every one has a place.
 #[derive(Clone, Copy)]
-pub enum Selection {
+pub enum SelectRefusal {
     // The query is refused.
-    Refused(Refusal),
-    // What running its plan comes to.
-    Ran(Ran),
+    Query(Refusal),
+    // Running its plan is refused.
+    Run(RunRefusal),
 }
 
-// A query that no early refusal meets, read in the two rooms given.
+impl From<Refusal> for SelectRefusal {
+    ghost use Rattle.select.specs.declared.SelectRefusal.TheVariants.{Query};
+
+    ghost from_gives = { λ refusal given. given ≡ Query refusal };
+
+    fn from(refusal: Refusal) -> SelectRefusal {
+        SelectRefusal::Query(refusal)
+    }
+}
+
+impl From<RunRefusal> for SelectRefusal {
+    ghost use Rattle.select.specs.declared.SelectRefusal.TheVariants.{Run};
+
+    ghost from_gives = { λ refusal given. given ≡ Run refusal };
+
+    fn from(refusal: RunRefusal) -> SelectRefusal {
+        SelectRefusal::Run(refusal)
+    }
+}
+
+// A query that no early refusal meets, read in the two rooms given; and how many nodes are selected.
 fn select_in<'a>(
     query: &[u8],
     room: &'a mut [u8],
@@ -37,87 +56,40 @@ fn select_in<'a>(
     text: &'a [u8],
     list: &mut [u32],
     start: usize,
-) -> Selection
+) -> Result<usize, SelectRefusal>
     requires { Enough query.now room.old texts.old × (early query.now ≡ 0) }
     ensures { OneSelect query.now table.now text.now list.old start (selected result list.new) }
 {
     match parse(query, room, texts) {
-        Step::Stop(_) => Selection::Refused(Refusal::Malformed),
+        Step::Stop(_) => Err(SelectRefusal::Query(Refusal::Malformed)),
         Step::Next(st, _) => {
-            let refusal = verdict(st);
-            if refusal != 0 {
-                return Selection::Refused(refusal_of(refusal));
-            }
-            let n = st.len;
-            let m = st.pool;
-            let plan = &room[..n];
-            let pool = &texts[..m];
-            Selection::Ran(run_form(plan, pool, table, text, list, start))
+            verdict(st)?;
+            let plan = &room[..st.len];
+            let pool = &texts[..st.pool];
+            let count = run_form(plan, pool, table, text, list, start)?;
+            Ok(count)
         }
     }
 }
 
-fn select_tiny<'a>(
+// The same in rooms of these sizes, which are cleared.
+fn select_within<'a, const PLAN: usize, const POOL: usize>(
     query: &[u8],
     table: &'a [u8],
     text: &'a [u8],
     list: &mut [u32],
     start: usize,
-) -> Selection
-    requires { (length query.now ≤ 16) × (early query.now ≡ 0) }
+) -> Result<usize, SelectRefusal>
+    requires { Sizes query.now PLAN POOL × (early query.now ≡ 0) }
     ensures { OneSelect query.now table.now text.now list.old start (selected result list.new) }
 {
-    let mut room = [0u8; TINY_PLAN_ROOM];
-    let mut texts = [0u8; TINY_POOL_ROOM];
-    select_in(query, &mut room, &mut texts, table, text, list, start)
-}
-
-fn select_small<'a>(
-    query: &[u8],
-    table: &'a [u8],
-    text: &'a [u8],
-    list: &mut [u32],
-    start: usize,
-) -> Selection
-    requires { (length query.now ≤ 32) × (early query.now ≡ 0) }
-    ensures { OneSelect query.now table.now text.now list.old start (selected result list.new) }
-{
-    let mut room = [0u8; SMALL_PLAN_ROOM];
-    let mut texts = [0u8; SMALL_POOL_ROOM];
-    select_in(query, &mut room, &mut texts, table, text, list, start)
-}
-
-fn select_brief<'a>(
-    query: &[u8],
-    table: &'a [u8],
-    text: &'a [u8],
-    list: &mut [u32],
-    start: usize,
-) -> Selection
-    requires { (length query.now ≤ 64) × (early query.now ≡ 0) }
-    ensures { OneSelect query.now table.now text.now list.old start (selected result list.new) }
-{
-    let mut room = [0u8; BRIEF_PLAN_ROOM];
-    let mut texts = [0u8; BRIEF_POOL_ROOM];
-    select_in(query, &mut room, &mut texts, table, text, list, start)
-}
-
-fn select_short<'a>(
-    query: &[u8],
-    table: &'a [u8],
-    text: &'a [u8],
-    list: &mut [u32],
-    start: usize,
-) -> Selection
-    requires { (length query.now ≤ 256) × (early query.now ≡ 0) }
-    ensures { OneSelect query.now table.now text.now list.old start (selected result list.new) }
-{
-    let mut room = [0u8; SHORT_PLAN_ROOM];
-    let mut texts = [0u8; SHORT_POOL_ROOM];
+    let mut room = [0u8; PLAN];
+    let mut texts = [0u8; POOL];
     select_in(query, &mut room, &mut texts, table, text, list, start)
 }
 
 // As compile::rooms::compile_middle, it calls itself so that LLVM does not join it into its caller.
+// Two functions and not one with sizes: bin/archive names both, to keep them apart.
 fn select_middle<'a>(
     query: &[u8],
     table: &'a [u8],
@@ -125,16 +97,14 @@ fn select_middle<'a>(
     list: &mut [u32],
     start: usize,
     again: u8,
-) -> Selection
+) -> Result<usize, SelectRefusal>
     requires { (length query.now ≤ 1024) × (early query.now ≡ 0) }
     ensures { OneSelect query.now table.now text.now list.old start (selected result list.new) }
 {
     if 0 < again {
         return select_middle(query, table, text, list, start, again - 1);
     }
-    let mut room = [0u8; MIDDLE_PLAN_ROOM];
-    let mut texts = [0u8; MIDDLE_POOL_ROOM];
-    select_in(query, &mut room, &mut texts, table, text, list, start)
+    select_within::<MIDDLE_PLAN_ROOM, MIDDLE_POOL_ROOM>(query, table, text, list, start)
 }
 
 // The same for every query.
@@ -145,16 +115,14 @@ fn select_long<'a>(
     list: &mut [u32],
     start: usize,
     again: u8,
-) -> Selection
+) -> Result<usize, SelectRefusal>
     requires { early query.now ≡ 0 }
     ensures { OneSelect query.now table.now text.now list.old start (selected result list.new) }
 {
     if 0 < again {
         return select_long(query, table, text, list, start, again - 1);
     }
-    let mut room = [0u8; PLAN_ROOM];
-    let mut texts = [0u8; POOL_ROOM];
-    select_in(query, &mut room, &mut texts, table, text, list, start)
+    select_within::<PLAN_ROOM, POOL_ROOM>(query, table, text, list, start)
 }
 
 // "Select: the same without 12, then 9, 10, 14, 13." There is one outcome for each input.
@@ -164,25 +132,22 @@ pub fn select<'a>(
     text: &'a [u8],
     list: &mut [u32],
     start: usize,
-) -> Selection
+) -> Result<usize, SelectRefusal>
     ensures answers { Selects query.now table.now text.now list.old start (selected result list.new) }
     ensures only { (o : RunOutcome) → Selects query.now table.now text.now list.old start o → o ≡ selected result list.new }
 {
-    let refusal = early_refusal(query);
-    if refusal != 0 {
-        return Selection::Refused(refusal_of(refusal));
-    }
+    early_refusal(query)?;
     if query.len() <= TINY {
-        return select_tiny(query, table, text, list, start);
+        return select_within::<TINY_PLAN_ROOM, TINY_POOL_ROOM>(query, table, text, list, start);
     }
     if query.len() <= SMALL {
-        return select_small(query, table, text, list, start);
+        return select_within::<SMALL_PLAN_ROOM, SMALL_POOL_ROOM>(query, table, text, list, start);
     }
     if query.len() <= BRIEF {
-        return select_brief(query, table, text, list, start);
+        return select_within::<BRIEF_PLAN_ROOM, BRIEF_POOL_ROOM>(query, table, text, list, start);
     }
     if query.len() <= SHORT {
-        return select_short(query, table, text, list, start);
+        return select_within::<SHORT_PLAN_ROOM, SHORT_POOL_ROOM>(query, table, text, list, start);
     }
     // 0 for every query, since it is UTF-8; but LLVM cannot tell.
     let again = query[0] / NO_BYTE;

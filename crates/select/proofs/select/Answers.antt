@@ -1,11 +1,10 @@
 -- `select::select` meets its contract: one outcome for each input.
-use Rattle.compile.proofs.Answers.{numbered_early}
+use Rattle.std.proofs.lemmas.Result.{err_from_is_err_and}
 use Rattle.select.proofs.Answers.{select_early}
-use borrow.Author.Rules.{rules}
 use Rattle.select.proofs.select.Goals as goal
 
-pub refusal_of-requires : goal.refusal_of-requires
-refusal_of-requires c = numbered_early c.args.query.now c.early_refusal-refusal.ensures c.if-refusal-ne0.true
-
-pub returns-then-refusal-ne0 : goal.returns-then-refusal-ne0
-returns-then-refusal-ne0 c = let o = select_early c.refusal_of.result c.early_refusal-refusal.ensures c.if-refusal-ne0.true c.refusal_of.ensures in record { answers = o.is; only = o.only }
+pub returns-in_err-early_refusal : goal.returns-in_err-early_refusal
+returns-in_err-early_refusal c =
+    let p = err_from_is_err_and c.from_residual.result c.from_residual.ensures.1 in
+    let o = select_early c.in_err-early_refusal.field-0.0 (rw c.in_err-early_refusal.was at c.early_refusal.ensures) in
+    rw (p.1, p.2) (record { answers = o.is; only = o.only })
