@@ -15,7 +15,6 @@ use compile::rooms::{
     PLAN_ROOM, POOL_ROOM, SHORT, SHORT_PLAN_ROOM, SHORT_POOL_ROOM, SMALL, SMALL_PLAN_ROOM,
     SMALL_POOL_ROOM, TINY, TINY_PLAN_ROOM, TINY_POOL_ROOM, early_refusal, parse, verdict,
 };
-use parser_items::Step;
 use run::{RunRefusal, run_form};
 
 // Why no node is selected, or not every one has a place.
@@ -60,16 +59,14 @@ fn select_in<'a>(
     requires { Enough query.now room.old texts.old × (early query.now ≡ 0) }
     ensures { OneSelect query.now table.now text.now list.old start (selected result list.new) }
 {
-    match parse(query, room, texts) {
-        Step::Stop(_) => Err(SelectRefusal::Query(Refusal::Malformed)),
-        Step::Next(st, _) => {
-            verdict(st)?;
-            let plan = &room[..st.len];
-            let pool = &texts[..st.pool];
-            let count = run_form(plan, pool, table, text, list, start)?;
-            Ok(count)
-        }
-    }
+    let Ok(st) = parse(query, room, texts) else {
+        return Err(SelectRefusal::Query(Refusal::Malformed));
+    };
+    verdict(st)?;
+    let plan = &room[..st.len];
+    let pool = &texts[..st.pool];
+    let count = run_form(plan, pool, table, text, list, start)?;
+    Ok(count)
 }
 
 // The same in rooms of these sizes, which are cleared.

@@ -8,25 +8,33 @@ use Rattle.select.proofs.select_in.Goals as goal
 pub parse-requires : goal.parse-requires
 parse-requires c = rooms_of c.requires.0 c.requires.1
 
-pub returns-in-Stop : goal.returns-in-Stop
-returns-in-Stop c = select_none c.requires.1 (none_of c.parse.ensures _ c.in-Stop.is)
+pub returns-in_default : goal.returns-in_default
+returns-in_default c = select_none c.requires.1 (none_of c.parse.ensures _ c.in_default.is)
 
-pub returns-in_err-verdict-in-Next : goal.returns-in_err-verdict-in-Next
-returns-in_err-verdict-in-Next c =
+pub returns-in_err-verdict : goal.returns-in_err-verdict
+returns-in_err-verdict c =
     let p = err_from_is_err_and c.from_residual.result c.from_residual.ensures.1 in
-    rw (p.1, p.2) (select_refused (whole_of_lem c.parse.ensures c.in-Next.is) _ c.requires.1 (rw c.in_err-verdict-in-Next.was at c.verdict.ensures))
+    rw (p.1, p.2) (select_refused (whole_of_lem c.parse.ensures c.in-Ok.is) _ c.requires.1 (rw c.in_err-verdict.was at c.verdict.ensures))
 
 pub slice_bounds-plan-end : goal.slice_bounds-plan-end
-slice_bounds-plan-end c = (whole_of_lem c.parse.ensures c.in-Next.is).len
+slice_bounds-plan-end c = (whole_of_lem c.parse.ensures c.in-Ok.is).len
 
-pub slice_bounds-plan-end-in-Next : goal.slice_bounds-plan-end-in-Next
-slice_bounds-plan-end-in-Next c = plan_part (whole_of_lem c.parse.ensures c.in-Next.is)
+pub slice_bounds-plan-end-2 : goal.slice_bounds-plan-end-2
+slice_bounds-plan-end-2 c = plan_part (whole_of_lem c.parse.ensures c.in-Ok.is)
 
 pub slice_bounds-pool-end : goal.slice_bounds-pool-end
-slice_bounds-pool-end c = (whole_of_lem c.parse.ensures c.in-Next.is).pool_len
+slice_bounds-pool-end c = (whole_of_lem c.parse.ensures c.in-Ok.is).pool_len
 
-pub slice_bounds-pool-end-in-Next : goal.slice_bounds-pool-end-in-Next
-slice_bounds-pool-end-in-Next c = pool_part (whole_of_lem c.parse.ensures c.in-Next.is)
+pub slice_bounds-pool-end-2 : goal.slice_bounds-pool-end-2
+slice_bounds-pool-end-2 c = pool_part (whole_of_lem c.parse.ensures c.in-Ok.is)
 
 pub run_form-requires : goal.run_form-requires
-run_form-requires c = planned (whole_of_lem c.parse.ensures c.in-Next.is) c.requires.1 (rw c.in_ok-verdict-in-Next.was at c.verdict.ensures)
+run_form-requires c = planned (whole_of_lem c.parse.ensures c.in-Ok.is) c.requires.1 (rw c.in_ok-verdict.was at c.verdict.ensures)
+
+pub returns-in_err-count : goal.returns-in_err-count
+returns-in_err-count c =
+    let p = err_from_is_err_and c.from_residual-in_err-count.result c.from_residual-in_err-count.ensures.1 in
+    rw (p.1, p.2) (select_stopped (whole_of_lem c.parse.ensures c.in-Ok.is) c.requires.1 (rw c.in_ok-verdict.was at c.verdict.ensures) _ _ c.in_err-count.ensures)
+
+pub returns : goal.returns
+returns c = select_form (whole_of_lem c.parse.ensures c.in-Ok.is) c.requires.1 (rw c.in_ok-verdict.was at c.verdict.ensures) _ _ c.in_ok-count.ensures
