@@ -1,6 +1,6 @@
 -- What the numbers of an answer are: with what the lent places hold they are the definition's outcome. Assumes nothing: these are definitions.
 use Rattle.std.specs.Prelude.{◌≡◌, List, ℕ, Result}
-use Rattle.compile.specs.Outcomes.{outcome}
+use Rattle.compile.specs.Outcomes.{outcome, number_of}
 use Rattle.compile.specs.declared.CompileRefusal.{CompileRefusal}
 use Rattle.compile.specs.declared.Lengths.{Lengths}
 use Rattle.run.specs.Outcomes.{ran}
@@ -8,11 +8,13 @@ use Rattle.run.specs.declared.RunRefusal.{RunRefusal}
 use Rattle.run.specs.declared.RunRefusal.TheVariants.{WrongPlan, Table, WrongStart, NoRoom}
 use Rattle.select.specs.Selections.{selected}
 use Rattle.select.specs.declared.SelectRefusal.{SelectRefusal}
+use Rattle.select.specs.declared.SelectRefusal.TheVariants.{Query, Run}
 use Rattle.table.specs.Outcomes.{reported}
 use Rattle.table.specs.declared.TableRefusal.{TableRefusal}
 use Rattle.table.specs.declared.TableRefusal.TheVariants.{WrongSize, WrongNode, WrongText}
 use Rattle.table_path.specs.Outcomes.{told}
 use Rattle.table_path.specs.declared.PathRefusal.{PathRefusal}
+use Rattle.table_path.specs.declared.PathRefusal.TheVariants.{Table as ByTable, NoNode, SmallRoom}
 use Rattle.refusals.specs.declared.CompileNumbers.{CompileNumbers}
 use Rattle.refusals.specs.declared.RunNumbers.{RunNumbers}
 use Rattle.refusals.specs.declared.CheckNumbers.{CheckNumbers}
@@ -41,6 +43,31 @@ node_of_run WrongPlan = 0
 node_of_run (Table wrong) = node_of_table wrong
 node_of_run WrongStart = 0
 node_of_run NoRoom = 0
+
+-- of a selection
+abbrev pub number_of_select : SelectRefusal → ℕ
+number_of_select (Query wrong) = number_of wrong
+number_of_select (Run wrong) = number_of_run wrong
+
+abbrev pub node_of_select : SelectRefusal → ℕ
+node_of_select (Query wrong) = 0
+node_of_select (Run wrong) = node_of_run wrong
+
+-- and of a path, with the length that it names
+abbrev pub number_of_path : PathRefusal → ℕ
+number_of_path (ByTable wrong) = number_of_table wrong
+number_of_path NoNode = 15
+number_of_path (SmallRoom n) = 16
+
+abbrev pub size_of_path : PathRefusal → ℕ
+size_of_path (ByTable wrong) = 0
+size_of_path NoNode = 0
+size_of_path (SmallRoom n) = n
+
+abbrev pub node_of_path : PathRefusal → ℕ
+node_of_path (ByTable wrong) = node_of_table wrong
+node_of_path NoNode = 0
+node_of_path (SmallRoom n) = 0
 
 abbrev pub CompileTells : Result Lengths CompileRefusal → CompileNumbers → Type 0
 CompileTells a r = (P L : List ℕ) → record { refusal = r.refusal; plan_length = r.plan; pool_length = r.pool; plan_room = P; pool_room = L } ≡ outcome a P L

@@ -2,7 +2,7 @@
 
 #![tactic(auto)]
 
-ghost use Rattle.refusals.specs.Numbers.{CompileTells, RunTells, SelectTells, CheckTells, PathTells, number_of_table, node_of_table, number_of_run, node_of_run};
+ghost use Rattle.refusals.specs.Numbers.{CompileTells, RunTells, SelectTells, CheckTells, PathTells, number_of_table, node_of_table, number_of_run, node_of_run, number_of_select, node_of_select, number_of_path, size_of_path, node_of_path};
 ghost use Rattle.std.specs.Prelude.{◌≡◌};
 
 use compile::numbers::number_of;
@@ -89,6 +89,59 @@ fn run_node(refusal: RunRefusal) -> usize
     }
 }
 
+// The number of a selection's refusal.
+fn select_number(refusal: SelectRefusal) -> u8
+    ensures { result ≡ number_of_select refusal }
+{
+    match refusal {
+        SelectRefusal::Query(wrong) => number_of(wrong),
+        SelectRefusal::Run(wrong) => run_number(wrong),
+    }
+}
+
+// The node that it names.
+fn select_node(refusal: SelectRefusal) -> usize
+    ensures { result ≡ node_of_select refusal }
+{
+    match refusal {
+        SelectRefusal::Query(_) => 0,
+        SelectRefusal::Run(wrong) => run_node(wrong),
+    }
+}
+
+// The number of a path's refusal.
+fn path_number(refusal: PathRefusal) -> u8
+    ensures { result ≡ number_of_path refusal }
+{
+    match refusal {
+        PathRefusal::Table(wrong) => table_number(wrong),
+        PathRefusal::NoNode => 15,
+        PathRefusal::SmallRoom(_) => 16,
+    }
+}
+
+// The length that it names.
+fn path_size(refusal: PathRefusal) -> usize
+    ensures { result ≡ size_of_path refusal }
+{
+    match refusal {
+        PathRefusal::Table(_) => 0,
+        PathRefusal::NoNode => 0,
+        PathRefusal::SmallRoom(size) => size,
+    }
+}
+
+// The node that it names.
+fn path_node(refusal: PathRefusal) -> usize
+    ensures { result ≡ node_of_path refusal }
+{
+    match refusal {
+        PathRefusal::Table(wrong) => table_node(wrong),
+        PathRefusal::NoNode => 0,
+        PathRefusal::SmallRoom(_) => 0,
+    }
+}
+
 pub fn of_compile(compiled: Result<Lengths, CompileRefusal>) -> CompileNumbers
     ensures { CompileTells compiled result }
 {
@@ -132,12 +185,15 @@ pub fn of_select(selection: Result<usize, SelectRefusal>) -> RunNumbers
     ensures { SelectTells selection result }
 {
     match selection {
-        Ok(count) => of_run(Ok(count)),
-        Err(SelectRefusal::Run(refusal)) => of_run(Err(refusal)),
-        Err(SelectRefusal::Query(refusal)) => RunNumbers {
-            refusal: number_of(refusal),
-            count: 0,
+        Ok(count) => RunNumbers {
+            refusal: 0,
+            count,
             node: 0,
+        },
+        Err(refusal) => RunNumbers {
+            refusal: select_number(refusal),
+            count: 0,
+            node: select_node(refusal),
         },
     }
 }
@@ -166,20 +222,10 @@ pub fn of_path(written: Result<usize, PathRefusal>) -> PathNumbers
             size,
             node: 0,
         },
-        Err(PathRefusal::Table(wrong)) => PathNumbers {
-            refusal: table_number(wrong),
-            size: 0,
-            node: table_node(wrong),
-        },
-        Err(PathRefusal::NoNode) => PathNumbers {
-            refusal: 15,
-            size: 0,
-            node: 0,
-        },
-        Err(PathRefusal::SmallRoom(size)) => PathNumbers {
-            refusal: 16,
-            size,
-            node: 0,
+        Err(refusal) => PathNumbers {
+            refusal: path_number(refusal),
+            size: path_size(refusal),
+            node: path_node(refusal),
         },
     }
 }
