@@ -2,7 +2,7 @@
 
 #![tactic(auto)]
 
-ghost use Rattle.std.specs.Prelude.{◌≡◌, ◌+◌, ◌-◌, ◌<◌, ◌≤◌};
+ghost use Rattle.std.specs.Prelude.{◌≡◌, ◌+◌, ◌<◌, ◌≤◌};
 ghost use Rattle.number_fives.specs.Rule.{place, powers};
 ghost use Rattle.number_rounding.specs.Decided.{Best};
 ghost use Rattle.number_leading.specs.Leads.{above, below, Between};
@@ -15,13 +15,6 @@ const HALF_UNITS: usize = 1075;
 // The limbs that hold every number that is compared: 2,432 bits.
 const LIMBS: usize = 76;
 
-// x - y, or 0 where that would be less.
-fn minus(x: usize, y: usize) -> usize
-    ensures { result ≡ x - y }
-{
-    if y < x { x - y } else { 0 }
-}
-
 // n times ten to i - 342 is between c steps of 2 ^ k units and one and a half more. Twice the fraction is held against 2 * c + 1 steps,
 // the middle between c and c + 1 steps: the nearest number of steps, and the even one in the middle.
 pub fn decide(n: u64, i: usize, c: u64, k: usize) -> u64
@@ -30,8 +23,8 @@ pub fn decide(n: u64, i: usize, c: u64, k: usize) -> u64
 {
     let mut a = [0u64; LIMBS];
     let mut b = [0u64; LIMBS];
-    number_limbs::scale(&mut a, n, minus(i, LEAST), HALF_UNITS);
-    number_limbs::scale(&mut b, c * 2 + 1, minus(LEAST, i), k);
+    number_limbs::scale(&mut a, n, i.saturating_sub(LEAST), HALF_UNITS);
+    number_limbs::scale(&mut b, c * 2 + 1, LEAST.saturating_sub(i), k);
     match number_limbs::order(&a, &b) {
         Ordering::Less => c,
         Ordering::Equal => c + c % 2,

@@ -24,10 +24,8 @@ fn power(k: usize) -> f64
     ensures { HasValue result false (10 ^ k) 1 }
 {
     let mut x = 1.0;
-    let mut i = 0;
-    while i < k {
+    for _i in 0..k {
         x = x * 10.0;
-        i += 1;
     }
     x
 }
@@ -73,10 +71,8 @@ pub fn nearest(negative: bool, n: u64, low: bool, k: usize) -> u64
     requires { exponent_right (signed low k) ≡ true }
     ensures { Scaled negative n (signed low k) result }
 {
-    if n <= MAX_INT {
-        if k <= ONE_POWER {
-            return once(negative, n, low, k);
-        }
+    if n <= MAX_INT && k <= ONE_POWER {
+        return once(negative, n, low, k);
     }
     if n == 0 {
         return once(negative, 0, false, 0);

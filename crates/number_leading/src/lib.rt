@@ -7,6 +7,7 @@ ghost use Rattle.number_fives.specs.Rule.{place, powers};
 ghost use Rattle.number_leading.specs.Leads.{Bracket, Leads};
 
 // c steps of 2 ^ k units of the smallest float are nearest; or the fraction is at least that and less than one and a half steps more.
+// Both cases hold the same two numbers, and an Unsure one is no failure: a Result would say less.
 #[derive(Clone, Copy)]
 pub enum Lead {
     Sure(u64, usize),
@@ -28,13 +29,8 @@ fn normal(n: u64) -> Norm
     requires { 0 < n }
     ensures { (result.m ≡ n * 2 ^ result.s) × (2 ^ 63 ≤ result.m) × (result.s < 64) × (result.m < 2 ^ 64) }
 {
-    let mut m = n;
-    let mut s = 0usize;
-    while m < TOP {
-        m = m * 2;
-        s += 1;
-    }
-    Norm { m, s }
+    let s = n.leading_zeros() as usize;
+    Norm { m: n << s, s }
 }
 
 // The lowest j bits of h are below a step. The fraction is at least h and less than h + 4, so that the nearest number of steps is sure
@@ -80,13 +76,10 @@ pub fn nearest(n: u64, i: usize) -> Lead
     ensures { Leads result n i }
 {
     let z = normal(n);
-    let m = z.m;
-    let s = z.s;
     let t = number_fives::five(i);
-    let w = number_product::wide_mul(m, t);
-    let hi = w.hi;
+    let hi = number_product::wide_mul(z.m, t).hi;
     if hi < TOP {
-        return settle(n, hi * 2, i, s + 1);
+        return settle(n, hi * 2, i, z.s + 1);
     }
-    settle(n, hi, i, s)
+    settle(n, hi, i, z.s)
 }

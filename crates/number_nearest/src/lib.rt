@@ -7,6 +7,8 @@ ghost use Rattle.number_fives.specs.Rule.{powers};
 ghost use Rattle.number_leading.specs.Leads.{above, below};
 ghost use Rattle.number_rounding.specs.Bits.{NearestBits, infinity};
 
+use number_leading::Lead;
+
 // 2 ^ 52, one step of the field of the exponent.
 const FIELD: u64 = 4503599627370496;
 // The bits of an infinity.
@@ -17,8 +19,7 @@ fn bits(c: u64, k: usize) -> u64
     requires { (c ≤ 2 ^ 53) × (k ≤ 2165) }
     ensures { result ≡ min (k * 2 ^ 52 + c) infinity }
 {
-    let b = k as u64 * FIELD + c;
-    if b < INFINITY { b } else { INFINITY }
+    (k as u64 * FIELD + c).min(INFINITY)
 }
 
 // The bits of the float nearest to n times ten to i - 342, without a sign; an infinity's past the largest float.
@@ -26,12 +27,8 @@ pub fn nearest(n: u64, i: usize) -> u64
     requires { (0 < n) × (i < powers) }
     ensures { NearestBits (above n i) (below i) result }
 {
-    let lead = number_leading::nearest(n, i);
-    match lead {
-        number_leading::Lead::Sure(c, k) => bits(c, k),
-        number_leading::Lead::Unsure(c, k) => {
-            let d = number_exact::decide(n, i, c, k);
-            bits(d, k)
-        }
+    match number_leading::nearest(n, i) {
+        Lead::Sure(c, k) => bits(c, k),
+        Lead::Unsure(c, k) => bits(number_exact::decide(n, i, c, k), k),
     }
 }

@@ -4,8 +4,8 @@
 
 ghost use Rattle.std.specs.Prelude.{◌≡◌, ◌+◌, ◌*◌, ◌^◌, ◌<◌};
 
-// 2 ^ 32, the base of the halves.
-const HALF: u64 = 4294967296;
+// 2 ^ 64, the base of the two words.
+const WORD: u128 = 18446744073709551616;
 
 // The number hi * 2 ^ 64 + lo.
 #[derive(Clone, Copy)]
@@ -14,21 +14,13 @@ pub struct Wide {
     pub lo: u64,
 }
 
-// The product of a and b, by the four products of their halves.
+// The product of a and b.
 pub fn wide_mul(a: u64, b: u64) -> Wide
     ensures { (result.hi * 2 ^ 64 + result.lo ≡ a * b) × (result.lo < 2 ^ 64) }
 {
-    let a1 = a / HALF;
-    let a0 = a % HALF;
-    let b1 = b / HALF;
-    let b0 = b % HALF;
-    let p00 = a0 * b0;
-    let p01 = a0 * b1;
-    let p10 = a1 * b0;
-    let p11 = a1 * b1;
-    let mid = p00 / HALF + p01 % HALF + p10 % HALF;
+    let product = u128::from(a) * u128::from(b);
     Wide {
-        hi: p11 + p01 / HALF + p10 / HALF + mid / HALF,
-        lo: p00 % HALF + mid % HALF * HALF,
+        hi: (product >> 64) as u64,
+        lo: (product % WORD) as u64,
     }
 }

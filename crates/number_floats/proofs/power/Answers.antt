@@ -8,15 +8,12 @@ use Rattle.number_floats.proofs.Powers.{one_value, power_step}
 use Rattle.number_floats.proofs.power.Goals as goal
 
 pub loop-i-init : goal.loop-i-init
-loop-i-init c = (omega arith, one_value)
-
-pub loop-i-smaller : goal.loop-i-smaller
-loop-i-smaller c = omega arith
+loop-i-init c = one_value
 
 pub loop-i-preserved : goal.loop-i-preserved
-loop-i-preserved c = (omega arith, power_step c.loop-i.i c.loop-i.x (omega arith) c.loop-i.invariant.1)
+loop-i-preserved c = power_step c.loop-i._i c.loop-i.x (omega arith) c.loop-i.invariant
 
 pub returns : goal.returns
 returns c =
-    let e : c.loop-i.i ≡ c.args.k = omega arith in
-    subst (λ (j : ℕ). HasValue c.loop-i.x false (10 ^ j) 1) e c.loop-i.invariant.1
+    let e : c.loop-i._i ≡ c.args.k = omega arith in
+    subst (λ (j : ℕ). HasValue c.loop-i.x false (10 ^ j) 1) e c.loop-i.invariant
