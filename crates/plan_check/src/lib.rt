@@ -13,7 +13,7 @@ ghost use Rattle.plan_items.specs.Readings.{Asks, Post};
 ghost use Rattle.plan_check.specs.Loops.{counted, side_part, single_sort, Tested};
 ghost use Rattle.plan_check.specs.Checks.{Accepts, refusal};
 
-use plan_format::{lengths, wide};
+use plan_format::{kinds, lengths};
 use plan_items::Got;
 use text::bytes;
 
@@ -24,14 +24,14 @@ const MAX_PLAN: usize = 65535;
 const MAX_NESTING: usize = 128;
 
 // Whether segments stay singular with one more of the kind k, with n selectors of which the last has the given sort.
-fn single(before: usize, k: usize, n: usize, sort: usize) -> usize
+fn single(before: usize, k: u8, n: usize, sort: usize) -> usize
     requires { (before ≤ 1) × (sort ≤ 1) }
     ensures { result ≡ before * single_sort k n sort }
 {
     if before == 0 {
         return 0;
     }
-    if k != wide::CHILD {
+    if k != kinds::CHILD {
         return 0;
     }
     if n != 1 {
@@ -47,16 +47,16 @@ fn sel(plan: &[u8], pool: &[u8], at: usize, p: usize, room: usize) -> Option<Got
     ensures { Post selector_part room plan.now pool.now at p result }
 {
     let k = plan_items::kind(plan, at);
-    if k == wide::NAME {
+    if k == kinds::NAME {
         return plan_items::text(plan, pool, at + 1, p, 1);
     }
-    if k == wide::INDEX {
+    if k == kinds::INDEX {
         return plan_items::index(plan, at + 1, p);
     }
-    if k == wide::SLICE {
+    if k == kinds::SLICE {
         return plan_items::slice(plan, at + 1, p);
     }
-    if k == wide::WILDCARD {
+    if k == kinds::WILDCARD {
         return Some(Got {
             at: at + 1,
             p,
@@ -64,7 +64,7 @@ fn sel(plan: &[u8], pool: &[u8], at: usize, p: usize, room: usize) -> Option<Got
             sort: 0,
         });
     }
-    if k == wide::FILTER {
+    if k == kinds::FILTER {
         return framed(plan, pool, at + 1, p, room);
     }
     None
@@ -135,9 +135,10 @@ fn segs(plan: &[u8], pool: &[u8], from: usize, start: usize, room: usize) -> Opt
     let mut p = start;
     let mut h = 0;
     let mut sort = 1;
+    // A loop over the place: the end of the segments is an item of the plan.
     loop {
         let k = plan_items::kind(plan, at);
-        if k == wide::END {
+        if k == kinds::END {
             return Some(Got {
                 at: at + 1,
                 p,
@@ -145,7 +146,7 @@ fn segs(plan: &[u8], pool: &[u8], from: usize, start: usize, room: usize) -> Opt
                 sort,
             });
         }
-        if k != wide::CHILD && k != wide::DESCENDANT {
+        if k != kinds::CHILD && k != kinds::DESCENDANT {
             return None;
         }
         if plan.len() - at < lengths::SIZE_ITEM {
@@ -170,10 +171,10 @@ fn basis(plan: &[u8], pool: &[u8], at: usize, p: usize, room: usize) -> Option<G
     ensures { Post basis_part room plan.now pool.now at p result }
 {
     let k = plan_items::kind(plan, at);
-    if k == wide::ROOT {
+    if k == kinds::ROOT {
         return segs(plan, pool, at + 1, p, room);
     }
-    if k == wide::CURRENT {
+    if k == kinds::CURRENT {
         return segs(plan, pool, at + 1, p, room);
     }
     plan_items::literal(plan, pool, at, p)
@@ -222,7 +223,7 @@ fn base(plan: &[u8], pool: &[u8], p: usize, room: usize) -> Option<Got>
     ensures { Post base_part room plan.now pool.now 0 p result }
 {
     let a = oper(plan, pool, 0, p, room)?;
-    if plan_items::kind(plan, a.at) != wide::TEST {
+    if plan_items::kind(plan, a.at) != kinds::TEST {
         return side(plan, pool, a, room);
     }
     tested(plan, a, room)
@@ -244,7 +245,7 @@ fn tested(plan: &[u8], a: Got, room: usize) -> Option<Got>
     if a.sort != 3 {
         return None;
     }
-    if plan_items::kind(plan, a.at + 1) != wide::NOT {
+    if plan_items::kind(plan, a.at + 1) != kinds::NOT {
         return None;
     }
     if room <= a.h {
@@ -267,16 +268,17 @@ fn more(plan: &[u8], pool: &[u8], a: Got, room: usize) -> Option<Got>
     let mut at = a.at;
     let mut p = a.p;
     let mut h = a.h;
+    // A loop over the place: an item is one byte long, or as long as its code.
     while at < plan.len() {
         let k = plan_items::kind(plan, at);
-        if k == wide::NOT {
+        if k == kinds::NOT {
             if room <= h {
                 return None;
             }
             at += 1;
             h += 1;
         } else {
-            if k != wide::AND && k != wide::OR {
+            if k != kinds::AND && k != kinds::OR {
                 return None;
             }
             let g = framed(plan, pool, at + 1, p, room)?;
@@ -309,7 +311,7 @@ pub fn check_plan(plan: &[u8], pool: &[u8]) -> bool
     if MAX_PLAN < pool.len() {
         return false;
     }
-    if plan_items::kind(plan, 0) != wide::ROOT {
+    if plan_items::kind(plan, 0) != kinds::ROOT {
         return false;
     }
     match segs(plan, pool, 1, 0, MAX_NESTING) {

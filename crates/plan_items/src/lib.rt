@@ -14,7 +14,7 @@ ghost use Rattle.plan_laws.specs.Relations.{relations};
 ghost use Rattle.plan_items.specs.Readings.{Kind, call_of, Within, AnyRoom, AnyPool, IsBound, PostCalls};
 
 use limits::MAX_INT;
-use plan_format::{lengths, operators, wide, words};
+use plan_format::{kinds, lengths, operators, words};
 use text::{bytes, encoding};
 
 // Refusal 4's range: indices, bounds and steps lie in -(2^53-1)..2^53-1. This is the least of them in two's complement.
@@ -28,6 +28,7 @@ const EXPONENT: u64 = 4503599627370496;
 const NOT_FINITE: u64 = 2047;
 
 // Where a plan and a pool stand behind a part, how deep the part nests, and its sort.
+// The sort is a number as in `plan_laws`: sorts are multiplied along segments, and a relation's is added to what it nests.
 #[derive(Clone, Copy)]
 pub struct Got {
     pub at: usize,
@@ -37,13 +38,10 @@ pub struct Got {
 }
 
 // The kind of the item at `at`, 0 at the plan's end.
-pub fn kind(plan: &[u8], at: usize) -> usize
+pub fn kind(plan: &[u8], at: usize) -> u8
     ensures { Kind plan.now at result }
 {
-    if at < plan.len() {
-        return plan[at] as usize;
-    }
-    0
+    if at < plan.len() { plan[at] } else { 0 }
 }
 
 // The greater of two numbers.
@@ -220,16 +218,16 @@ pub fn literal(plan: &[u8], pool: &[u8], at: usize, p: usize) -> Option<Got>
     ensures { AnyRoom literals plan.now pool.now at p result }
 {
     let k = kind(plan, at);
-    if k == wide::INTEGER {
+    if k == kinds::INTEGER {
         return integer(plan, at + 1, p);
     }
-    if k == wide::FLOAT {
+    if k == kinds::FLOAT {
         return float(plan, at + 1, p);
     }
-    if k == wide::TEXT {
+    if k == kinds::TEXT {
         return text(plan, pool, at + 1, p, 2);
     }
-    if k == wide::CONSTANT {
+    if k == kinds::CONSTANT {
         return small(plan, at + 1, p, words::HOW_MANY, 2);
     }
     None
@@ -240,10 +238,10 @@ pub fn relation(plan: &[u8], at: usize, p: usize) -> Option<Got>
     ensures { AnyPool relations plan.now at p result }
 {
     let k = kind(plan, at);
-    if k == wide::COMPARE {
+    if k == kinds::COMPARE {
         return small(plan, at + 1, p, operators::HOW_MANY, 0);
     }
-    if k == wide::MATCH {
+    if k == kinds::MATCH {
         return Some(Got {
             at: at + 1,
             p,
@@ -251,7 +249,7 @@ pub fn relation(plan: &[u8], at: usize, p: usize) -> Option<Got>
             sort: 1,
         });
     }
-    if k == wide::SEARCH {
+    if k == kinds::SEARCH {
         return Some(Got {
             at: at + 1,
             p,
@@ -263,11 +261,11 @@ pub fn relation(plan: &[u8], at: usize, p: usize) -> Option<Got>
 }
 
 // Whether a function may be called on an operand of a sort: length on all but a query that is not singular, count and value on queries.
-pub fn allows(sort: usize, k: usize) -> bool
+pub fn allows(sort: usize, k: u8) -> bool
     requires { (0x19 ≤ k) × (k ≤ 0x1B) }
     ensures { result ≡ allowed sort (call_of k) }
 {
-    if k == wide::LENGTH {
+    if k == kinds::LENGTH {
         return 0 < sort;
     }
     sort <= 1
@@ -282,12 +280,13 @@ pub fn calls(plan: &[u8], g: Got, room: usize) -> Option<Got>
     let mut at = g.at;
     let mut h = g.h;
     let mut sort = g.sort;
+    // A loop over the place: how many calls there are shows only at the first item that is none.
     loop {
         let k = kind(plan, at);
-        if k < wide::COUNT {
+        if k < kinds::COUNT {
             return Some(Got { at, p, h, sort });
         }
-        if wide::VALUE < k {
+        if kinds::VALUE < k {
             return Some(Got { at, p, h, sort });
         }
         if !allows(sort, k) {
