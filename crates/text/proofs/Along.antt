@@ -1,6 +1,7 @@
 -- A text in which every byte may stand behind the three before it is UTF-8. Assumes nothing.
 use Prim.Native.Nat.{ℕ, zero, suc, ◌+◌, ◌-◌, ◌≤◌, ◌<◌}
 use mathlib.Core.Path.{◌≡◌, refl, sym, ap, ◌∙◌, subst}
+use Rattle.std.specs.Prelude.{Option, Some, None, OnSome, is_some}
 use mathlib.Core.Bool.{Bool, true, false, not, ◌&&◌, ◌||◌, and-eq-true_iff, true≢false, false≢true}
 use mathlib.Core.List.{List, [], ◌∷◌}
 use native.Mathlib.Omega.{arith}
@@ -346,3 +347,8 @@ ascii_bytes s at n f e j l h =
     let m = length-drop at s in
     let q = every_front is_ascii n (j - at) (drop at s) (omega arith) (omega arith) e in
     ltb-true (get_or s j 0) 0x80 (rw (get_or-drop at s (j - at) 0, k) at q)
+
+-- what an answer says if there is one
+pub on_some : {A : Type 0} (r : Option A) (P : Type 0) → OnSome r P → is_some r ≡ true → P
+on_some (Some x) P h e = h
+on_some None P h e = absurd (false≢true e)

@@ -8,6 +8,16 @@ ghost use Rattle.text.specs.Lengths.{low_mark, Fits, least_of, Under, top_of, Ag
 
 use crate::placed;
 
+// The kinds, which the tests have by their numbers, 2 to 6.
+#[derive(Clone, Copy, PartialEq, Eq)]
+pub enum Kind {
+    Two,
+    Three,
+    Four,
+    Mixed,
+    Any,
+}
+
 // The greater of two bytes.
 fn greater(p: u8, q: u8) -> u8
     ensures { (k : ℕ) → leb k result ≡ (leb k p || leb k q) }
@@ -130,7 +140,7 @@ fn starts_as(kind: u8, c: u8, x: u8) -> bool
 }
 
 // Whether each of the n bytes behind the three at `at` may stand where it does, in a text of the kind.
-pub fn block_as(s: &[u8], at: usize, n: usize, kind: u8) -> bool
+fn block_as(s: &[u8], at: usize, n: usize, kind: u8) -> bool
     requires n_in_bounds { at + n + 3 ≤ length s.now }
     requires le_kind { (2 ≤ kind) × (kind ≤ 6) }
     ensures { result ≡ true → PlacedIn s.now at (at + n) }
@@ -155,7 +165,7 @@ pub fn block_as(s: &[u8], at: usize, n: usize, kind: u8) -> bool
 }
 
 // The kind that n bytes from `at` on look like, by the least and the greatest of the bytes that begin a character of more than one byte.
-pub fn kind_of(s: &[u8], at: usize, n: usize) -> u8
+pub fn kind_of(s: &[u8], at: usize, n: usize) -> Kind
     requires { at + n ≤ length s.now }
 {
     let mut low = 0xFFu8;
@@ -168,18 +178,32 @@ pub fn kind_of(s: &[u8], at: usize, n: usize) -> u8
 }
 
 // The same, where low is the least byte, turned, and top is the greatest one.
-fn kind_by(low: u8, top: u8) -> u8 {
+fn kind_by(low: u8, top: u8) -> Kind {
     if top < 0xE0 {
-        return 2;
+        return Kind::Two;
     }
     if 0x30 <= low {
-        return 4;
+        return Kind::Four;
     }
     if 0xF0 <= top {
-        return 6;
+        return Kind::Any;
     }
     if low < 0x20 {
-        return 5;
+        return Kind::Mixed;
     }
-    3
+    Kind::Three
+}
+
+// Whether each of the n bytes behind the three at `at` may stand where it does, found where they are of the kind. A test of one kind has no branch on it.
+pub fn passes_as(s: &[u8], at: usize, n: usize, kind: Kind) -> bool
+    requires { at + n + 3 ≤ length s.now }
+    ensures { result ≡ true → PlacedIn s.now at (at + n) }
+{
+    match kind {
+        Kind::Two => block_as(s, at, n, 2),
+        Kind::Three => block_as(s, at, n, 3),
+        Kind::Four => block_as(s, at, n, 4),
+        Kind::Mixed => block_as(s, at, n, 5),
+        Kind::Any => block_as(s, at, n, 6),
+    }
 }

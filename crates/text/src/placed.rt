@@ -1,9 +1,10 @@
 // Whether a text of some length is UTF-8, by tests of four bytes that follow each other: which may stand behind which three. No test needs another's answer,
 // so many are made at once, and bytes may be looked at twice. What is not found to be UTF-8 here is tested character by character.
-ghost use Rattle.std.specs.Prelude.{◌≡◌, true, ◌+◌, ◌-◌, ◌≤◌, ◌<◌, length};
+ghost use Rattle.std.specs.Prelude.{◌≡◌, true, ◌+◌, ◌-◌, ◌≤◌, ◌<◌, length, OnSome};
 ghost use Rattle.definition.specs.Utf8.{is_utf8};
 ghost use Rattle.text.specs.Placed.{is_tail, is_asked, is_asked_plain, Bounded, Placed, Unbound, Plain, PlacedIn, Ends};
 
+use crate::blocks::Kind;
 use crate::{blocks, encoding};
 
 // So many tests are made at once, where a text is short and where it is long.
@@ -19,13 +20,18 @@ const LARGE: usize = 4096;
 // So many bytes are looked at for the kind of a text.
 const LOOK: usize = 256;
 
-// The kinds of blocks are those of `blocks`, but 5 and 6 are kept for so many blocks, and say how many are left of them: from WIDE on 5, and behind it 6.
-const WIDE: u8 = 16;
-
-const ROUNDS: u8 = 16;
+// A kind of mixed lengths is kept for so many blocks behind the first.
+const ROUNDS: u8 = 15;
 
 // Three bytes before those that are tested.
 const BEFORE: usize = 3;
+
+// The kind that the next block is tested as, and for how many blocks behind it the kind is kept, if its lengths are mixed.
+#[derive(Clone, Copy)]
+struct Guess {
+    kind: Kind,
+    left: u8,
+}
 
 // Whether a byte continues a character.
 pub fn is_tail(x: u8) -> bool
@@ -164,94 +170,57 @@ fn ascii_256(s: &[u8], at: usize) -> bool
     ascii_many(s, at + 64) & ascii_many(s, at + 128) & ascii_many(s, at + 192)
 }
 
-// Whether each of n bytes may stand where it does, found where they are of the kind.
-fn passes_as(s: &[u8], at: usize, n: usize, kind: u8) -> bool
-    requires { at + n + 3 ≤ length s.now }
-    ensures { result ≡ true → PlacedIn s.now at (at + n) }
-{
-    if kind == 2 {
-        return blocks::block_as(s, at, n, 2);
-    }
-    if kind == 3 {
-        return blocks::block_as(s, at, n, 3);
-    }
-    if kind == 4 {
-        return blocks::block_as(s, at, n, 4);
-    }
-    if kind == 5 {
-        return blocks::block_as(s, at, n, 5);
-    }
-    blocks::block_as(s, at, n, 6)
+// A kind for the first time.
+fn first_of(kind: Kind) -> Guess {
+    Guess { kind, left: ROUNDS }
 }
 
 // The kind that n bytes look like.
-fn looks_like(s: &[u8], at: usize, n: usize) -> u8
+fn looks_like(s: &[u8], at: usize, n: usize) -> Guess
     requires { at + n ≤ length s.now }
 {
-    if LOOK < n {
-        return wide_kind(blocks::kind_of(s, at, LOOK));
-    }
-    wide_kind(blocks::kind_of(s, at, n))
+    first_of(blocks::kind_of(s, at, n.min(LOOK)))
 }
 
 // The kind that the next block is tested as, behind one of n bytes that passes as its kind: the same, and from time to time the kind that it looks like.
-fn kept_kind(s: &[u8], at: usize, n: usize, kind: u8) -> u8
+fn kept_kind(s: &[u8], at: usize, n: usize, guess: Guess) -> Guess
     requires { at + n ≤ length s.now }
 {
-    if kind < WIDE {
-        return kind;
+    match guess.kind {
+        Kind::Two | Kind::Three | Kind::Four => guess,
+        Kind::Mixed | Kind::Any => match guess.left.checked_sub(1) {
+            Some(left) => Guess {
+                kind: guess.kind,
+                left,
+            },
+            None => looks_like(s, at, n),
+        },
     }
-    if kind % ROUNDS == 0 {
-        return looks_like(s, at, n);
-    }
-    kind - 1
 }
 
 // The kind that the next block is tested as, behind one that does not pass as its kind: what it looks like, and where that is the same kind, any.
-fn next_kind(s: &[u8], at: usize, n: usize, kind: u8) -> u8
+fn next_kind(s: &[u8], at: usize, n: usize, kind: Kind) -> Guess
     requires { at + n ≤ length s.now }
 {
     let found = looks_like(s, at, n);
-    if kind_alone(found) != kind_alone(kind) {
+    if found.kind != kind {
         return found;
     }
-    wide_kind(6)
+    first_of(Kind::Any)
 }
 
-// Kinds 5 and 6 with the number of blocks that are tested so.
-fn wide_kind(kind: u8) -> u8 {
-    if kind < 5 {
-        return kind;
-    }
-    if kind == 5 {
-        return WIDE + ROUNDS - 1;
-    }
-    WIDE + ROUNDS + ROUNDS - 1
-}
-
-// The kind alone.
-fn kind_alone(kind: u8) -> u8 {
-    if kind < WIDE {
-        return kind;
-    }
-    if kind < WIDE + ROUNDS {
-        return 5;
-    }
-    6
-}
-
-// 0, unless each of n bytes may stand where it does: then the kind that the next block is tested as.
-fn passes_block(s: &[u8], at: usize, n: usize, kind: u8) -> u8
+// The kind that the next block is tested as, if each of n bytes may stand where it does.
+fn passes_block(s: &[u8], at: usize, n: usize, guess: Guess) -> Option<Guess>
     requires { at + n + 3 ≤ length s.now }
-    ensures { 0 < result → PlacedIn s.now at (at + n) }
+    ensures { OnSome result (PlacedIn s.now at (at + n)) }
 {
-    if passes_as(s, at, n, kind_alone(kind)) {
-        return kept_kind(s, at, n, kind);
+    if blocks::passes_as(s, at, n, guess.kind) {
+        return Some(kept_kind(s, at, n, guess));
     }
-    if !blocks::block_as(s, at, n, 6) {
-        return 0;
+    if !blocks::passes_as(s, at, n, Kind::Any) {
+        return None;
     }
-    next_kind(s, at, n, kind)
+    Some(next_kind(s, at, n, guess.kind))
 }
 
 // How many of the bytes that are left are tested next: 512 where the first 32 are ASCII, and else as many as a block may have, by 64.
@@ -268,22 +237,22 @@ fn step_at(s: &[u8], at: usize, left: usize) -> usize
     left / MANY * MANY
 }
 
-// 0, unless each of n bytes may stand where it does: then the kind that the next block is tested as. 512 bytes are first asked whether they are ASCII.
-fn passes_step(s: &[u8], at: usize, n: usize, kind: u8) -> u8
+// The kind that the next block is tested as, if each of n bytes may stand where it does. 512 bytes are first asked whether they are ASCII.
+fn passes_step(s: &[u8], at: usize, n: usize, guess: Guess) -> Option<Guess>
     requires { at + n + 3 ≤ length s.now }
-    ensures { 0 < result → PlacedIn s.now at (at + n) }
+    ensures { OnSome result (PlacedIn s.now at (at + n)) }
 {
     if n != MOST {
-        return passes_block(s, at, n, kind);
+        return passes_block(s, at, n, guess);
     }
     if ascii_most(s, at) {
-        return kind;
+        return Some(guess);
     }
-    passes_block(s, at, n, kind)
+    passes_block(s, at, n, guess)
 }
 
 // Whether each of the last bytes behind i, less than 512, may stand where it does: by the last 512, if they are ASCII, and else by as few as are left, by 64.
-fn passes_last(s: &[u8], i: usize, kind: u8) -> bool
+fn passes_last(s: &[u8], i: usize, guess: Guess) -> bool
     requires { (515 ≤ length s.now) × (i + 3 ≤ length s.now) × (length s.now < i + 515) }
     ensures { result ≡ true → PlacedIn s.now i (length s.now - 3) }
 {
@@ -292,7 +261,7 @@ fn passes_last(s: &[u8], i: usize, kind: u8) -> bool
         return true;
     }
     let n = (end - i + (MANY - 1)) / MANY * MANY;
-    passes_block(s, end - n, n, kind) != 0
+    passes_block(s, end - n, n, guess).is_some()
 }
 
 // Whether each byte behind the first three of a long text may stand where it does.
@@ -301,18 +270,18 @@ fn long(s: &[u8]) -> bool
     ensures { result ≡ true → PlacedIn s.now 0 (length s.now - 3) }
 {
     let end = s.len() - BEFORE;
-    let mut kind = looks_like(s, 0, end);
+    let mut guess = looks_like(s, 0, end);
     let mut i = 0;
     // A `while`: each step says how far it goes, so that there is no range to go over.
     while MOST <= end - i {
         let n = step_at(s, i, end - i);
-        kind = passes_step(s, i, n, kind);
-        if kind == 0 {
+        let Some(next) = passes_step(s, i, n, guess) else {
             return false;
-        }
+        };
+        guess = next;
         i += n;
     }
-    passes_last(s, i, kind)
+    passes_last(s, i, guess)
 }
 
 // Whether each of n bytes may stand where it does, where n is 16 or 64.

@@ -1,9 +1,9 @@
 -- `text::placed::passes_last` meets its contract: what is left is among the bytes that are tested.
 use native.Mathlib.Omega.{arith}
 use Prim.Native.Nat.{◌-◌}
+use mathlib.Core.Path.{sym, ◌∙◌}
 use lib.ListN.{length}
-use borrow.Author.Tests.{not-true, eqb-false}
-use Rattle.text.proofs.Along.{placed_part}
+use Rattle.text.proofs.Along.{placed_part, on_some}
 use Rattle.text.proofs.placed.passes_last.Goals as goal
 
 pub returns-then-ascii_most : goal.returns-then-ascii_most
@@ -12,5 +12,4 @@ returns-then-ascii_most c = λ _. placed_part c.args.s.now c.args.i (length c.ar
 pub returns : goal.returns
 returns c =
     λ z.
-    let k = eqb-false c.passes_block.result 0 (not-true _ z) in
-    placed_part c.args.s.now c.args.i (length c.args.s.now - 3) (c.passes_block.ensures (omega arith)) (omega (arith, c.requires.0, c.requires.1, c.requires.2)) (omega (arith, c.requires.0, c.requires.1, c.requires.2))
+    placed_part c.args.s.now c.args.i (length c.args.s.now - 3) (on_some c.passes_block.result _ c.passes_block.ensures (sym c.is_some.ensures ∙ z)) (omega (arith, c.requires.0, c.requires.1, c.requires.2)) (omega (arith, c.requires.0, c.requires.1, c.requires.2))

@@ -2,4 +2,4 @@
 use Rattle.text.proofs.placed.passes_step.Goals as goal
 
 pub returns-then-ascii_most : goal.returns-then-ascii_most
-returns-then-ascii_most c = λ _. rw c.if-n-ne-MOST.false (c.ascii_most.ensures c.if-ascii_most.true)
+returns-then-ascii_most c = rw c.if-n-ne-MOST.false (c.ascii_most.ensures c.if-ascii_most.true)
