@@ -165,13 +165,12 @@ fn ascii_words(s: &[u8]) -> bool
     requires { 8 ≤ length s.now }
     ensures { result ≡ true → every is_ascii s.now ≡ true }
 {
-    let last = s.len() - 8;
-    for k in 0..last.div_ceil(8) {
+    for k in 0..(s.len() - 1) / 8 {
         if !ascii8(s, 8 * k) {
             return false;
         }
     }
-    ascii8(s, last)
+    ascii8(s, s.len() - 8)
 }
 
 // Whether the 32 bytes of s from `at` on are ASCII.
@@ -187,13 +186,12 @@ fn ascii_blocks(s: &[u8]) -> bool
     requires { 32 ≤ length s.now }
     ensures { result ≡ true → every is_ascii s.now ≡ true }
 {
-    let last = s.len() - 32;
-    for k in 0..last.div_ceil(32) {
+    for k in 0..(s.len() - 1) / 32 {
         if !ascii32(s, 32 * k) {
             return false;
         }
     }
-    ascii32(s, last)
+    ascii32(s, s.len() - 32)
 }
 
 // The same, by the length.

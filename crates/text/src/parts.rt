@@ -65,12 +65,12 @@ fn same_words(a: &[u8], b: &[u8]) -> bool
     requires { (length a.now ≡ length b.now) × (8 ≤ length a.now) }
     ensures { result ≡ same_bytes a.now b.now }
 {
-    let last = a.len() - 8;
-    for k in 0..last.div_ceil(8) {
+    for k in 0..(a.len() - 1) / 8 {
         if bytes::word64(a, 8 * k) != bytes::word64(b, 8 * k) {
             return false;
         }
     }
+    let last = a.len() - 8;
     bytes::word64(a, last) == bytes::word64(b, last)
 }
 
