@@ -1,5 +1,5 @@
 // What a program reads: its input line by line, or its first bytes. A line ends at a line feed, or where the input ends; every other byte belongs to it.
-ghost use Rattle.std.specs.Prelude.{◌≤◌, IfOk, vec_len};
+ghost use Rattle.std.specs.Prelude.{◌≡◌, ◌+◌, ◌^◌, ◌≤◌, IfOk, vec_len};
 
 use std::alloc::Global;
 use std::io;
@@ -18,7 +18,9 @@ pub struct Lines<R> {
 }
 
 impl<R: Read + Drop> Lines<R> {
-    pub fn new(alloc: Global, reader: R, room: u32) -> io::Result<Self> {
+    pub fn new(alloc: Global, reader: R, room: u32) -> io::Result<Self>
+        ensures { IfOk result (λ lines. (lines.room ≡ room) × (lines.left + 1 ≡ 2 ^ 64)) }
+    {
         Ok(Lines {
             reader: BufReader::new(alloc, reader)?,
             alloc,
@@ -71,4 +73,31 @@ pub fn first(alloc: Global, reader: &mut impl Read, room: u32) -> io::Result<Vec
     // No more were read, which `read_to_end` does not say.
     bytes.truncate(room as usize);
     Ok(bytes)
+}
+
+#[cfg(test)]
+mod tests {
+    use super::*;
+    use std::test::Fail;
+
+    // A line that is longer than the room keeps one byte more; the input ends without a line feed.
+    #[test]
+    fn reads_lines_and_first_bytes(rt: HostRuntime) -> Result<(), Fail> {
+        let mut lines = Lines::new(rt.alloc(), b"ab\n\nabcdef\nxy".as_slice(), 3)?;
+        for want in [
+            b"ab".as_slice(),
+            b"".as_slice(),
+            b"abcd".as_slice(),
+            b"xy".as_slice(),
+        ] {
+            match lines.next() {
+                Some(line) => assert_eq!(rt; line?.as_slice(), want),
+                None => assert!(rt; false),
+            }
+        }
+        assert!(rt; lines.next().is_none());
+        let kept = first(rt.alloc(), &mut b"abcdef".as_slice(), 4)?;
+        assert_eq!(rt; kept.as_slice(), b"abcd".as_slice());
+        Ok(())
+    }
 }

@@ -1,5 +1,6 @@
 -- What the words of a line stand for.
-use Rattle.std.specs.Prelude.{ℕ, ◌+◌, ◌*◌, ◌-◌, ◌/◌, ◌%◌, ◌≤◌, ◌<◌, ◌≡◌, List, [], ◌∷◌, cond, ltb, leb, length, get_or, Option, None, Some}
+use Rattle.std.specs.Borrow.{Bor}
+use Rattle.std.specs.Prelude.{ℕ, ◌+◌, ◌++◌, ◌≢◌, All, ◌*◌, ◌-◌, ◌/◌, ◌%◌, ◌≤◌, ◌<◌, ◌≡◌, List, [], ◌∷◌, cond, ltb, leb, length, get_or, Option, None, Some}
 
 -- the value of a hexadecimal digit: 0-9, A-F, a-f; and 16 for every other byte
 abbrev pub digit_value : ℕ → ℕ
@@ -46,3 +47,26 @@ decimal n (b ∷ s) = decimal (10 * n + (b - 48)) s
 -- a number that was read is that of the word's digits
 abbrev pub NumberAs : List ℕ → ℕ → Type 0
 NumberAs s n = n ≡ decimal 0 s
+
+-- ---- the words of a line
+
+-- the bytes that are left of a line, if any word is
+abbrev pub left_of : Option (Bor (List ℕ)) → Option (List ℕ)
+left_of None = None
+left_of (Some rest) = Some rest.now
+
+-- a word has no blank; it is the last one, or a blank stands behind it, and what follows that is left
+abbrev pub CutAt : List ℕ → List ℕ → Option (List ℕ) → Type 0
+CutAt rest word None = All (λ b. b ≢ 32) word × (rest ≡ word)
+CutAt rest word (Some behind) = All (λ b. b ≢ 32) word × (rest ≡ word ++ (32 ∷ behind))
+
+-- the next word is cut off what is left of a line, where anything is
+abbrev pub TakesWord : Option (List ℕ) → Option (List ℕ) → Option (List ℕ) → Type 0
+TakesWord None word behind = (word ≡ None) × (behind ≡ None)
+TakesWord (Some rest) None behind = ⊥
+TakesWord (Some rest) (Some word) behind = CutAt rest word behind
+
+-- where a word was taken, it is as P says
+abbrev pub TakenAs : (List ℕ → Type 0) → Option (List ℕ) → Type 0
+TakenAs P None = ⊥
+TakenAs P (Some word) = P word

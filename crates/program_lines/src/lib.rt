@@ -6,7 +6,7 @@
 
 pub mod words;
 
-ghost use Rattle.std.specs.Prelude.{◌≡◌, ◌*◌, ◌<◌, ◌≤◌, length, IfOk};
+ghost use Rattle.std.specs.Prelude.{◌≡◌, ◌*◌, ◌<◌, ◌≤◌, length, IfOk, vec_len};
 ghost use Rattle.program_lines.specs.Words.{HasDigit, Pair, glyph as glyphOf, DecodedAs, Encoded, NumberAs};
 
 use std::alloc::{AllocFailed, Global};
@@ -54,7 +54,8 @@ fn pair(high: u8, low: u8) -> Result<u8, WordError>
 
 // The bytes of a hexadecimal word, if they are no more than `room`. An empty string is written as a dash.
 pub fn decode(alloc: Global, word: &[u8], room: usize) -> Result<Vec<u8>, WordError>
-    ensures { IfOk result (λ bytes. DecodedAs word.now bytes.items) }
+    ensures word { IfOk result (λ bytes. DecodedAs word.now bytes.items) }
+    ensures room { IfOk result (λ bytes. vec_len bytes ≤ room) }
 {
     let mut bytes = Vec::new(alloc);
     if word == b"-".as_slice() {
