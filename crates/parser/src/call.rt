@@ -54,6 +54,7 @@ pub fn more(s: &[u8], plan: &mut [u8], pool: &mut [u8], st: Cursor, sorts: usize
 {
     let mut now = st;
     let mut known = sorts;
+    // A loop and no `for`: how many arguments follow is known only where none does.
     loop {
         let here = now.at;
         let a = skip_blanks(s, here);

@@ -13,7 +13,7 @@ ghost use Rattle.parser_items.specs.Reads.{Asks, Post, LoosePost, no_flag, sort_
 ghost use Rattle.parser_follow.specs.Pieces.{spell_filter, write_filter, spell_negation, write_negation, spell_behind_of, write_behind_of, behind_of_sort, spell_side, write_side, spell_operand, write_operand, operand_flag, query_flag};
 
 use call::function;
-use parser_items::verdicts::{brackets_flag, comparable, compared, least, plain_sort, query_flag};
+use parser_items::verdicts::{brackets_flag, comparable, compared, plain_sort, query_flag};
 use parser_items::{
     Cursor, Step, begins_segment, item, judged, lowered, moved, not_tail, opened, test_tail,
     write_compare, write_dotted, write_keyword, write_literal, write_selector,
@@ -30,6 +30,7 @@ fn segments(s: &[u8], plan: &mut [u8], pool: &mut [u8], st: Cursor) -> Step
 {
     let mut now = st;
     let mut flag: usize = 2;
+    // A loop and no `for`: how many segments follow is known only where none does.
     loop {
         let here = now.at;
         let a = skip_blanks(s, here);
@@ -38,7 +39,7 @@ fn segments(s: &[u8], plan: &mut [u8], pool: &mut [u8], st: Cursor) -> Step
         }
         let (n, f) = segment(s, plan, pool, moved(now, a))?;
         now = n;
-        flag = least(flag, f);
+        flag = flag.min(f);
     }
 }
 
@@ -97,6 +98,7 @@ fn selectors(s: &[u8], plan: &mut [u8], pool: &mut [u8], st: Cursor) -> Step
 {
     let mut now = st;
     let mut count: usize = 0;
+    // A loop and no `for`: how many selectors follow is known only where none does.
     loop {
         let here = now.at;
         let a = skip_blanks(s, here);
@@ -158,6 +160,7 @@ fn more_or(s: &[u8], plan: &mut [u8], pool: &mut [u8], st: Cursor, sort: usize, 
 {
     let mut now = st;
     let mut kind = sort;
+    // A loop and no `for`: how many operands follow is known only where none does.
     loop {
         let here = now.at;
         let a = skip_blanks(s, here);
@@ -202,6 +205,7 @@ fn more_and(
 {
     let mut now = st;
     let mut kind = sort;
+    // A loop and no `for`: how many operands follow is known only where none does.
     loop {
         let here = now.at;
         let a = skip_blanks(s, here);

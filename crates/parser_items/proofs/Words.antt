@@ -1,6 +1,8 @@
 -- The literals that are words: true, false and null, each a function name that no character of such a name follows.
 -- Assumes nothing.
-use Rattle.std.specs.Prelude.{Ok, Err}
+use Rattle.parser_scan.specs.declared.Keyword as scanned
+use Rattle.parser_scan.specs.declared.Keyword.TheVariants as word
+use Rattle.std.specs.Prelude.{Ok, Err, Some}
 use mathlib.Core.Path.{◌≡◌, refl, sym, ap, subst, ◌∙◌}
 use mathlib.Core.Logic.{◌≢◌}
 use mathlib.Core.Bool.{true, cond}
@@ -14,7 +16,7 @@ use Rattle.definition.specs.Lexical.{FunctionName, function_bytes, spell_functio
 use Rattle.definition.specs.Utf8.{is_utf8}
 use Rattle.definition_bytes.specs.Same.{same_true}
 use Rattle.utf8_laws.specs.Bytes.{by_test}
-use Rattle.parser_scan.specs.Text.{WordAt, keyword_number}
+use Rattle.parser_scan.specs.Text.{WordAt, keyword_number, number_of_keyword}
 use Rattle.compile_writes.specs.Effects.{Effect, bytes}
 use Rattle.compile_writes.specs.Writes.{write_literal}
 use Rattle.parser_follow.specs.Leaves.{true_word, false_word, null_word}
@@ -73,6 +75,12 @@ found l h =
     by_test (same_bytes l (function_bytes (word_of false_word))) (λ t. (false_word, same_true l (function_bytes (word_of false_word)) t)) (λ g.
     by_test (same_bytes l (function_bytes (word_of null_word))) (λ t. (null_word, same_true l (function_bytes (word_of null_word)) t)) (λ k.
     absurd (h (rw (f, g, k))))))
+
+-- a word of the code has a number
+pub keyword_some : (k : scanned.Keyword) → number_of_keyword (Some k) ≢ 0
+keyword_some word.True e = omega arith
+keyword_some word.False e = omega arith
+keyword_some word.Null e = omega arith
 
 module _ {s : List ℕ} (a : Cursor) {e : ℕ} (w : WordAt s a.at e) where
   -- whatever word is read there has the number of the bytes that stand there

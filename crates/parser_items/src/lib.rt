@@ -7,9 +7,9 @@ mod ranges;
 mod texts;
 pub mod verdicts;
 
-ghost use Rattle.std.specs.Prelude.{◌≡◌, true, false, List, [], ◌∷◌, ℕ, ◌+◌, ◌≤◌, ◌<◌, length, drop};
+ghost use Rattle.std.specs.Prelude.{◌≡◌, true, false, List, [], ◌∷◌, ℕ, ◌+◌, ◌≤◌, ◌<◌, length, drop, Some};
 ghost use Rattle.definition.specs.Utf8.{is_utf8};
-ghost use Rattle.parser_scan.specs.Text.{Has, WordAt};
+ghost use Rattle.parser_scan.specs.Text.{Has, WordAt, number_of_keyword};
 ghost use Rattle.compile_writes.specs.Effects.{join_marks, first};
 ghost use Rattle.compile_writes.specs.Sorts.{value_verdict, compared_verdict};
 ghost use Rattle.compile_writes.specs.Writes.{test_tail, not_tail, call_bytes};
@@ -18,7 +18,7 @@ ghost use Rattle.parser_items.specs.Reads.{Asks, Post, LoosePost, Put, PutMarked
 
 use constants::put_numeral;
 use number_parse::parse_number;
-use parser_scan::{is, keyword_at, read_name, read_operator};
+use parser_scan::{Keyword, is, keyword_at, read_name, read_operator};
 use plan_format::{kinds, words};
 use ranges::write_range;
 use text::bytes::put16;
@@ -50,12 +50,7 @@ pub fn moved(st: Cursor, at: usize) -> Cursor
     ensures lengths { (result.len ≡ st.len) × (result.pool ≡ st.pool) }
     ensures marks { result.marks ≡ st.marks }
 {
-    Cursor {
-        at,
-        len: st.len,
-        pool: st.pool,
-        marks: st.marks,
-    }
+    Cursor { at, ..st }
 }
 
 // The cursor with other marks.
@@ -63,12 +58,7 @@ pub fn marked(st: Cursor, marks: usize) -> Cursor
     ensures place { (result.at ≡ st.at) × (result.len ≡ st.len) × (result.pool ≡ st.pool) }
     ensures marks { result.marks ≡ marks }
 {
-    Cursor {
-        at: st.at,
-        len: st.len,
-        pool: st.pool,
-        marks,
-    }
+    Cursor { marks, ..st }
 }
 
 // The cursor with a verdict of the walk, which stands if it is the first.
@@ -92,12 +82,7 @@ pub fn item(plan: &mut [u8], st: Cursor, x: u8) -> Cursor
 {
     let len = st.len;
     plan[len] = x;
-    Cursor {
-        at: st.at,
-        len: len + 1,
-        pool: st.pool,
-        marks: st.marks,
-    }
+    Cursor { len: len + 1, ..st }
 }
 
 // A kind with two bytes behind it that are set later.
@@ -175,10 +160,7 @@ pub fn begins_segment(s: &[u8], at: usize) -> bool
     requires { at ≤ length s.now }
     ensures { Has is_segment_byte s.now at result }
 {
-    if is(s, at, b'.') {
-        return true;
-    }
-    is(s, at, b'[')
+    is(s, at, b'.') || is(s, at, b'[')
 }
 
 // Whether a comparison-op stands at `at`.
@@ -221,10 +203,9 @@ fn pooled(plan: &mut [u8], st: Cursor, kind: u8, n: usize) -> Cursor
     put16(plan, len + 1, start);
     put16(plan, len + 3, n);
     Cursor {
-        at: st.at,
         len: len + 5,
         pool: start + n,
-        marks: st.marks,
+        ..st
     }
 }
 
@@ -247,17 +228,15 @@ pub fn write_dotted(s: &[u8], plan: &mut [u8], pool: &mut [u8], st: Cursor, kind
     Ok((moved(b, e), 2))
 }
 
-// The byte of a literal that is a word, by the word's number.
-fn word_byte(k: u8) -> u8
-    ensures { result ≡ word_byte k }
+// The byte of a literal that is a word.
+fn word_byte(k: Keyword) -> u8
+    ensures { result ≡ word_byte (number_of_keyword (Some k)) }
 {
-    if k == 1 {
-        return words::TRUE;
+    match k {
+        Keyword::True => words::TRUE,
+        Keyword::False => words::FALSE,
+        Keyword::Null => words::NULL,
     }
-    if k == 2 {
-        return words::FALSE;
-    }
-    words::NULL
 }
 
 // The word from the cursor's place to `end`, if it is true, false or null. No pool is touched.
@@ -268,10 +247,9 @@ pub fn write_keyword(s: &[u8], plan: &mut [u8], st: Cursor, end: usize) -> Step
     ensures { (L : List ℕ) → Post spell_keyword write_keyword no_flag 1 s.now plan.old plan.new L L st result }
 {
     let at = st.at;
-    let k = keyword_at(s, at, end);
-    if k == 0 {
+    let Some(k) = keyword_at(s, at, end) else {
         return Err(at);
-    }
+    };
     let a = item(plan, st, kinds::CONSTANT);
     let b = item(plan, a, word_byte(k));
     Ok((moved(b, end), 0))

@@ -116,12 +116,7 @@ pub fn eight(plan: &mut [u8], st: Cursor, n: u64) -> Cursor
 {
     let len = st.len;
     put64(plan, len, n);
-    Cursor {
-        at: st.at,
-        len: len + 8,
-        pool: st.pool,
-        marks: st.marks,
-    }
+    Cursor { len: len + 8, ..st }
 }
 
 // A bit of a slice's flags.

@@ -1,5 +1,6 @@
 // Verdicts of the walk on expressions and calls, by their sorts, and the numbers that readers hand on: sorts, flags of operands and of brackets.
-ghost use Rattle.std.specs.Prelude.{◌≡◌, ◌≤◌, min};
+// Verdicts are numbers, 0 for none, since a cursor's marks hold the number (docs/DECISIONS.md, 107: a cursor is four words).
+ghost use Rattle.std.specs.Prelude.{◌≡◌, ◌≤◌};
 ghost use Rattle.compile_writes.specs.Sorts.{value_verdict, nodes_verdict, compared_verdict, call_verdict, named_sort};
 ghost use Rattle.parser_items.specs.Reads.{Known, sort_of, sort_number, name_of, one_more_lem, sorts_from, is_comparable, flag_of_path, brackets_number};
 
@@ -119,20 +120,14 @@ pub fn plain_sort(flag: usize) -> usize
     requires { Known flag }
     ensures { (result ≡ sort_number (sort_of flag)) × (result ≤ 4) }
 {
-    if flag == 5 {
-        return 1;
-    }
-    flag
+    if flag == 5 { 1 } else { flag }
 }
 
 // Whether an operand with the given flag may be compared.
 pub fn comparable(flag: usize) -> bool
     ensures { result ≡ is_comparable flag }
 {
-    if flag == 1 {
-        return false;
-    }
-    flag != 2
+    flag != 1 && flag != 2
 }
 
 // The flag of an operand that is a query, from what is told of its segments: 2 tight, 1 singular, 0 neither.
@@ -140,33 +135,19 @@ pub fn query_flag(f: usize) -> usize
     requires { f ≤ 2 }
     ensures { result ≡ flag_of_path f }
 {
-    if f == 2 {
-        return 5;
+    match f {
+        2 => 5,
+        1 => 1,
+        _ => 2,
     }
-    if f == 1 {
-        return 1;
-    }
-    2
-}
-
-pub fn least(a: usize, b: usize) -> usize
-    ensures { result ≡ min a b }
-{
-    if a < b { a } else { b }
 }
 
 // What is told of a bracketed selection, from its first selector, the number of further ones and the absence of blanks.
 pub fn brackets_flag(plain: usize, count: usize, before: bool, after: bool) -> usize
     ensures { result ≡ brackets_number plain count before after }
 {
-    if plain != 1 {
+    if plain != 1 || count != 0 {
         return 0;
     }
-    if count != 0 {
-        return 0;
-    }
-    if !before {
-        return 1;
-    }
-    if after { 2 } else { 1 }
+    if before && after { 2 } else { 1 }
 }

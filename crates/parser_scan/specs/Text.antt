@@ -1,5 +1,5 @@
 -- What the scanner's contracts say: a byte at a place, blanks skipped, names, words and operators read both ways.
-use Rattle.std.specs.Prelude.{◌≡◌, Bool, true, false, cond, List, [], ◌∷◌, ℕ, ◌+◌, ◌-◌, ◌≤◌, eqb, length, drop, Option, Some, None, Result, Ok, Err}
+use Rattle.std.specs.Prelude.{◌≡◌, Bool, true, false, cond, List, [], ◌∷◌, ℕ, ◌+◌, ◌-◌, ◌≤◌, ◌<◌, eqb, length, drop, Option, Some, None, Result, Ok, Err}
 use Rattle.definition.specs.Bytes.{part, same_bytes}
 use Rattle.definition.specs.Utf8.{is_utf8}
 use Rattle.definition.specs.Lexical.{is_function_char, Name, FunctionName, name_bytes, function_bytes, spell_name, spell_function_name}
@@ -10,6 +10,8 @@ use Rattle.definition.specs.Walk.Named.{count, value_name, match, search, unknow
 use Rattle.basics.specs.Reads.{Reads, ReadsNone, StartsNot}
 use Rattle.utf8_laws.specs.Scan.{front, behind}
 use Rattle.parser_follow.specs.Numbers.{operator_number}
+use Rattle.parser_scan.specs.declared.Keyword.{Keyword}
+use Rattle.parser_scan.specs.declared.Keyword.TheVariants.{True, False, Null}
 pub use Rattle.parser_follow.specs.Follow.{hd, unblank, is_name_byte}
 
 -- the byte x stands at the place a, or it does not
@@ -39,6 +41,10 @@ pub record Run (p : ℕ → Bool) (s : List ℕ) (a r : ℕ) : Type 0 where
   pub to : r ≤ length s
   pub rest : drop r s ≡ behind p (drop a s)
   pub bytes : part s a (r - a) ≡ front p (drop a s)
+
+-- the answers of a test of the code are those of p
+abbrev pub Tests : (ℕ → Bool → Type 0) → (ℕ → Bool) → Type 0
+Tests post p = (c : ℕ) (b : Bool) → c < 256 → post c b → b ≡ p c
 
 -- a name of the grammar, with all its characters
 pub record NameAt (s : List ℕ) (a r : ℕ) : Type 0 where
@@ -94,3 +100,10 @@ keyword_number s =
     cond (same_bytes s (0x74 ∷ 0x72 ∷ 0x75 ∷ 0x65 ∷ [])) 1
     (cond (same_bytes s (0x66 ∷ 0x61 ∷ 0x6C ∷ 0x73 ∷ 0x65 ∷ [])) 2
     (cond (same_bytes s (0x6E ∷ 0x75 ∷ 0x6C ∷ 0x6C ∷ [])) 3 0))
+
+-- the number of a literal that is a word in the code, 0 for none
+abbrev pub number_of_keyword : Option Keyword → ℕ
+number_of_keyword None = 0
+number_of_keyword (Some True) = 1
+number_of_keyword (Some False) = 2
+number_of_keyword (Some Null) = 3

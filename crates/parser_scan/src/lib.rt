@@ -2,88 +2,80 @@
 
 #![tactic(auto)]
 
-ghost use Rattle.std.specs.Prelude.{◌≡◌, true, ◌≤◌, ◌-◌, length, drop};
+ghost use Rattle.std.specs.Prelude.{◌≡◌, Bool, true, ℕ, ◌≤◌, ◌-◌, length, drop};
 ghost use Rattle.definition.specs.Bytes.{part, within};
 ghost use Rattle.definition.specs.Utf8.{is_utf8};
 ghost use Rattle.definition.specs.Lexical.{is_blank, is_function_char};
 ghost use Rattle.definition.specs.Walk.{named};
-ghost use Rattle.parser_scan.specs.Text.{is_name_byte, Is, Both, Run, Skipped, ReadsName, ReadsWord, ReadsOperator, named_number, keyword_number};
+ghost use Rattle.parser_scan.specs.Text.{is_name_byte, Is, Both, Run, Skipped, Tests, ReadsName, ReadsWord, ReadsOperator, named_number, keyword_number, number_of_keyword};
 
 use plan_format::operators;
 use text::parts::same_bytes;
+
+// The literals that are words.
+#[derive(Clone, Copy)]
+pub enum Keyword {
+    True,
+    False,
+    Null,
+}
 
 pub fn is(s: &[u8], at: usize, x: u8) -> bool
     requires { at ≤ length s.now }
     ensures { Is s.now at x result }
 {
-    if at < s.len() { s[at] == x } else { false }
+    at < s.len() && s[at] == x
 }
 
 pub fn both(s: &[u8], at: usize, x: u8, y: u8) -> bool
     requires { at ≤ length s.now }
     ensures { Both s.now at x y result }
 {
-    if is(s, at, x) {
-        is(s, at + 1, y)
-    } else {
-        false
-    }
+    is(s, at, x) && is(s, at + 1, y)
 }
 
 pub fn is_blank(c: u8) -> bool
     ensures { result ≡ is_blank c }
 {
-    if c == b' ' {
-        return true;
+    matches!(c, b' ' | b'\t' | b'\n' | b'\r')
+}
+
+// The end of the bytes that pass a test and stand from `at` on.
+fn run_end<F: Fn(u8) -> bool>(s: &[u8], at: usize, test: F) -> usize
+    requires place { at ≤ length s.now }
+    requires callable { F.IsAlwaysCallable test }
+    ensures { (p : ℕ → Bool) → Tests (F.post test) p → Run p s.now at result }
+{
+    for i in at..s.len() {
+        if !test(s[i]) {
+            return i;
+        }
     }
-    if c == b'\t' {
-        return true;
-    }
-    if c == b'\n' {
-        return true;
-    }
-    c == b'\r'
+    s.len()
 }
 
 pub fn skip_blanks(s: &[u8], at: usize) -> usize
     requires { at ≤ length s.now }
     ensures { Skipped s.now at result }
 {
-    let mut i = at;
-    while i < s.len() {
-        let c = s[i];
-        if is_blank(c) {
-            i += 1;
-        } else {
-            return i;
-        }
-    }
-    i
+    run_end(s, at, is_blank)
 }
 
 // Whether a byte lies between two bounds.
 fn between(lo: u8, hi: u8, c: u8) -> bool
     ensures { result ≡ within lo hi c }
 {
-    if lo <= c { c <= hi } else { false }
+    lo <= c && c <= hi
 }
 
 pub fn is_name_byte(c: u8) -> bool
     ensures { result ≡ is_name_byte c }
 {
-    if between(b'a', b'z', c) {
-        return true;
-    }
-    if between(b'A', b'Z', c) {
-        return true;
-    }
-    if between(b'0', b'9', c) {
-        return true;
-    }
-    if c == b'_' {
-        return true;
-    }
-    128 <= c
+    between(b'a', b'z', c)
+        || between(b'A', b'Z', c)
+        || between(b'0', b'9', c)
+        || c == b'_'
+        || 128 <= c
 }
 
 // The end of the name bytes that stand from `at` on.
@@ -91,16 +83,7 @@ fn name_end(s: &[u8], at: usize) -> usize
     requires { at ≤ length s.now }
     ensures { Run is_name_byte s.now at result }
 {
-    let mut i = at;
-    while i < s.len() {
-        let c = s[i];
-        if is_name_byte(c) {
-            i += 1;
-        } else {
-            return i;
-        }
-    }
-    i
+    run_end(s, at, is_name_byte)
 }
 
 // A member-name-shorthand at `at`, with all its characters: the place behind it, or the place where it goes wrong.
@@ -124,13 +107,7 @@ pub fn read_name(s: &[u8], at: usize) -> Result<usize, usize>
 pub fn is_word_byte(c: u8) -> bool
     ensures { result ≡ is_function_char c }
 {
-    if between(b'a', b'z', c) {
-        return true;
-    }
-    if c == b'_' {
-        return true;
-    }
-    between(b'0', b'9', c)
+    between(b'a', b'z', c) || c == b'_' || between(b'0', b'9', c)
 }
 
 // The end of the characters of a function-name that stand from `at` on.
@@ -138,16 +115,7 @@ fn word_end(s: &[u8], at: usize) -> usize
     requires { at ≤ length s.now }
     ensures { Run is_function_char s.now at result }
 {
-    let mut i = at;
-    while i < s.len() {
-        let c = s[i];
-        if is_word_byte(c) {
-            i += 1;
-        } else {
-            return i;
-        }
-    }
-    i
+    run_end(s, at, is_word_byte)
 }
 
 // A function-name at `at`, with all its characters: the place behind it, or the place where it goes wrong.
@@ -189,21 +157,21 @@ pub fn named_at(s: &[u8], at: usize, end: usize) -> u8
 }
 
 // Which literal the word from `at` to `end` is, if any.
-pub fn keyword_at(s: &[u8], at: usize, end: usize) -> u8
+pub fn keyword_at(s: &[u8], at: usize, end: usize) -> Option<Keyword>
     requires { (at ≤ end) × (end ≤ length s.now) }
-    ensures { result ≡ keyword_number (part s.now at (end - at)) }
+    ensures { number_of_keyword result ≡ keyword_number (part s.now at (end - at)) }
 {
     let w = &s[at..end];
     if same_bytes(w, b"true") {
-        return 1;
+        return Some(Keyword::True);
     }
     if same_bytes(w, b"false") {
-        return 2;
+        return Some(Keyword::False);
     }
     if same_bytes(w, b"null") {
-        return 3;
+        return Some(Keyword::Null);
     }
-    0
+    None
 }
 
 // A comparison-op at `at`: the place behind it and its byte in a plan.

@@ -834,7 +834,7 @@ segments-loop-now-smaller t c = let h = segment_long (read_of c.segment.ensures 
 
 -- segments
 pub segments-loop-now-preserved : goal.segments-loop-now-preserved
-segments-loop-now-preserved t c = segments_again c.loop-now.invariant c.skip_blanks-a.ensures (rw (not-false c.begins_segment.result (ap not c.if-not-begins_segment.false)) at c.begins_segment.ensures) (c.moved.ensures.place, (c.moved.ensures.lengths, c.moved.ensures.marks)) (read_of c.segment.ensures c.in_ok-n.was) c.least-flag.ensures
+segments-loop-now-preserved t c = segments_again c.loop-now.invariant c.skip_blanks-a.ensures (rw (not-false c.begins_segment.result (ap not c.if-not-begins_segment.false)) at c.begins_segment.ensures) (c.moved.ensures.place, (c.moved.ensures.lengths, c.moved.ensures.marks)) (read_of c.segment.ensures c.in_ok-n.was) c.min-flag.ensures
 
 -- selector
 pub selector-filter-requires : goal.selector-filter-requires
