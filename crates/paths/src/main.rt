@@ -7,7 +7,7 @@
 
 use program_console::input::Lines;
 use program_console::output;
-use refusals::RunNumbers;
+use select::SelectRefusal;
 use std::io;
 
 // The most bytes that a query may have. Of a longer line one byte more is taken, and the query is refused by its length all the same.
@@ -16,14 +16,20 @@ const QUERY_ROOM: u32 = 4096;
 const PLACES: usize = 4096;
 
 // Writes what a query came to.
-fn show(rt: &impl Print, outcome: RunNumbers, list: &[u32]) -> io::Result<()> {
-    if outcome.refusal == 0 {
-        output::text(rt, b"ok")?;
-        output::next_number(rt, outcome.count)?;
-        output::nodes(rt, list, outcome.count)?;
-    } else {
-        output::text(rt, b"refused")?;
-        output::next_number(rt, outcome.refusal as usize)?;
+fn show(
+    rt: &impl Print,
+    selection: Result<usize, SelectRefusal>,
+    list: &[u32],
+) -> io::Result<()> {
+    match selection {
+        Ok(count) => {
+            print!(rt; "ok {count}")?;
+            output::nodes(rt, list, count)?;
+        }
+        Err(refusal) => {
+            let number = refusals::select_number(refusal);
+            print!(rt; "refused {number}")?;
+        }
     }
     output::newline(rt)
 }
@@ -42,7 +48,7 @@ fn answer(rt: &impl Print, query: &[u8]) -> io::Result<()> {
     let text = b"ab\xc3\xa9";
     let mut list = [0u32; PLACES];
     let selection = select::select(query, table, text, &mut list, 0);
-    show(rt, refusals::of_select(selection), &list)
+    show(rt, selection, &list)
 }
 
 // Answers every line.

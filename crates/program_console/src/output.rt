@@ -32,6 +32,7 @@ pub fn nodes(rt: &impl Print, list: &[u32], n: usize) -> io::Result<()> {
 }
 
 // A byte string in hexadecimal, or a dash if it is empty. Of more than 65,536 bytes three dots are written.
+// The digits stand in an array and not in a Vec: what prints has no allocator, and one write takes them all.
 pub fn bytes(rt: &impl Print, s: &[u8]) -> io::Result<()> {
     if s.is_empty() {
         return text(rt, b"-");

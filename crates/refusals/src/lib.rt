@@ -1,4 +1,5 @@
 // The numbers that document 01 gives each answer. Fields that a refusal's row does not name are 0.
+// A refusal is a number here, 0 for none, and not an Option: these are the fields that exports hands to C (include/stewpebble.h).
 
 #![tactic(auto)]
 
@@ -90,7 +91,7 @@ fn run_node(refusal: RunRefusal) -> usize
 }
 
 // The number of a selection's refusal.
-fn select_number(refusal: SelectRefusal) -> u8
+pub fn select_number(refusal: SelectRefusal) -> u8
     ensures { result ≡ number_of_select refusal }
 {
     match refusal {

@@ -2,7 +2,6 @@
 use program_console::output;
 use program_lines::words::Words;
 use program_lines::{WordError, words};
-use refusals::RunNumbers;
 use std::alloc::{AllocError, Global};
 use std::io;
 
@@ -119,14 +118,14 @@ pub fn run(rt: &impl Print, alloc: Global, line: &[u8]) -> io::Result<Verdict> {
 fn judge(rt: &impl Print, name: &[u8], example: &Example) -> io::Result<Verdict> {
     let mut list = [0u32; PLACES];
     let selection = select::select(&example.query, &example.table, &example.text, &mut list, 0);
-    let outcome = refusals::of_select(selection);
-    if !fits(&example.here, outcome, &list) {
-        show_wrong(rt, name, outcome, &list)?;
+    let answer = selection.map_err(refusals::select_number);
+    if !fits(&example.here, answer, &list) {
+        show_wrong(rt, name, answer, &list)?;
         return Ok(Verdict::Wrong);
     }
     output::text(rt, b"ok ")?;
     output::text(rt, name)?;
-    if fits(&example.rfc, outcome, &list) {
+    if fits(&example.rfc, answer, &list) {
         output::newline(rt)?;
         return Ok(Verdict::Same);
     }
@@ -135,44 +134,47 @@ fn judge(rt: &impl Print, name: &[u8], example: &Example) -> io::Result<Verdict>
 }
 
 // Writes what came and is not wanted.
-fn show_wrong(rt: &impl Print, name: &[u8], outcome: RunNumbers, list: &[u32]) -> io::Result<()> {
+fn show_wrong(
+    rt: &impl Print,
+    name: &[u8],
+    answer: Result<usize, u8>,
+    list: &[u32],
+) -> io::Result<()> {
     output::text(rt, b"wrong ")?;
     output::text(rt, name)?;
-    if outcome.refusal == 0 {
-        output::text(rt, b": ok")?;
-        output::next_number(rt, outcome.count)?;
-        output::nodes(rt, list, outcome.count)?;
-    } else {
-        output::text(rt, b": refused")?;
-        output::next_number(rt, outcome.refusal as usize)?;
+    match answer {
+        Ok(count) => {
+            print!(rt; ": ok {count}")?;
+            output::nodes(rt, list, count)?;
+        }
+        Err(number) => print!(rt; ": refused {number}")?,
     }
     output::newline(rt)
 }
 
-// Whether what came is the answer that is wanted.
-fn fits(wanted: &Wanted, outcome: RunNumbers, list: &[u32]) -> bool {
+// Whether what came, so many nodes or a refusal's number, is the answer that is wanted.
+fn fits(wanted: &Wanted, answer: Result<usize, u8>, list: &[u32]) -> bool {
     match wanted {
-        Wanted::List(nodes) => match selected(outcome, list) {
+        Wanted::List(nodes) => match selected(answer, list) {
             Some(listed) => listed == nodes.as_slice(),
             None => false,
         },
-        Wanted::Members(nodes) => match selected(outcome, list) {
+        Wanted::Members(nodes) => match selected(answer, list) {
             Some(listed) => same_in_any_order(nodes, listed),
             None => false,
         },
-        Wanted::Accepted => outcome.refusal == 0,
-        Wanted::Refused(Some(number)) => *number == outcome.refusal,
-        Wanted::Refused(None) => outcome.refusal != 0,
+        Wanted::Accepted => answer.is_ok(),
+        Wanted::Refused(Some(number)) => *number == answer.err().unwrap_or(0),
+        Wanted::Refused(None) => answer.is_err(),
         Wanted::Unknown => false,
     }
 }
 
 // The nodes that were selected, if all of them have a place.
-fn selected(outcome: RunNumbers, list: &[u32]) -> Option<&[u32]> {
-    if outcome.refusal == 0 {
-        list.get(..outcome.count)
-    } else {
-        None
+fn selected(answer: Result<usize, u8>, list: &[u32]) -> Option<&[u32]> {
+    match answer {
+        Ok(count) => list.get(..count),
+        Err(_) => None,
     }
 }
 

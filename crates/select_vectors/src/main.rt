@@ -15,7 +15,6 @@ use program_console::input::Lines;
 use program_console::output;
 use program_lines::WordError;
 use program_lines::words::Words;
-use refusals::RunNumbers;
 use std::alloc::Global;
 use std::io;
 
@@ -57,19 +56,22 @@ fn same_nodes(mut words: Words, list: &[u32], n: usize) -> bool {
     n <= list.len() && words.rest().is_none()
 }
 
-// Whether what came is the answer behind the row, which the words begin with.
-fn fits(mut words: Words, outcome: RunNumbers, list: &[u32]) -> bool {
+// Whether what came, so many nodes or a refusal's number, is the answer behind the row, which the words begin with.
+fn fits(mut words: Words, answer: Result<usize, u8>, list: &[u32]) -> bool {
     words.next_word();
-    words.number() == Ok(outcome.refusal as usize) && same_nodes(words, list, outcome.count)
+    match answer {
+        Ok(count) => words.number() == Ok(0) && same_nodes(words, list, count),
+        Err(number) => words.number() == Ok(number as usize) && words.rest().is_none(),
+    }
 }
 
-fn show(rt: &impl Print, outcome: RunNumbers, list: &[u32]) -> io::Result<()> {
-    if outcome.refusal == 0 {
-        output::text(rt, b"ok")?;
-        output::nodes(rt, list, outcome.count)
-    } else {
-        output::text(rt, b"refused")?;
-        output::next_number(rt, outcome.refusal as usize)
+fn show(rt: &impl Print, answer: Result<usize, u8>, list: &[u32]) -> io::Result<()> {
+    match answer {
+        Ok(count) => {
+            output::text(rt, b"ok")?;
+            output::nodes(rt, list, count)
+        }
+        Err(number) => print!(rt; "refused {number}"),
     }
 }
 
@@ -77,9 +79,9 @@ fn show(rt: &impl Print, outcome: RunNumbers, list: &[u32]) -> io::Result<()> {
 fn judge(rt: &impl Print, case: &Case, words: Words) -> io::Result<bool> {
     let mut list = [NOT_SET; PLACES];
     let selection = select::select(&case.query, &case.table, &case.text, &mut list, 0);
-    let outcome = refusals::of_select(selection);
-    let same = fits(words, outcome, &list);
-    show(rt, outcome, &list)?;
+    let answer = selection.map_err(refusals::select_number);
+    let same = fits(words, answer, &list);
+    show(rt, answer, &list)?;
     if same {
         output::newline(rt)?;
     } else {
