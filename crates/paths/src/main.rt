@@ -16,11 +16,7 @@ const QUERY_ROOM: u32 = 4096;
 const PLACES: usize = 4096;
 
 // Writes what a query came to.
-fn show(
-    rt: &impl Print,
-    selection: Result<usize, SelectRefusal>,
-    list: &[u32],
-) -> io::Result<()> {
+fn show(rt: &impl Print, selection: Result<usize, SelectRefusal>, list: &[u32]) -> io::Result<()> {
     match selection {
         Ok(count) => {
             print!(rt; "ok {count}")?;
