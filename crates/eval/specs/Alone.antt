@@ -1,8 +1,8 @@
 -- A child segment of one selector, told by its first four bytes: what is asked of the selector, and that what it gives is what the segment gives. P is the plan, L
 -- the pool, S the table, X the text; v is what is lent. Assumes nothing.
-use Rattle.std.specs.Prelude.{ℕ, ◌+◌, ◌*◌, ◌≤◌, ◌<◌, ◌≡◌, List, [], length, get_or}
+use Rattle.std.specs.Prelude.{ℕ, ◌+◌, ◌*◌, ◌≤◌, ◌<◌, ◌≡◌, List, length, get_or}
 use Rattle.std.proofs.Common.{arith}
-use Rattle.std.specs.Borrow.{Bor, MutBor}
+use Rattle.std.specs.Borrow.{MutBor}
 use Rattle.definition.specs.Limits.{max_plan}
 use Rattle.definition.specs.Forms.Selectors.{one}
 use Rattle.definition.specs.Plans.{code_selector}
@@ -14,6 +14,8 @@ use Rattle.eval_front.specs.Visits.{Query, Head}
 use Rattle.eval_front.specs.Fronts.{Single, single}
 use Rattle.eval_front.specs.Heads.{head_read}
 use Rattle.eval_front.specs.Stands.{segments_at}
+use Rattle.eval_asks.specs.declared.Lent.{Lent}
+use Rattle.eval_asks.specs.declared.State.{State as Numbers}
 use Rattle.eval_asks.specs.Lent.{plan_of, pool_of}
 use Rattle.eval_asks.specs.Asks.{AskEnter, Entered, Steady, AskSelector, DoneSelector, Selects}
 use Rattle.eval_asks.specs.Steady.{gives_as}
@@ -22,7 +24,7 @@ use Rattle.eval_asks.specs.Steady.{gives_as}
 pub query_bound : {P L : List ℕ} {pc : ℕ} → length P ≤ max_plan → (x : Query P L pc) → (get_or P pc 0 ≡ 0x0A → ⊥) → pc + 4 ≤ length P
 query_bound {P} {L} {pc} few x n = omega (arith, (parts P L few pc x.k x.f x.at n).bound)
 
-module _ {v : List (Bor (List ℕ))} {node pc : ℕ} {s l : List ℕ} (a : AskEnter v node pc s l) where
+module _ {v : Lent} {node pc : ℕ} {s : Numbers} {l : List ℕ} (a : AskEnter v node pc s l) where
   pub enter_bound : pc + 4 ≤ length (plan_of v)
   enter_bound = query_bound a.asked.given.few_p a.segment.query a.going
 
@@ -47,7 +49,7 @@ module _ {v : List (Bor (List ℕ))} {node pc : ℕ} {s l : List ℕ} (a : AskEn
       pub enter_selector : AskSelector v node (pc + 3) rest
       enter_selector = record { node_in = a.segment.node_in; selects = selects_at a.segment.query }
 
-      pub enter_done : {l₀ : MutBor (List ℕ)} {s' : List ℕ} {l' : MutBor (List ℕ)} → Steady s l₀ s' l' → DoneSelector v node (pc + 3) rest s l₀.now s' l'.now → Entered v node pc s l₀ s' l'
+      pub enter_done : {l₀ : MutBor (List ℕ)} {s' : Numbers} {l' : MutBor (List ℕ)} → Steady s l₀ s' l' → DoneSelector v node (pc + 3) rest s l₀.now s' l'.now → Entered v node pc s l₀ s' l'
       unfolding eval_selectors selects_at
       enter_done k d =
           record {

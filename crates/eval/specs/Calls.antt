@@ -1,9 +1,9 @@
 -- From what a function of evaluation has at hand to what the next one asks, and from what that one gives to what was asked; the invariants of the loops, and their
 -- turns. P is the plan, L the pool, S the table, X the text; v is what is lent. Assumes nothing.
-use Rattle.std.specs.Prelude.{ℕ, ◌+◌, ◌-◌, ◌≤◌, ◌<◌, ◌≡◌, refl, List, [], Bool as Bits, true, false, ltb, get_or, set}
-use Rattle.std.proofs.Common.{sym, ap, ◌∙◌, subst, arith, ltb-true, ltb-false}
+use Rattle.std.specs.Prelude.{ℕ, ◌+◌, ◌-◌, ◌≤◌, ◌<◌, ◌≡◌, refl, List, true, false, get_or}
+use Rattle.std.proofs.Common.{sym, ap, ◌∙◌, subst, arith}
 use Rattle.std.proofs.Math.ListN.{length}
-use Rattle.std.specs.Borrow.{Bor, MutBor}
+use Rattle.std.specs.Borrow.{MutBor}
 use Rattle.definition.specs.Limits.{max_plan}
 use Rattle.definition.specs.Values.{Json}
 use Rattle.definition.specs.Forms.{Segments, Selectors}
@@ -24,9 +24,11 @@ use Rattle.eval_front.specs.Overs.{over_step, over_end, over_full, over_passed}
 use Rattle.eval_front.specs.Stands.{Standing, descendant_byte, standing_of, fore, final, some_alone, standing_in}
 use Rattle.eval_front.specs.Spans.{below_all}
 use Rattle.eval_front.specs.declared.Reached.{Reached}
-use Rattle.eval_asks.specs.Lent.{plan_of, pool_of, table_of, text_of, root_of, cap_of, at_of}
+use Rattle.eval_asks.specs.declared.Lent.{Lent}
+use Rattle.eval_asks.specs.declared.State.{State as Numbers}
+use Rattle.eval_asks.specs.Lent.{plan_of, pool_of, table_of, text_of, root_of, cap_of, at_of, with_at}
 use Rattle.eval_asks.specs.Asks.{Asked, Steady, Gives, AskSegment, DoneSegment, AskSelectors, DoneSelectors, Parted, AskDescent, DoneDescent, Descends, descent, AskFlats, DoneFlats, AskSelector, DoneSelector}
-use Rattle.eval_asks.specs.Steady.{wrote_at, gives_wrote, gives_none, gives_as, Going, going_start, going_on, going_step, going_end, going_full, going_last}
+use Rattle.eval_asks.specs.Steady.{gives_of, gives_none, gives_as, Going, going_start, going_on, going_step, going_end, going_full, going_last}
 
 -- the parts of the segment at pc
 abbrev parted_at : {P L : List ℕ} {pc : ℕ} → length P ≤ max_plan → Query P L pc → (get_or P pc 0 ≡ 0x0A → ⊥) → Parted P L pc
@@ -34,7 +36,7 @@ parted_at {P} {L} {pc} few x n = record { k = x.k; f = x.f; parts = parts P L fe
 
 -- ---- what a call leaves of the list
 
-module _ {v : List (Bor (List ℕ))} {s l s' l' : List ℕ} (a : Asked v s l) where
+module _ {v : Lent} {s : Numbers} {l : List ℕ} {s' : Numbers} {l' : List ℕ} (a : Asked v s l) where
   pub segment_room : {node pc : ℕ} → AskSegment v node pc → DoneSegment v node pc s l s' l' → at_of s' ≤ cap_of s + 1
   segment_room q d = done_bound q.query.f _ _ (cap_of s) l l' (at_of s) (at_of s') (d.emits q.query (root_of s) (cap_of s) refl refl) a.room
 
@@ -51,7 +53,7 @@ module _ {v : List (Bor (List ℕ))} {s l s' l' : List ℕ} (a : Asked v s l) wh
 
 -- ---- one node with the segments at pc
 
-module _ {v : List (Bor (List ℕ))} {s l : List ℕ} {node pc : ℕ} (a : Asked v s l) (q : AskSegment v node pc) where
+module _ {v : Lent} {s : Numbers} {l : List ℕ} {node pc : ℕ} (a : Asked v s l) (q : AskSegment v node pc) where
   pub reach_asked : AskReach (plan_of v) (pool_of v) (table_of v) (text_of v) node pc
   reach_asked = record { given = a.given; node_in = q.node_in; query = q.query }
 
@@ -67,9 +69,9 @@ module _ {v : List (Bor (List ℕ))} {s l : List ℕ} {node pc : ℕ} (a : Asked
     pub push_asked : AskPush (length l) (at_of s) r.node (cap_of s)
     push_asked = record { room = a.room; wide = a.wide; small = a.small; number = omega (arith, d.node_in, a.given.tab.size.few) }
 
-    pub segment_ends : r.some ≡ true → get_or (plan_of v) r.pc 0 ≡ 0x0A → (l' : List ℕ) (n : ℕ) → st (cap_of s) l' n ≡ push r.node (st (cap_of s) l (at_of s)) → DoneSegment v node pc s l (set s 2 n) l'
+    pub segment_ends : r.some ≡ true → get_or (plan_of v) r.pc 0 ≡ 0x0A → (l' : List ℕ) (n : ℕ) → st (cap_of s) l' n ≡ push r.node (st (cap_of s) l (at_of s)) → DoneSegment v node pc s l (with_at s n) l'
     segment_ends e z l' n p =
-        gives_wrote _ s l l' n a
+        gives_of _ s l (with_at s n) l'
         (λ x. let y = d.front x.f x.k x.at in
         p ∙ segment_end (table_of v) (text_of v) a.given.tab y.g _ r.node d.node_in _ (is_end (plan_of v) r.pc y.j y.g y.at.holds z) ∙ y.found e _ _)
 
@@ -81,7 +83,7 @@ module _ {v : List (Bor (List ℕ))} {s l : List ℕ} {node pc : ℕ} (a : Asked
       pub onward_selectors : AskSelectors v r.node r.pc
       onward_selectors = record { node_in = d.node_in; query = onward q.query; going = n }
 
-      pub segment_child_done : r.some ≡ true → get_or (plan_of v) r.pc 0 ≡ 3 → (s' l' : List ℕ) → DoneSelectors v r.node r.pc s l s' l' → DoneSegment v node pc s l s' l'
+      pub segment_child_done : r.some ≡ true → get_or (plan_of v) r.pc 0 ≡ 3 → (s' : Numbers) (l' : List ℕ) → DoneSelectors v r.node r.pc s l s' l' → DoneSegment v node pc s l s' l'
       segment_child_done e k s' l' g =
           gives_as _ g (λ x. parted_at a.given.few_p (onward x) n)
           (λ x R σ. let y = d.front x.f x.k x.at in
@@ -96,7 +98,7 @@ module _ {v : List (Bor (List ℕ))} {s l : List ℕ} {node pc : ℕ} (a : Asked
       pub onward_descent : (get_or (plan_of v) r.pc 0 ≡ 3 → ⊥) → AskDescent v r.node r.pc
       onward_descent k = record { node_in = d.node_in; descends = descends_at k (onward q.query) }
 
-      pub segment_descent_done : r.some ≡ true → (get_or (plan_of v) r.pc 0 ≡ 3 → ⊥) → (s' l' : List ℕ) → DoneDescent v r.node r.pc s l s' l' → DoneSegment v node pc s l s' l'
+      pub segment_descent_done : r.some ≡ true → (get_or (plan_of v) r.pc 0 ≡ 3 → ⊥) → (s' : Numbers) (l' : List ℕ) → DoneDescent v r.node r.pc s l s' l' → DoneSegment v node pc s l s' l'
       segment_descent_done e k s' l' g =
           gives_as _ g (λ x. descends_at k (onward x))
           (λ x R σ. let y = d.front x.f x.k x.at in
@@ -105,7 +107,7 @@ module _ {v : List (Bor (List ℕ))} {s l : List ℕ} {node pc : ℕ} (a : Asked
 
 -- ---- a descendant segment
 
-pub descent_selectors : {v : List (Bor (List ℕ))} {node pc : ℕ} → AskDescent v node pc → AskSelectors v node pc
+pub descent_selectors : {v : Lent} {node pc : ℕ} → AskDescent v node pc → AskSelectors v node pc
 descent_selectors {v} {node} {pc} q =
     let x = q.descends in
     record {
@@ -115,13 +117,13 @@ descent_selectors {v} {node} {pc} q =
     }
 
 -- the query ends behind a node
-module _ {v : List (Bor (List ℕ))} {s l : List ℕ} {m rest : ℕ} (a : Asked v s l) (q : AskSegment v m rest) where
+module _ {v : Lent} {s : Numbers} {l : List ℕ} {m rest : ℕ} (a : Asked v s l) (q : AskSegment v m rest) where
   pub here_push : AskPush (length l) (at_of s) m (cap_of s)
   here_push = record { room = a.room; wide = a.wide; small = a.small; number = omega (arith, q.node_in, a.given.tab.size.few) }
 
-  pub here_ends : get_or (plan_of v) rest 0 ≡ 0x0A → (l' : List ℕ) (n : ℕ) → st (cap_of s) l' n ≡ push m (st (cap_of s) l (at_of s)) → DoneSegment v m rest s l (set s 2 n) l'
+  pub here_ends : get_or (plan_of v) rest 0 ≡ 0x0A → (l' : List ℕ) (n : ℕ) → st (cap_of s) l' n ≡ push m (st (cap_of s) l (at_of s)) → DoneSegment v m rest s l (with_at s n) l'
   here_ends z l' n p =
-      gives_wrote _ s l l' n a
+      gives_of _ s l (with_at s n) l'
       (λ x. p ∙ segment_end (table_of v) (text_of v) a.given.tab x.f _ m q.node_in _ (is_end (plan_of v) rest x.k x.f x.at.holds z))
 
 -- its selectors and what follows them are those of its parts
@@ -137,7 +139,7 @@ module _ {P L : List ℕ} {pc : ℕ} (few : length P ≤ max_plan) (x : Descends
       ap (λ (z : Selectors). go parted_of.parts.q R (eval_selectors z R N) σ) a ∙ ap (λ (z : Segments). go z R (eval_selectors x.ss R N) σ) b
 
 -- the nodes of a range that need no call
-module _ {v : List (Bor (List ℕ))} {s l : List ℕ} {i e pc : ℕ} (a : Asked v s l) where
+module _ {v : Lent} {s : Numbers} {l : List ℕ} {i e pc : ℕ} (a : Asked v s l) where
   pub flats_full : AskFlats v i e pc → cap_of s < at_of s → DoneFlats v i e pc s l s l e
   flats_full q f =
       record {
@@ -154,7 +156,7 @@ module _ {v : List (Bor (List ℕ))} {s l : List ℕ} {i e pc : ℕ} (a : Asked 
     pub flats_asked : AskFlats v j e pc
     flats_asked = record { upto = c.high q.upto; range = λ h. q.range (omega (arith, c.low)); descends = q.descends }
 
-    pub flats_done : {s' l' : List ℕ} {r : ℕ} → DoneFlats v j e pc s l s' l' r → DoneFlats v i e pc s l s' l' r
+    pub flats_done : {s' : Numbers} {l' : List ℕ} {r : ℕ} → DoneFlats v j e pc s l s' l' r → DoneFlats v i e pc s l s' l' r
     flats_done d =
         record {
           low = omega (arith, c.low, d.low);
@@ -167,14 +169,14 @@ module _ {v : List (Bor (List ℕ))} {s l : List ℕ} {i e pc : ℕ} (a : Asked 
     flats_scalars = flats_done (record { low = omega arith; high = c.high q.upto; room = a.room; goes = λ x R C r k. refl })
 
 -- the children that are left
-pub record InDescent (v : List (Bor (List ℕ))) (pc e j₀ : ℕ) (s₀ : List ℕ) (l₀ : MutBor (List ℕ)) (s : List ℕ) (l : MutBor (List ℕ)) (j : ℕ) : Type 0 where
+pub record InDescent (v : Lent) (pc e j₀ : ℕ) (s₀ : Numbers) (l₀ : MutBor (List ℕ)) (s : Numbers) (l : MutBor (List ℕ)) (j : ℕ) : Type 0 where
   pub low : j₀ ≤ j
   pub high : j ≤ e
   pub going : Going (descent v pc j₀ e) (descent v pc j e) s₀ l₀ s l
 
-module _ {v : List (Bor (List ℕ))} {pc e j₀ : ℕ} {s₀ : List ℕ} {l₀ : MutBor (List ℕ)} {s : List ℕ} {l : MutBor (List ℕ)} {j : ℕ} (t : InDescent v pc e j₀ s₀ l₀ s l j) where
+module _ {v : Lent} {pc e j₀ : ℕ} {s₀ : Numbers} {l₀ : MutBor (List ℕ)} {s : Numbers} {l : MutBor (List ℕ)} {j : ℕ} (t : InDescent v pc e j₀ s₀ l₀ s l j) where
   -- one child's descent, and those behind it that need no call
-  pub descent_again : {s₁ s₂ : List ℕ} {l₁ l₂ : MutBor (List ℕ)} {r : ℕ} → j < e → Steady s l s₁ l₁ → at_of s₁ ≤ cap_of s + 1 → DoneDescent v j pc s l.now s₁ l₁.now
+  pub descent_again : {s₁ s₂ : Numbers} {l₁ l₂ : MutBor (List ℕ)} {r : ℕ} → j < e → Steady s l s₁ l₁ → at_of s₁ ≤ cap_of s + 1 → DoneDescent v j pc s l.now s₁ l₁.now
       → Steady s₁ l₁ s₂ l₂ → DoneFlats v (j + 1) e pc s₁ l₁.now s₂ l₂.now r → InDescent v pc e j₀ s₀ l₀ s₂ l₂ r
   descent_again {r = r} h k b d k₂ f =
       let c = f.low in
@@ -190,8 +192,8 @@ module _ {v : List (Bor (List ℕ))} {pc e j₀ : ℕ} {s₀ : List ℕ} {l₀ :
   descent_ended h = going_end t.going (λ x R σ. over_end x.q _ (below x.ss _) (table_of v) (text_of v) j e σ h)
 
 -- the node, and then all below each of its children
-module _ {v : List (Bor (List ℕ))} {node pc first n : ℕ} {s s₁ s₂ : List ℕ} {l₀ l₁ l₂ : MutBor (List ℕ)} {j : ℕ} (a : Asked v s l₀.now) (q : AskDescent v node pc) (g : Range (table_of v) node first n) where
-  pub descent_done : (s₃ l₃ : List ℕ) → DoneSelectors v node pc s l₀.now s₁ l₁.now → Steady s l₀ s₁ l₁ → DoneFlats v first (first + n) pc s₁ l₁.now s₂ l₂.now j → Steady s₁ l₁ s₂ l₂
+module _ {v : Lent} {node pc first n : ℕ} {s s₁ s₂ : Numbers} {l₀ l₁ l₂ : MutBor (List ℕ)} {j : ℕ} (a : Asked v s l₀.now) (q : AskDescent v node pc) (g : Range (table_of v) node first n) where
+  pub descent_done : (s₃ : Numbers) (l₃ : List ℕ) → DoneSelectors v node pc s l₀.now s₁ l₁.now → Steady s l₀ s₁ l₁ → DoneFlats v first (first + n) pc s₁ l₁.now s₂ l₂.now j → Steady s₁ l₁ s₂ l₂
       → Gives (Descends (plan_of v) (pool_of v) pc) (descent v pc j (first + n)) s₂ l₂.now s₃ l₃ → DoneDescent v node pc s l₀.now s₃ l₃
   descent_done s₃ l₃ d k f k₂ h =
       record {
@@ -205,7 +207,7 @@ module _ {v : List (Bor (List ℕ))} {node pc first n : ℕ} {s s₁ s₂ : List
 -- ---- the selectors of a segment
 
 -- the selectors that are left of each segment that stands there
-pub record InSelectors (v : List (Bor (List ℕ))) (node pc rest : ℕ) (s₀ : List ℕ) (l₀ : MutBor (List ℕ)) (s : List ℕ) (l : MutBor (List ℕ)) (m p : ℕ) : Type 0 where
+pub record InSelectors (v : Lent) (node pc rest : ℕ) (s₀ : Numbers) (l₀ : MutBor (List ℕ)) (s : Numbers) (l : MutBor (List ℕ)) (m p : ℕ) : Type 0 where
   pub later : pc + 3 ≤ p
   pub left : Parted (plan_of v) (pool_of v) pc → Selectors
   pub k : Parted (plan_of v) (pool_of v) pc → ℕ
@@ -213,7 +215,7 @@ pub record InSelectors (v : List (Bor (List ℕ))) (node pc rest : ℕ) (s₀ : 
   pub going : Going (λ x R. go x.parts.q (node_at (table_of v) (text_of v) R) (eval_selectors x.parts.ss (node_at (table_of v) (text_of v) R) (node_at (table_of v) (text_of v) node)))
       (λ x R. go x.parts.q (node_at (table_of v) (text_of v) R) (eval_selectors (left x) (node_at (table_of v) (text_of v) R) (node_at (table_of v) (text_of v) node))) s₀ l₀ s l
 
-module _ {v : List (Bor (List ℕ))} {node pc : ℕ} {s₀ : List ℕ} (l₀ : MutBor (List ℕ)) (a : Asked v s₀ l₀.now) (q : AskSelectors v node pc) where
+module _ {v : Lent} {node pc : ℕ} {s₀ : Numbers} (l₀ : MutBor (List ℕ)) (a : Asked v s₀ l₀.now) (q : AskSelectors v node pc) where
   -- some segment that stands there
   abbrev asked_parts : Parted (plan_of v) (pool_of v) pc
   asked_parts = parted_at a.given.few_p q.query q.going
@@ -227,7 +229,7 @@ module _ {v : List (Bor (List ℕ))} {node pc : ℕ} {s₀ : List ℕ} (l₀ : M
   pub selectors_start : (m rest : ℕ) → Word 2 (plan_of v) (pc + 1) m → DoneSkip (plan_of v) (pc + 3) m rest → InSelectors v node pc rest s₀ l₀ s₀ l₀ m (pc + 3)
   selectors_start m rest w d = record { later = omega arith; left = λ x. x.parts.ss; k = λ x. x.k; stands = λ x. standing_of x.parts m rest w d; going = going_start _ s₀ l₀ a }
 
-  module _ {rest : ℕ} {s : List ℕ} {l : MutBor (List ℕ)} {m p : ℕ} (t : InSelectors v node pc rest s₀ l₀ s l m p) where
+  module _ {rest : ℕ} {s : Numbers} {l : MutBor (List ℕ)} {m p : ℕ} (t : InSelectors v node pc rest s₀ l₀ s l m p) where
     pub selectors_asked : AskSelector v node p rest
     selectors_asked =
         let x = asked_parts in
@@ -242,7 +244,7 @@ module _ {v : List (Bor (List ℕ))} {node pc : ℕ} {s₀ : List ℕ} (l₀ : M
     selectors_in = standing_in (t.stands asked_parts)
 
     -- one of several is done
-    module _ (h : 1 < m) {s' : List ℕ} {l' : MutBor (List ℕ)} (k : Steady s l s' l') (b : at_of s' ≤ cap_of s + 1) (d : DoneSelector v node p rest s l.now s' l'.now) where
+    module _ (h : 1 < m) {s' : Numbers} {l' : MutBor (List ℕ)} (k : Steady s l s' l') (b : at_of s' ≤ cap_of s + 1) (d : DoneSelector v node p rest s l.now s' l'.now) where
       others : Parted (plan_of v) (pool_of v) pc → Selectors
       others x = (fore (t.stands x) h).others
 
@@ -270,7 +272,7 @@ module _ {v : List (Bor (List ℕ))} {node pc : ℕ} {s₀ : List ℕ} (l₀ : M
           }
 
     -- the last is done
-    pub selectors_done : m ≤ 1 → {s' l' : List ℕ} → DoneSelector v node p rest s l.now s' l' → DoneSelectors v node pc s₀ l₀.now s' l'
+    pub selectors_done : m ≤ 1 → {s' : Numbers} {l' : List ℕ} → DoneSelector v node p rest s l.now s' l' → DoneSelectors v node pc s₀ l₀.now s' l'
     selectors_done h d =
         going_last t.going d (λ x. let y = final (t.stands x) h in record { x = y.x; q = x.parts.q; k = t.k x; k' = _; stands = y.alone })
         (λ x R σ. let y = final (t.stands x) h in selectors_last x.parts.q _ _ (t.left x) y.x σ _ _ y.made refl refl)

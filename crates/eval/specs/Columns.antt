@@ -1,7 +1,7 @@
 -- The nodes of a range whose test is told in cells, some at a time: the invariant of the loop over them, and its turns. v is what is lent. Assumes nothing.
 use Rattle.std.specs.Prelude.{ℕ, ◌+◌, ◌-◌, ◌≤◌, ◌<◌, ◌≡◌, refl, List, Bool as Bits, true, false, ltb, length, get_or, set}
 use Rattle.std.proofs.Common.{sym, ◌∙◌, subst, arith, ltb-true, ltb-false}
-use Rattle.std.specs.Borrow.{Bor, MutBor}
+use Rattle.std.specs.Borrow.{MutBor}
 use Rattle.definition.specs.Forms.{Test}
 use Rattle.definition.specs.Tables.{node_at}
 use Rattle.definition.specs.Evaluation.{eval_test}
@@ -14,17 +14,19 @@ use Rattle.eval_filters.specs.Queries.{Within}
 use Rattle.eval_filters.specs.Keeps.{test_code}
 use Rattle.eval_filters.specs.Kept.{Tested, AskTest, DoneTest}
 use Rattle.eval_filters.specs.Tests.{AskRest, DoneRest}
+use Rattle.eval_asks.specs.declared.Lent.{Lent}
+use Rattle.eval_asks.specs.declared.State.{State as Numbers}
 use Rattle.eval_asks.specs.Lent.{plan_of, pool_of, table_of, text_of, root_of, cap_of, at_of}
 use Rattle.eval_asks.specs.Asks.{Asked, Steady, DoneSegment, AskNext, DoneNext}
 use Rattle.eval_asks.specs.Steady.{steady_refl, gives_none, Going, going_start, going_asked, going_on, going_end, going_full}
 use Rattle.eval_asks.specs.Kinds.{keeping, passed, InNext, InFilter, filter_again}
 use Rattle.eval_asks.specs.Cells.{answer_of, place_of, InCell, Column, Laid, cell_next, column_start, column_set}
-use Rattle.eval_asks.specs.Rows.{AskRows, AskCells, DoneKept}
+use Rattle.eval_asks.specs.Rows.{AskRows, DoneKept}
 use Rattle.eval.specs.Loops.{DoneSaid}
 use Rattle.eval.specs.declared.Said.{Said}
 
 -- node j is the next; the cells from b up to k are known
-pub record InCells (v : List (Bor (List ℕ))) (i e p z rest : ℕ) (s₀ : List ℕ) (l₀ : MutBor (List ℕ)) (s : List ℕ) (l : MutBor (List ℕ)) (b k j : ℕ) (c : List ℕ) : Type 0 where
+pub record InCells (v : Lent) (i e p z rest : ℕ) (s₀ : Numbers) (l₀ : MutBor (List ℕ)) (s : Numbers) (l : MutBor (List ℕ)) (b k j : ℕ) (c : List ℕ) : Type 0 where
   pub low : i ≤ j
   pub from : b ≤ j
   pub high : k ≤ e
@@ -33,15 +35,15 @@ pub record InCells (v : List (Bor (List ℕ))) (i e p z rest : ℕ) (s₀ : List
   pub going : Going (keeping v p z rest i e) (keeping v p z rest j e) s₀ l₀ s l
 
 -- no node is passed
-pub none_passed : {v : List (Bor (List ℕ))} {j e p z : ℕ} (root : ℕ) → DoneNext v root j e p z j true
+pub none_passed : {v : Lent} {j e p z : ℕ} (root : ℕ) → DoneNext v root j e p z j true
 none_passed root = record { low = omega arith; high = λ y. y; passed = λ x y o m u w. absurd (omega arith); holds = λ u. absurd (never (sym u)) }
 
 -- the next node meets a call
-pub next_met : {v : List (Bor (List ℕ))} {root i e p z j : ℕ} → InNext v root i e p z j → DoneNext v root i e p z j true
+pub next_met : {v : Lent} {root i e p z j : ℕ} → InNext v root i e p z j → DoneNext v root i e p z j true
 next_met t = record { low = t.low; high = t.high; passed = t.passed; holds = λ u. absurd (never (sym u)) }
 
 -- none is left
-pub kept_none : (v : List (Bor (List ℕ))) {j e p z rest : ℕ} {s l : List ℕ} → e ≤ j → DoneKept v j e p z rest s l s l
+pub kept_none : (v : Lent) {j e p z rest : ℕ} {s : Numbers} {l : List ℕ} → e ≤ j → DoneKept v j e p z rest s l s l
 kept_none v {j} {e} {s = s} {l = l} h = gives_none _ s l (λ x R σ. sym (over_end x.q _ (kept x.t _) (table_of v) (text_of v) j e σ h))
 
 -- an answer and a place that are a cell's
@@ -53,7 +55,7 @@ module _ {P L S X : List ℕ} {root node p z c : ℕ} (i : InCell P L S X root n
   goes_here d t k o = d _ (todo_to P L (place_of c) q z _ _ _ _ _ _ _ _ _ b a refl refl (i.again t k o))
 
 -- no cells yet
-pub cells_first : {v : List (Bor (List ℕ))} {j e p z : ℕ} (rest : ℕ) (s : List ℕ) (l : MutBor (List ℕ)) {c : List ℕ} → Asked v s l.now → j < e → length c ≡ 256 → InCells v j e p z rest s l s l j j j c
+pub cells_first : {v : Lent} {j e p z : ℕ} (rest : ℕ) (s : Numbers) (l : MutBor (List ℕ)) {c : List ℕ} → Asked v s l.now → j < e → length c ≡ 256 → InCells v j e p z rest s l s l j j j c
 cells_first {v} {j} {e} {p} {z} rest s l a h w =
     record {
       low = omega arith;
@@ -64,7 +66,7 @@ cells_first {v} {j} {e} {p} {z} rest s l a h w =
       going = going_start (keeping v p z rest j e) s l a;
     }
 
-module _ {v : List (Bor (List ℕ))} {i e p z rest : ℕ} {s₀ : List ℕ} {l₀ : MutBor (List ℕ)} {s : List ℕ} {l : MutBor (List ℕ)} {b k j : ℕ} {c : List ℕ} (t : InCells v i e p z rest s₀ l₀ s l b k j c) where
+module _ {v : Lent} {i e p z rest : ℕ} {s₀ : Numbers} {l₀ : MutBor (List ℕ)} {s : Numbers} {l : MutBor (List ℕ)} {b k j : ℕ} {c : List ℕ} (t : InCells v i e p z rest s₀ l₀ s l b k j c) where
   -- the next cells
   pub cells_next : Asked v s₀ l₀.now → {o : ℕ} → AskRows v o e p z rest → o ≤ i → {r : ℕ} → r ≤ e → AskNext v (root_of s) j r p z
   cells_next a q f n = let g = going_asked t.going a in let m = t.low in record { given = g.given; root_in = g.root_in; range = λ h. omega (arith, q.range (omega arith)); test = q.test }
@@ -123,7 +125,7 @@ module _ {v : List (Bor (List ℕ))} {i e p z rest : ℕ} {s₀ : List ℕ} {l�
           going = t.going;
         }
 
-    pub cells_in : r ≡ true → {s' : List ℕ} {l' : MutBor (List ℕ)} → Steady s l s' l' → at_of s' ≤ cap_of s + 1 → DoneSegment v j rest s l.now s' l'.now → InCells v i e p z rest s₀ l₀ s' l' b k (j + 1) c
+    pub cells_in : r ≡ true → {s' : Numbers} {l' : MutBor (List ℕ)} → Steady s l s' l' → at_of s' ≤ cap_of s + 1 → DoneSegment v j rest s l.now s' l'.now → InCells v i e p z rest s₀ l₀ s' l' b k (j + 1) c
     cells_in n g m o =
         record {
           low = omega (arith, t.low);
@@ -145,16 +147,16 @@ later_less {q} {z} {r} d h = go (ltb r z) refl
     go false e = let m = ltb-false r z e in omega arith
 
 -- the code lies in the plan
-pub code_near : {v : List (Bor (List ℕ))} {root i e p z : ℕ} → AskNext v root i e p z → (p ≤ z) × (z < 65536)
+pub code_near : {v : Lent} {root i e p z : ℕ} → AskNext v root i e p z → (p ≤ z) × (z < 65536)
 code_near a =
     let c = test_code a.given.few_p a.test in
     let q = a.test.stands.place in
     (omega arith, omega (arith, c.inside, a.given.few_p))
 
-pub tell_start : {v : List (Bor (List ℕ))} {root i e p z : ℕ} {l : List ℕ} → AskNext v root i e p z → e - i ≤ length l → Laid (e - i) p l → Column (plan_of v) (pool_of v) (table_of v) (text_of v) root i e p z l
+pub tell_start : {v : Lent} {root i e p z : ℕ} {l : List ℕ} → AskNext v root i e p z → e - i ≤ length l → Laid (e - i) p l → Column (plan_of v) (pool_of v) (table_of v) (text_of v) root i e p z l
 tell_start a n g = let c = code_near a in column_start a.test (omega (arith, c.0, c.1)) n g
 
-module _ {v : List (Bor (List ℕ))} {root i e p z : ℕ} (a : AskNext v root i e p z) {l : List ℕ} (o : Column (plan_of v) (pool_of v) (table_of v) (text_of v) root i e p z l) {j : ℕ} (b : i ≤ j) (h : j < e) where
+module _ {v : Lent} {root i e p z : ℕ} (a : AskNext v root i e p z) {l : List ℕ} (o : Column (plan_of v) (pool_of v) (table_of v) (text_of v) root i e p z l) {j : ℕ} (b : i ≤ j) (h : j < e) where
   pub turn_within : Within (plan_of v) (pool_of v) (table_of v) (text_of v) root j
   turn_within = record { few_p = a.given.few_p; few_l = a.given.few_l; tab = a.given.tab; root_in = a.root_in; node_in = omega (arith, a.range (omega arith)) }
 

@@ -56,22 +56,21 @@ pub record DoneSaid (P L S X : List ℕ) (root node : ℕ) (acc : Bits) (p e : �
   pub later : p ≤ e → p ≤ r.q
   pub near : r.q ≤ e
   pub goes : (want : Bits) → Left P L p e (node_at S X root) (node_at S X node) acc want → Left P L r.q e (node_at S X root) (node_at S X node) r.acc want
-  pub ended : r.call ≡ false → e ≤ r.q
-  pub onward : stop ≡ false → r.call ≡ false
+  pub onward : stop ≡ false → e ≤ r.q
 
 module _ {P L S X : List ℕ} {root node : ℕ} {acc : Bits} {p e : ℕ} {b : Bits} {q : ℕ} (i : InTest P L S X root node acc p e b q) where
   pub turn_here : AskRest P L S X root node acc p e → Within P L S X root node → q < e → AskTurn P L S X root node b q e
   turn_here a w h = record { within = w; want = _; todo = i.again a.want a.todo; more = h }
 
-  pub said_met : {stop deep : Bits} → stop ≡ true → q < e → DoneSaid P L S X root node acc p e stop (record { acc = b; q = q; call = true; deep = deep })
-  said_met u h = record { later = λ y. i.later; near = omega arith; goes = i.again; ended = λ y. absurd (never (sym y)); onward = λ y. absurd (never (sym y ∙ u)) }
+  pub said_met : {stop deep : Bits} → stop ≡ true → q < e → DoneSaid P L S X root node acc p e stop (record { acc = b; q = q; deep = deep })
+  said_met u h = record { later = λ y. i.later; near = omega arith; goes = i.again; onward = λ y. absurd (never (sym y ∙ u)) }
 
-  pub said_told : {stop deep : Bits} → e ≤ q → DoneSaid P L S X root node acc p e stop (record { acc = b; q = e; call = false; deep = deep })
-  said_told h = record { later = λ y. y; near = omega arith; goes = λ want l. left_ended h (i.again want l); ended = λ y. omega arith; onward = λ y. refl }
+  pub said_told : {stop deep : Bits} → e ≤ q → DoneSaid P L S X root node acc p e stop (record { acc = b; q = e; deep = deep })
+  said_told h = record { later = λ y. y; near = omega arith; goes = λ want l. left_ended h (i.again want l); onward = λ y. omega arith }
 
-module _ {P L S X : List ℕ} {root node : ℕ} {acc : Bits} {p e : ℕ} {stop : Bits} {r : Said} (d : DoneSaid P L S X root node acc p e stop r) (n : r.call ≡ false) where
+module _ {P L S X : List ℕ} {root node : ℕ} {acc : Bits} {p e : ℕ} {stop : Bits} {r : Said} (d : DoneSaid P L S X root node acc p e stop r) (n : e ≤ r.q) where
   pub said_rest : DoneRest P L S X root node acc p e r.acc
-  said_rest want h = todo_end _ _ _ _ _ _ _ _ _ _ (d.goes want h) (d.ended n)
+  said_rest want h = todo_end _ _ _ _ _ _ _ _ _ _ (d.goes want h) n
 
   pub said_test : DoneTest P L S X root node p e r.acc
   said_test t k h = said_rest _ (todo_start _ _ _ _ k _ _ _ _ _ t h.test h.place)

@@ -4,7 +4,7 @@ ghost use Rattle.std.specs.Prelude.{length};
 ghost use Rattle.eval_asks.specs.Asks.{Begins, AskSegments, DoneSegments, AskEnter, Entered};
 
 use crate::{each_child, each_place, eval_filter, evaluate_segment};
-use eval_asks::{AT, PLAN, TABLE};
+use eval_asks::{Lent, State};
 use plan_format::heads::{FILTER_HEAD, SLICE_HEAD, WILDCARD_HEAD};
 use plan_format::kinds::{CHILD, END};
 use table::records;
@@ -36,10 +36,15 @@ pub fn evaluate<'a>(
     if plan[q] == END {
         return eval_front::push(list, at, m, cap);
     }
-    let lent = [plan, pool, table, text];
-    let mut state = [root, cap, at];
+    let lent = Lent {
+        plan,
+        pool,
+        table,
+        text,
+    };
+    let mut state = State { root, cap, at };
     enter(&lent, &mut state, list, m, q);
-    state[AT]
+    state.at
 }
 
 // The list, which is lent as one word.
@@ -49,7 +54,7 @@ struct Places<'a> {
 }
 
 // The entrance: the list becomes one word.
-fn enter(lent: &[&[u8]; 4], state: &mut [usize; 3], list: &mut [u32], node: usize, pc: usize)
+fn enter(lent: &Lent, state: &mut State, list: &mut [u32], node: usize, pc: usize)
     requires { AskEnter lent.now node pc state.old list.old }
     ensures { Entered lent.now node pc state.old list.entry state.new list.exit }
 {
@@ -59,11 +64,11 @@ fn enter(lent: &[&[u8]; 4], state: &mut [usize; 3], list: &mut [u32], node: usiz
 }
 
 // The same with the list as one word. A child segment of one filter, slice or wildcard is applied at once.
-fn first(lent: &[&[u8]; 4], state: &mut [usize; 3], list: &mut &mut [u32], node: usize, pc: usize)
+fn first(lent: &Lent, state: &mut State, list: &mut &mut [u32], node: usize, pc: usize)
     requires { AskEnter lent.now node pc state.old list.old.now }
     ensures { Entered lent.now node pc state.old list.old state.new list.new }
 {
-    let plan = lent[PLAN];
+    let plan = lent.plan;
     if plan[pc] != CHILD {
         evaluate_segment(lent, state, list, node, pc);
         return;
@@ -82,7 +87,7 @@ fn first(lent: &[&[u8]; 4], state: &mut [usize; 3], list: &mut &mut [u32], node:
         return;
     }
     if head == WILDCARD_HEAD {
-        let table = lent[TABLE];
+        let table = lent.table;
         let i = records::first_child(table, node) as usize;
         let n = records::child_count(table, node) as usize;
         let j = eval_shortcuts::ahead(lent, state, list, i, i + n, pc + 4);

@@ -12,6 +12,7 @@
 
 #![tactic(auto)]
 
+ghost use Rattle.std.specs.Prelude.{◌≤◌};
 ghost use Rattle.eval_filters.specs.Queries.{Within};
 ghost use Rattle.eval_filters.specs.Tests.{AskRest};
 ghost use Rattle.eval_filters.specs.Turns.{AskTurn};
@@ -19,7 +20,7 @@ ghost use Rattle.eval_asks.specs.Lent.{plan_of, pool_of, table_of, text_of};
 ghost use Rattle.eval_asks.specs.Asks.{Asked, Steady, AskSegment, DoneSegment, AskSelectors, DoneSelectors, AskDescent, DoneDescent, AskSelector, DoneSelector, AskKind, AskEach, DoneEach, AskNext, DoneNext, AskQuery, DoneQuery};
 ghost use Rattle.eval.specs.Loops.{DoneSaid, DoneTested};
 
-use eval_asks::{AT, CAP, PLAN, POOL, ROOT, TABLE, TEXT};
+use eval_asks::{Lent, State};
 use eval_filters::Told;
 use eval_items::{Regs, leaves, plans};
 use eval_values::Operand;
@@ -34,13 +35,12 @@ mod descents;
 pub mod entrance;
 mod rows;
 
-// What a filter says of a node: the answer in front of q. Where `call`, a call of match or search stands there; else it is the filter's. `deep` says whether a query was
-// evaluated for it.
+// What a filter says of a node: the answer in front of q. At the end of the code it is the filter's; else a call of match or search stands there. `deep` says whether a
+// query was evaluated for it.
 #[derive(Clone, Copy)]
 struct Said {
     acc: bool,
     q: usize,
-    call: bool,
     deep: bool,
 }
 
@@ -54,20 +54,14 @@ struct Next {
 
 // One node with the segments at pc.
 #[cycle(evaluation)]
-fn evaluate_segment(
-    lent: &[&[u8]; 4],
-    state: &mut [usize; 3],
-    list: &mut &mut [u32],
-    node: usize,
-    pc: usize,
-)
+fn evaluate_segment(lent: &Lent, state: &mut State, list: &mut &mut [u32], node: usize, pc: usize)
     requires asked { Asked lent.now state.old list.old.now }
     requires ask_segment { AskSegment lent.now node pc }
     ensures steady { Steady state.old list.old state.new list.new }
     ensures done_segment { DoneSegment lent.now node pc state.old list.old.now state.new list.new.now }
 {
-    let plan = lent[PLAN];
-    let r = eval_front::reach(plan, lent[POOL], lent[TABLE], lent[TEXT], node, pc);
+    let plan = lent.plan;
+    let r = eval_front::reach(plan, lent.pool, lent.table, lent.text, node, pc);
     if !r.some {
         return;
     }
@@ -75,9 +69,9 @@ fn evaluate_segment(
     let q = r.pc;
     let k = plan[q];
     if k == END {
-        let at = state[AT];
-        let next = eval_front::push(*list, at, m, state[CAP]);
-        state[AT] = next;
+        let at = state.at;
+        let next = eval_front::push(*list, at, m, state.cap);
+        state.at = next;
         return;
     }
     if k == CHILD {
@@ -93,23 +87,18 @@ fn evaluate_segment(
 
 // The descendant segment at pc on a node: "the node, then each child's descent, in table order".
 #[cycle(evaluation)]
-fn recursive_descent(
-    lent: &[&[u8]; 4],
-    state: &mut [usize; 3],
-    list: &mut &mut [u32],
-    node: usize,
-    pc: usize,
-)
+fn recursive_descent(lent: &Lent, state: &mut State, list: &mut &mut [u32], node: usize, pc: usize)
     requires asked { Asked lent.now state.old list.old.now }
     requires ask_descent { AskDescent lent.now node pc }
     ensures steady { Steady state.old list.old state.new list.new }
     ensures done_descent { DoneDescent lent.now node pc state.old list.old.now state.new list.new.now }
 {
     apply_selectors(lent, state, list, node, pc);
-    let table = lent[TABLE];
+    let table = lent.table;
     let first = records::first_child(table, node) as usize;
     let count = records::child_count(table, node) as usize;
     let e = first + count;
+    // The steps differ, so that `for` is no plainer.
     let mut j = descents::skip_scalars(lent, state, list, first, e, pc);
     while j < e {
         recursive_descent(lent, state, list, j, pc);
@@ -119,23 +108,18 @@ fn recursive_descent(
 
 // The same where `pass_flats` may pass some of the children.
 #[cycle(evaluation)]
-fn descend_flats(
-    lent: &[&[u8]; 4],
-    state: &mut [usize; 3],
-    list: &mut &mut [u32],
-    node: usize,
-    pc: usize,
-)
+fn descend_flats(lent: &Lent, state: &mut State, list: &mut &mut [u32], node: usize, pc: usize)
     requires asked { Asked lent.now state.old list.old.now }
     requires ask_descent { AskDescent lent.now node pc }
     ensures steady { Steady state.old list.old state.new list.new }
     ensures done_descent { DoneDescent lent.now node pc state.old list.old.now state.new list.new.now }
 {
     apply_selectors(lent, state, list, node, pc);
-    let table = lent[TABLE];
+    let table = lent.table;
     let first = records::first_child(table, node) as usize;
     let count = records::child_count(table, node) as usize;
     let e = first + count;
+    // The steps differ, so that `for` is no plainer.
     let mut j = descents::skip_flats(lent, state, list, first, e, pc);
     while j < e {
         descend_flats(lent, state, list, j, pc);
@@ -145,28 +129,23 @@ fn descend_flats(
 
 // The selectors of the segment at pc on a node, one after the other.
 #[cycle(evaluation)]
-fn apply_selectors(
-    lent: &[&[u8]; 4],
-    state: &mut [usize; 3],
-    list: &mut &mut [u32],
-    node: usize,
-    pc: usize,
-)
+fn apply_selectors(lent: &Lent, state: &mut State, list: &mut &mut [u32], node: usize, pc: usize)
     requires asked { Asked lent.now state.old list.old.now }
     requires ask_selectors { AskSelectors lent.now node pc }
     ensures steady { Steady state.old list.old state.new list.new }
     ensures done_selectors { DoneSelectors lent.now node pc state.old list.old.now state.new list.new.now }
 {
-    let plan = lent[PLAN];
+    let plan = lent.plan;
+    // A loop over m and p: the last selector is left for behind it, so that `for` is no plainer.
     let mut m = bytes::word16(plan, pc + 1);
     let mut p = pc + 3;
     let rest = plans::skip_selectors(plan, p, m);
     while 1 < m {
         apply_selector(lent, state, list, node, p, rest);
-        if state[CAP] < state[AT] {
+        if state.cap < state.at {
             return;
         }
-        p = plans::next_selector(lent[PLAN], p);
+        p = plans::next_selector(lent.plan, p);
         m -= 1;
     }
     apply_selector(lent, state, list, node, p, rest);
@@ -175,8 +154,8 @@ fn apply_selectors(
 // The selector at p on a node, each selected node with the segments at rest.
 #[cycle(evaluation)]
 fn apply_selector(
-    lent: &[&[u8]; 4],
-    state: &mut [usize; 3],
+    lent: &Lent,
+    state: &mut State,
     list: &mut &mut [u32],
     node: usize,
     p: usize,
@@ -187,17 +166,17 @@ fn apply_selector(
     ensures steady { Steady state.old list.old state.new list.new }
     ensures done_selector { DoneSelector lent.now node p rest state.old list.old.now state.new list.new.now }
 {
-    let plan = lent[PLAN];
+    let plan = lent.plan;
     let k = plan[p];
     if k <= INDEX {
-        let found = leaves::select_one(plan, lent[POOL], lent[TABLE], lent[TEXT], p, node);
+        let found = leaves::select_one(plan, lent.pool, lent.table, lent.text, p, node);
         let Member::At(m) = found else {
             return;
         };
         if plan[rest] == END {
-            let at = state[AT];
-            let next = eval_front::push(*list, at, m, state[CAP]);
-            state[AT] = next;
+            let at = state.at;
+            let next = eval_front::push(*list, at, m, state.cap);
+            state.at = next;
             return;
         }
         evaluate_segment(lent, state, list, m, rest);
@@ -208,7 +187,7 @@ fn apply_selector(
         return;
     }
     if k == WILDCARD {
-        let table = lent[TABLE];
+        let table = lent.table;
         let i = records::first_child(table, node) as usize;
         let n = records::child_count(table, node) as usize;
         each_child(lent, state, list, i, i + n, rest);
@@ -222,8 +201,8 @@ fn apply_selector(
 // The elements of a node at the places of the slice at p, each with the segments at rest.
 #[cycle(evaluation)]
 fn each_place(
-    lent: &[&[u8]; 4],
-    state: &mut [usize; 3],
+    lent: &Lent,
+    state: &mut State,
     list: &mut &mut [u32],
     node: usize,
     p: usize,
@@ -235,19 +214,19 @@ fn each_place(
     ensures steady { Steady state.old list.old state.new list.new }
     ensures done_selector { DoneSelector lent.now node p rest state.old list.old.now state.new list.new.now }
 {
-    let plan = lent[PLAN];
-    let table = lent[TABLE];
+    let plan = lent.plan;
+    let table = lent.table;
     let from = records::first_child(table, node) as usize;
     let s = leaves::slice_at(plan, table, p, node);
     let mut w = eval_front::placed(table, from, s);
     if plan[rest] == END {
-        let at = state[AT];
-        let next = eval_front::push_places(*list, w, at, state[CAP]);
-        state[AT] = next;
+        let at = state.at;
+        let next = eval_front::push_places(*list, w, at, state.cap);
+        state.at = next;
         return;
     }
     while 0 < w.left {
-        if state[CAP] < state[AT] {
+        if state.cap < state.at {
             return;
         }
         evaluate_segment(lent, state, list, w.at, rest);
@@ -258,8 +237,8 @@ fn each_place(
 // The nodes from i up to e, each with the segments at rest. Where a wildcard alone follows, it calls itself with the children of each.
 #[cycle(evaluation)]
 fn each_child(
-    lent: &[&[u8]; 4],
-    state: &mut [usize; 3],
+    lent: &Lent,
+    state: &mut State,
     list: &mut &mut [u32],
     i: usize,
     e: usize,
@@ -273,37 +252,34 @@ fn each_child(
     if e <= i {
         return;
     }
-    let plan = lent[PLAN];
+    let plan = lent.plan;
     if plan[rest] == END {
-        let at = state[AT];
-        let next = eval_front::push_each(*list, i, e, at, state[CAP]);
-        state[AT] = next;
+        let at = state.at;
+        let next = eval_front::push_each(*list, i, e, at, state.cap);
+        state.at = next;
         return;
     }
     let head = bytes::word32(plan, rest);
-    let mut j = i;
-    while j < e {
-        if state[CAP] < state[AT] {
+    for j in i..e {
+        if state.cap < state.at {
             return;
         }
         if head == WILDCARD_HEAD {
-            let table = lent[TABLE];
+            let table = lent.table;
             let first = records::first_child(table, j) as usize;
             let n = records::child_count(table, j) as usize;
             each_child(lent, state, list, first, first + n, rest + 4);
-            j += 1;
-        } else {
-            evaluate_segment(lent, state, list, j, rest);
-            j += 1;
+            continue;
         }
+        evaluate_segment(lent, state, list, j, rest);
     }
 }
 
 // The children of a node for which the filter at p holds, each with the segments at rest. From the first on that meets match or search they go by cells.
 #[cycle(evaluation)]
 fn eval_filter(
-    lent: &[&[u8]; 4],
-    state: &mut [usize; 3],
+    lent: &Lent,
+    state: &mut State,
     list: &mut &mut [u32],
     node: usize,
     p: usize,
@@ -315,13 +291,13 @@ fn eval_filter(
     ensures steady { Steady state.old list.old state.new list.new }
     ensures done_selector { DoneSelector lent.now node p rest state.old list.old.now state.new list.new.now }
 {
-    let z = p + 3 + bytes::word16(lent[PLAN], p + 1);
-    let table = lent[TABLE];
+    let z = p + 3 + bytes::word16(lent.plan, p + 1);
+    let table = lent.table;
     let i = records::first_child(table, node) as usize;
     let n = records::child_count(table, node) as usize;
     let e = i + n;
     let k = eval_shortcuts::keep_joined(lent, state, list, i, e, p + 3, z, rest);
-    let mut v = next_kept(lent, state[ROOT], k, e, p + 3, z);
+    let mut v = next_kept(lent, state.root, k, e, p + 3, z);
     while v.node < e {
         let j = v.node;
         if v.call {
@@ -329,7 +305,7 @@ fn eval_filter(
             return;
         }
         evaluate_segment(lent, state, list, j, rest);
-        if state[CAP] < state[AT] {
+        if state.cap < state.at {
             return;
         }
         if v.seen {
@@ -339,7 +315,7 @@ fn eval_filter(
                 seen: false,
             };
         } else {
-            v = next_kept(lent, state[ROOT], j + 1, e, p + 3, z);
+            v = next_kept(lent, state.root, j + 1, e, p + 3, z);
         }
     }
 }
@@ -347,14 +323,13 @@ fn eval_filter(
 // The first node from i on for which the test from p up to z holds, or that meets a call of match or search, or e. A node for which a query was evaluated in front of the
 // call is told to its end, so that nothing is evaluated twice, and those behind it go by cells.
 #[cycle(evaluation)]
-fn next_kept(lent: &[&[u8]; 4], root: usize, i: usize, e: usize, p: usize, z: usize) -> Next
-    requires { AskNext lent.now root i e p z }
+fn next_kept(lent: &Lent, root: usize, i: usize, e: usize, p: usize, z: usize) -> Next
+    requires { AskNext lent.now root i e p z × (i ≤ e) }
     ensures { DoneNext lent.now root i e p z result.node result.call }
 {
-    let mut j = i;
-    while j < e {
+    for j in i..e {
         let s = eval_filter_expr(lent, root, j, false, p, z, true);
-        if s.call {
+        if s.q < z {
             if !s.deep {
                 return Next {
                     node: j,
@@ -383,10 +358,9 @@ fn next_kept(lent: &[&[u8]; 4], root: usize, i: usize, e: usize, p: usize, z: us
                 seen: false,
             };
         }
-        j += 1;
     }
     Next {
-        node: j,
+        node: e,
         call: false,
         seen: false,
     }
@@ -396,7 +370,7 @@ fn next_kept(lent: &[&[u8]; 4], root: usize, i: usize, e: usize, p: usize, z: us
 // at which it ends where `stop`.
 #[cycle(evaluation)]
 fn eval_filter_expr(
-    lent: &[&[u8]; 4],
+    lent: &Lent,
     root: usize,
     node: usize,
     acc: bool,
@@ -408,20 +382,13 @@ fn eval_filter_expr(
     requires ask_rest { AskRest (plan_of lent.now) (pool_of lent.now) (table_of lent.now) (text_of lent.now) root node «acc» p e }
     ensures { DoneSaid (plan_of lent.now) (pool_of lent.now) (table_of lent.now) (text_of lent.now) root node «acc» p e «stop» result }
 {
+    // The steps differ, so that `for` is no plainer.
     let mut b = acc;
     let mut q = p;
     let mut deep = false;
     while q < e {
         let t = eval_filters::plain_turn(
-            lent[PLAN],
-            lent[POOL],
-            lent[TABLE],
-            lent[TEXT],
-            root,
-            node,
-            b,
-            q,
-            e,
+            lent.plan, lent.pool, lent.table, lent.text, root, node, b, q, e,
         );
         if t.some {
             b = t.acc;
@@ -429,12 +396,7 @@ fn eval_filter_expr(
         } else {
             if stop {
                 if eval_shortcuts::is_call(lent, root, node, q, e) {
-                    return Said {
-                        acc: b,
-                        q,
-                        call: true,
-                        deep,
-                    };
+                    return Said { acc: b, q, deep };
                 }
             }
             let r = eval_test(lent, root, node, b, q, e);
@@ -443,21 +405,17 @@ fn eval_filter_expr(
             deep = true;
         }
     }
-    Said {
-        acc: b,
-        q: e,
-        call: false,
-        deep,
-    }
+    Said { acc: b, q: e, deep }
 }
 
 // The answer of a test's code from p on, with an answer before it, by registers, up to where nothing stands in them, and the place behind; the code ends at e.
 #[cycle(evaluation)]
-fn eval_test(lent: &[&[u8]; 4], root: usize, node: usize, acc: bool, p: usize, e: usize) -> Told
+fn eval_test(lent: &Lent, root: usize, node: usize, acc: bool, p: usize, e: usize) -> Told
     requires within { Within (plan_of lent.now) (pool_of lent.now) (table_of lent.now) (text_of lent.now) root node }
     requires ask_turn { AskTurn (plan_of lent.now) (pool_of lent.now) (table_of lent.now) (text_of lent.now) root node «acc» p e }
     ensures { DoneTested (plan_of lent.now) (pool_of lent.now) (table_of lent.now) (text_of lent.now) root node «acc» p e result }
 {
+    // The steps differ, so that `for` is no plainer.
     let mut s = Regs {
         acc,
         x: Operand::Nothing,
@@ -473,11 +431,11 @@ fn eval_test(lent: &[&[u8]; 4], root: usize, node: usize, acc: bool, p: usize, e
             };
         }
         let q = s.q;
-        let plan = lent[PLAN];
+        let plan = lent.plan;
         if plan[q] <= CURRENT {
             s = eval_query(lent, root, node, s);
         } else {
-            s = leaves::plain_expr(plan, lent[POOL], lent[TABLE], lent[TEXT], s);
+            s = leaves::plain_expr(plan, lent.pool, lent.table, lent.text, s);
         }
     }
     Told {
@@ -490,17 +448,17 @@ fn eval_test(lent: &[&[u8]; 4], root: usize, node: usize, acc: bool, p: usize, e
 // The query in a filter's code at s.q, with what is asked of it: "a query inside it is evaluated by the same rules". Where names and indices lead to its end, or
 // to nothing, no call is needed.
 #[cycle(evaluation)]
-fn eval_query(lent: &[&[u8]; 4], root: usize, node: usize, s: Regs) -> Regs
+fn eval_query(lent: &Lent, root: usize, node: usize, s: Regs) -> Regs
     requires within { Within (plan_of lent.now) (pool_of lent.now) (table_of lent.now) (text_of lent.now) root node }
     requires ask_query { AskQuery (plan_of lent.now) (pool_of lent.now) (table_of lent.now) (text_of lent.now) root node s }
     ensures { DoneQuery (plan_of lent.now) (pool_of lent.now) (table_of lent.now) (text_of lent.now) root node s result }
 {
-    let plan = lent[PLAN];
-    let table = lent[TABLE];
-    let text = lent[TEXT];
+    let plan = lent.plan;
+    let table = lent.table;
+    let text = lent.text;
     let q = s.q;
     let from = leaves::begins(plan[q], root, node);
-    let r = eval_front::reach(plan, lent[POOL], table, text, from, q + 1);
+    let r = eval_front::reach(plan, lent.pool, table, text, from, q + 1);
     let m = r.node;
     let pc = r.pc;
     let z = plans::past_query(plan, pc);
@@ -512,11 +470,15 @@ fn eval_query(lent: &[&[u8]; 4], root: usize, node: usize, s: Regs) -> Regs
         return answers::to_registers(table, text, s, mode, z, 1, m);
     }
     let cap = leaves::cap_of(mode);
-    let mut state = [from, cap, 0];
+    let mut state = State {
+        root: from,
+        cap,
+        at: 0,
+    };
     let mut one = [0u32; 1];
     let mut places = &mut one[0..];
     evaluate_segment(lent, &mut state, &mut places, m, pc);
-    let n = state[AT];
+    let n = state.at;
     let head = places[0];
     answers::to_registers(table, text, s, mode, z, n, head as usize)
 }

@@ -7,7 +7,7 @@ ghost use Rattle.eval_asks.specs.Cells.{Column};
 ghost use Rattle.eval_asks.specs.Rows.{AskRows, DoneKept, AskCells};
 
 use crate::{eval_filter_expr, evaluate_segment};
-use eval_asks::{AT, CAP, ROOT, cells};
+use eval_asks::{Lent, State, cells};
 
 // So many nodes have cells at most.
 const CELLS: usize = 256;
@@ -41,8 +41,8 @@ fn chunk_end(i: usize, e: usize, n: usize) -> usize
 // The nodes from i up to e for which the test from p up to z holds, each with the segments at rest.
 #[cycle(evaluation)]
 pub fn keep(
-    lent: &[&[u8]; 4],
-    state: &mut [usize; 3],
+    lent: &Lent,
+    state: &mut State,
     list: &mut &mut [u32],
     i: usize,
     e: usize,
@@ -59,24 +59,25 @@ pub fn keep(
     if e <= j {
         return;
     }
+    // A loop over j: a turn that fills cells stays at its node, so that `for` is no plainer.
     let mut column = [0u32; CELLS];
     let mut b = j;
     let mut k = j;
     while j < e {
-        let at = state[AT];
-        let cap = state[CAP];
+        let at = state.at;
+        let cap = state.cap;
         if cap < at {
             return;
         }
         if k <= j {
             k = chunk_end(j, e, chunk(j - i, cap - at));
-            tell(lent, state[ROOT], j, k, p, z, &mut column);
+            tell(lent, state.root, j, k, p, z, &mut column);
             b = j;
         } else {
             let c = column[j - b];
             let s = eval_filter_expr(
                 lent,
-                state[ROOT],
+                state.root,
                 j,
                 cells::answer(c),
                 cells::place(c),
@@ -95,11 +96,12 @@ pub fn keep(
 
 // The cells of the nodes from i up to e with the test from p up to z. Where they stand at a test that needs a query evaluated, with a call behind it, they go on by themselves.
 #[cycle(evaluation)]
-fn tell(lent: &[&[u8]; 4], root: usize, i: usize, e: usize, p: usize, z: usize, column: &mut [u32])
+fn tell(lent: &Lent, root: usize, i: usize, e: usize, p: usize, z: usize, column: &mut [u32])
     requires { AskNext lent.now root i e p z × ((i < e) × (e - i ≤ length column.old)) }
     ensures { Column (plan_of lent.now) (pool_of lent.now) (table_of lent.now) (text_of lent.now) root i e p z column.new }
 {
     cells::lay(column, e - i, p);
+    // The steps differ, so that `for` is no plainer.
     let mut q = eval_shortcuts::fill_cells(lent, root, i, e, p, z, p, column);
     while q < z {
         turn(lent, root, i, e, p, z, q, column);
@@ -110,7 +112,7 @@ fn tell(lent: &[&[u8]; 4], root: usize, i: usize, e: usize, p: usize, z: usize, 
 // The same with the nodes that stand at q told up to the next call.
 #[cycle(evaluation)]
 fn turn(
-    lent: &[&[u8]; 4],
+    lent: &Lent,
     root: usize,
     i: usize,
     e: usize,
@@ -122,15 +124,12 @@ fn turn(
     requires { AskCells lent.now root i e p z column.old × (p ≤ q) }
     ensures { Column (plan_of lent.now) (pool_of lent.now) (table_of lent.now) (text_of lent.now) root i e p z column.new }
 {
-    let mut j = i;
-    while j < e {
+    for j in i..e {
         let c = column[j - i];
-        if cells::place(c) == q {
-            let s = eval_filter_expr(lent, root, j, cells::answer(c), q, z, true);
-            column[j - i] = cells::cell(s.acc, s.q);
-            j += 1;
-        } else {
-            j += 1;
+        if cells::place(c) != q {
+            continue;
         }
+        let s = eval_filter_expr(lent, root, j, cells::answer(c), q, z, true);
+        column[j - i] = cells::cell(s.acc, s.q);
     }
 }

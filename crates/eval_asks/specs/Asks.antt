@@ -2,7 +2,7 @@
 -- what is lent, s and l the numbers and the list before a call, s' and l' behind it. Assumes nothing: these are definitions.
 use Rattle.std.specs.Prelude.{ℕ, ◌+◌, ◌≤◌, ◌<◌, ◌≡◌, List, [], ◌∷◌, Bool as Bits, true, false, ◌||◌, eqb, pos, length, get_or}
 use denote.Ref.{at_last}
-use Rattle.std.specs.Borrow.{Bor, MutBor}
+use Rattle.std.specs.Borrow.{MutBor}
 use Rattle.definition.specs.Limits.{max_plan, max_int}
 use Rattle.definition.specs.Values.{Json}
 use Rattle.definition.specs.Forms.{Segments as Tail, Selectors, Selector, Test}
@@ -25,6 +25,8 @@ use Rattle.eval_items.specs.declared.Regs.{Regs}
 use Rattle.eval_front.specs.Visits.{cap_limit, Given, Query, over}
 use Rattle.eval_front.specs.Stands.{Alone}
 use Rattle.eval_filters.specs.Kept.{Tested, AskTest}
+use Rattle.eval_asks.specs.declared.Lent.{Lent}
+use Rattle.eval_asks.specs.declared.State.{State as Numbers}
 use Rattle.eval_asks.specs.Lent.{plan_of, pool_of, table_of, text_of, root_of, cap_of, at_of}
 
 -- ---- where evaluation begins
@@ -52,49 +54,47 @@ DoneSegments cap P L S X root node pc l at l' r =
 -- ---- what every function of evaluation asks, keeps and gives
 
 -- the plan, the pool and the table, the node that `$` stands for, and a list of which the next place is to be set
-pub record Asked (v : List (Bor (List ℕ))) (s l : List ℕ) : Type 0 where
+pub record Asked (v : Lent) (s : Numbers) (l : List ℕ) : Type 0 where
   pub given : Given (plan_of v) (pool_of v) (table_of v) (text_of v)
   pub root_in : root_of s < node_count (table_of v)
   pub room : at_of s ≤ cap_of s + 1
   pub wide : length l ≤ cap_of s + 1
   pub small : cap_of s < cap_limit
-  pub three : length s ≡ 3
 
 -- the node that `$` stands for, the cap and the length of the list stay; the reference to the list is the one that was handed on
-pub record Steady (s : List ℕ) (l : MutBor (List ℕ)) (s' : List ℕ) (l' : MutBor (List ℕ)) : Type 0 where
-  pub three : length s' ≡ length s
+pub record Steady (s : Numbers) (l : MutBor (List ℕ)) (s' : Numbers) (l' : MutBor (List ℕ)) : Type 0 where
   pub root : root_of s' ≡ root_of s
   pub cap : cap_of s' ≡ cap_of s
   pub long : length l'.now ≡ length l.now
   pub same : l' ≡ at_last l l'.now
 
 -- for every form x that stands there, F of it is emitted
-pub record Gives (I : Type 0) (F : I → ℕ → State → State) (s l s' l' : List ℕ) : Type 0 where
+pub record Gives (I : Type 0) (F : I → ℕ → State → State) (s : Numbers) (l : List ℕ) (s' : Numbers) (l' : List ℕ) : Type 0 where
   pub emits : (x : I) (R C : ℕ) → root_of s ≡ R → cap_of s ≡ C → st C l' (at_of s') ≡ F x R (st C l (at_of s))
 
 -- ---- one node with the segments at pc
 
-pub record AskSegment (v : List (Bor (List ℕ))) (node pc : ℕ) : Type 0 where
+pub record AskSegment (v : Lent) (node pc : ℕ) : Type 0 where
   pub node_in : node < node_count (table_of v)
   pub query : Query (plan_of v) (pool_of v) pc
 
-abbrev pub DoneSegment : List (Bor (List ℕ)) → ℕ → ℕ → List ℕ → List ℕ → List ℕ → List ℕ → Type 0
+abbrev pub DoneSegment : Lent → ℕ → ℕ → Numbers → List ℕ → Numbers → List ℕ → Type 0
 DoneSegment v node pc s l s' l' =
     Gives (Query (plan_of v) (pool_of v) pc) (λ x R. go x.f (node_at (table_of v) (text_of v) R) (node_at (table_of v) (text_of v) node ∷ [])) s l s' l'
 
 -- the entrance
-pub record AskEnter (v : List (Bor (List ℕ))) (node pc : ℕ) (s l : List ℕ) : Type 0 where
+pub record AskEnter (v : Lent) (node pc : ℕ) (s : Numbers) (l : List ℕ) : Type 0 where
   pub asked : Asked v s l
   pub segment : AskSegment v node pc
   pub going : get_or (plan_of v) pc 0 ≡ 0x0A → ⊥
 
-pub record Entered (v : List (Bor (List ℕ))) (node pc : ℕ) (s : List ℕ) (l : MutBor (List ℕ)) (s' : List ℕ) (l' : MutBor (List ℕ)) : Type 0 where
+pub record Entered (v : Lent) (node pc : ℕ) (s : Numbers) (l : MutBor (List ℕ)) (s' : Numbers) (l' : MutBor (List ℕ)) : Type 0 where
   pub kept : Steady s l s' l'
   pub gives : DoneSegment v node pc s l.now s' l'.now
 
 -- ---- the selectors of the segment at pc on a node
 
-pub record AskSelectors (v : List (Bor (List ℕ))) (node pc : ℕ) : Type 0 where
+pub record AskSelectors (v : Lent) (node pc : ℕ) : Type 0 where
   pub node_in : node < node_count (table_of v)
   pub query : Query (plan_of v) (pool_of v) pc
   pub going : get_or (plan_of v) pc 0 ≡ 0x0A → ⊥
@@ -105,7 +105,7 @@ pub record Parted (P L : List ℕ) (pc : ℕ) : Type 0 where
   pub f : Tail
   pub parts : Parts P L pc k f
 
-abbrev pub DoneSelectors : List (Bor (List ℕ)) → ℕ → ℕ → List ℕ → List ℕ → List ℕ → List ℕ → Type 0
+abbrev pub DoneSelectors : Lent → ℕ → ℕ → Numbers → List ℕ → Numbers → List ℕ → Type 0
 DoneSelectors v node pc s l s' l' =
     Gives (Parted (plan_of v) (pool_of v) pc) (λ x R. go x.parts.q (node_at (table_of v) (text_of v) R) (eval_selectors x.parts.ss (node_at (table_of v) (text_of v) R) (node_at (table_of v) (text_of v) node))) s l s' l'
 
@@ -117,25 +117,25 @@ pub record Descends (P L : List ℕ) (pc : ℕ) : Type 0 where
   pub k : ℕ
   pub at : SegmentsAt P L pc k (descendant ss q)
 
-pub record AskDescent (v : List (Bor (List ℕ))) (node pc : ℕ) : Type 0 where
+pub record AskDescent (v : Lent) (node pc : ℕ) : Type 0 where
   pub node_in : node < node_count (table_of v)
   pub descends : Descends (plan_of v) (pool_of v) pc
 
-abbrev pub DoneDescent : List (Bor (List ℕ)) → ℕ → ℕ → List ℕ → List ℕ → List ℕ → List ℕ → Type 0
+abbrev pub DoneDescent : Lent → ℕ → ℕ → Numbers → List ℕ → Numbers → List ℕ → Type 0
 DoneDescent v node pc s l s' l' =
     Gives (Descends (plan_of v) (pool_of v) pc) (λ x R. go x.q (node_at (table_of v) (text_of v) R) (below x.ss (node_at (table_of v) (text_of v) R) (node_at (table_of v) (text_of v) node))) s l s' l'
 
 -- and on the nodes of a range, as far as no call is needed
-pub record AskFlats (v : List (Bor (List ℕ))) (i e pc : ℕ) : Type 0 where
+pub record AskFlats (v : Lent) (i e pc : ℕ) : Type 0 where
   pub upto : i ≤ e
   pub range : i < e → e ≤ node_count (table_of v)
   pub descends : Descends (plan_of v) (pool_of v) pc
 
 -- what the descendant segment emits on the nodes from i up to e
-abbrev pub descent : (v : List (Bor (List ℕ))) → (pc i e : ℕ) → Descends (plan_of v) (pool_of v) pc → ℕ → State → State
+abbrev pub descent : (v : Lent) → (pc i e : ℕ) → Descends (plan_of v) (pool_of v) pc → ℕ → State → State
 descent v pc i e x R = over x.q (node_at (table_of v) (text_of v) R) (below x.ss (node_at (table_of v) (text_of v) R)) (table_of v) (text_of v) i e
 
-pub record DoneFlats (v : List (Bor (List ℕ))) (i e pc : ℕ) (s l s' l' : List ℕ) (r : ℕ) : Type 0 where
+pub record DoneFlats (v : Lent) (i e pc : ℕ) (s : Numbers) (l : List ℕ) (s' : Numbers) (l' : List ℕ) (r : ℕ) : Type 0 where
   pub low : i ≤ r
   pub high : r ≤ e
   pub room : at_of s' ≤ cap_of s + 1
@@ -150,54 +150,54 @@ pub record Selects (P L : List ℕ) (p rest : ℕ) : Type 0 where
   pub k' : ℕ
   pub stands : Alone P L p rest x q k k'
 
-pub record AskSelector (v : List (Bor (List ℕ))) (node p rest : ℕ) : Type 0 where
+pub record AskSelector (v : Lent) (node p rest : ℕ) : Type 0 where
   pub node_in : node < node_count (table_of v)
   pub selects : Selects (plan_of v) (pool_of v) p rest
 
-abbrev pub AskKind : List (Bor (List ℕ)) → ℕ → ℕ → Type 0
+abbrev pub AskKind : Lent → ℕ → ℕ → Type 0
 AskKind v p kind = get_or (plan_of v) p 0 ≡ kind
 
 -- what the selector emits of a node
-abbrev pub selection : (v : List (Bor (List ℕ))) → (node p rest : ℕ) → Selects (plan_of v) (pool_of v) p rest → ℕ → State → State
+abbrev pub selection : (v : Lent) → (node p rest : ℕ) → Selects (plan_of v) (pool_of v) p rest → ℕ → State → State
 selection v node p rest x R = go x.q (node_at (table_of v) (text_of v) R) (eval_selector x.x (node_at (table_of v) (text_of v) R) (node_at (table_of v) (text_of v) node))
 
-abbrev pub DoneSelector : List (Bor (List ℕ)) → ℕ → ℕ → ℕ → List ℕ → List ℕ → List ℕ → List ℕ → Type 0
+abbrev pub DoneSelector : Lent → ℕ → ℕ → ℕ → Numbers → List ℕ → Numbers → List ℕ → Type 0
 DoneSelector v node p rest s l s' l' = Gives (Selects (plan_of v) (pool_of v) p rest) (selection v node p rest) s l s' l'
 
 -- the same, or nothing is done
-pub record DoneKeep (v : List (Bor (List ℕ))) (node p rest : ℕ) (s l s' l' : List ℕ) (r : Bits) : Type 0 where
+pub record DoneKeep (v : Lent) (node p rest : ℕ) (s : Numbers) (l : List ℕ) (s' : Numbers) (l' : List ℕ) (r : Bits) : Type 0 where
   pub done : r ≡ true → DoneSelector v node p rest s l s' l'
   pub numbers : r ≡ false → s' ≡ s
   pub list : r ≡ false → l' ≡ l
 
 -- ---- the nodes from i up to e, each with the segments at rest
 
-pub record AskEach (v : List (Bor (List ℕ))) (i e rest : ℕ) : Type 0 where
+pub record AskEach (v : Lent) (i e rest : ℕ) : Type 0 where
   pub range : i < e → e ≤ node_count (table_of v)
   pub query : Query (plan_of v) (pool_of v) rest
 
-abbrev pub each : (v : List (Bor (List ℕ))) → (rest i e : ℕ) → Query (plan_of v) (pool_of v) rest → ℕ → State → State
+abbrev pub each : (v : Lent) → (rest i e : ℕ) → Query (plan_of v) (pool_of v) rest → ℕ → State → State
 each v rest i e x R = over x.f (node_at (table_of v) (text_of v) R) one_of (table_of v) (text_of v) i e
 
-abbrev pub DoneEach : List (Bor (List ℕ)) → ℕ → ℕ → ℕ → List ℕ → List ℕ → List ℕ → List ℕ → Type 0
+abbrev pub DoneEach : Lent → ℕ → ℕ → ℕ → Numbers → List ℕ → Numbers → List ℕ → Type 0
 DoneEach v i e rest s l s' l' = Gives (Query (plan_of v) (pool_of v) rest) (each v rest i e) s l s' l'
 
 -- the same from the first node on that needs a call
-pub record DoneAhead (v : List (Bor (List ℕ))) (i e rest : ℕ) (s l s' l' : List ℕ) (r : ℕ) : Type 0 where
+pub record DoneAhead (v : Lent) (i e rest : ℕ) (s : Numbers) (l : List ℕ) (s' : Numbers) (l' : List ℕ) (r : ℕ) : Type 0 where
   pub low : i ≤ r
   pub room : at_of s' ≤ cap_of s + 1
   pub goes : (x : Query (plan_of v) (pool_of v) rest) (R C : ℕ) → root_of s ≡ R → cap_of s ≡ C → each v rest r e x R (st C l' (at_of s')) ≡ each v rest i e x R (st C l (at_of s))
 
 -- ---- the first node from i on for which the test from p up to z holds
 
-pub record AskNext (v : List (Bor (List ℕ))) (root i e p z : ℕ) : Type 0 where
+pub record AskNext (v : Lent) (root i e p z : ℕ) : Type 0 where
   pub given : Given (plan_of v) (pool_of v) (table_of v) (text_of v)
   pub root_in : root < node_count (table_of v)
   pub range : i < e → e ≤ node_count (table_of v)
   pub test : AskTest (plan_of v) (pool_of v) p z
 
 -- or that meets a call
-pub record DoneNext (v : List (Bor (List ℕ))) (root i e p z r : ℕ) (call : Bits) : Type 0 where
+pub record DoneNext (v : Lent) (root i e p z r : ℕ) (call : Bits) : Type 0 where
   pub low : i ≤ r
   pub high : i ≤ e → r ≤ e
   pub passed : (t : Test) (k : ℕ) → Tested (plan_of v) (pool_of v) p z t k → (m : ℕ) → i ≤ m → m < r → eval_test t (node_at (table_of v) (text_of v) root) (node_at (table_of v) (text_of v) m) ≡ false

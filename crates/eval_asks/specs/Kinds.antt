@@ -1,9 +1,9 @@
 -- The selectors by their kinds: from what `apply_selector` has at hand to what each function asks, and from what that gives to what was asked; the invariants of the
 -- loops over places, children and kept children, and their turns. P is the plan, L the pool, S the table, X the text; v is what is lent. Assumes nothing.
-use Rattle.std.specs.Prelude.{ℕ, zero, suc, ◌+◌, ◌-◌, ◌≤◌, ◌<◌, ◌≡◌, refl, List, [], ◌∷◌, Bool as Bits, true, false, eqb, length, get_or, set}
+use Rattle.std.specs.Prelude.{ℕ, zero, suc, ◌+◌, ◌-◌, ◌≤◌, ◌<◌, ◌≡◌, refl, List, [], ◌∷◌, Bool as Bits, true, false, eqb, length, get_or}
 use Rattle.std.proofs.Common.{sym, ap, ◌∙◌, subst, eqb-true, arith}
 use Rattle.std.proofs.lemmas.Bool.{eqb-false}
-use Rattle.std.specs.Borrow.{Bor, MutBor}
+use Rattle.std.specs.Borrow.{MutBor}
 use Rattle.definition.specs.Limits.{max_nodes}
 use Rattle.definition.specs.Forms.{Segments, Test}
 use Rattle.definition.specs.Tables.{node_count, node_at, child_count, low_word}
@@ -27,9 +27,11 @@ use Rattle.eval_front.specs.Places.{goes_places, goes_step, goes_end}
 use Rattle.eval_front.specs.Stands.{kind_low, kind_high, alone_in, one_found, one_absent, slice_asked, slice_done, filter_end}
 use Rattle.eval_front.specs.Spans.{over_range, wildcard_range}
 use Rattle.eval_filters.specs.Kept.{Tested, AskTest, DoneTest, tested_of}
-use Rattle.eval_asks.specs.Lent.{plan_of, pool_of, table_of, text_of, root_of, cap_of, at_of}
-use Rattle.eval_asks.specs.Asks.{Asked, Steady, Gives, AskEnter, AskSegment, DoneSegment, AskSelector, AskKind, DoneSelector, Selects, selection, DoneKeep, AskEach, DoneEach, each, AskNext, DoneNext}
-use Rattle.eval_asks.specs.Steady.{steady_refl, steady_then, asked_later, gives_wrote, gives_none, gives_as, Going, going_asked, going_on, going_step, going_end, going_full, going_last}
+use Rattle.eval_asks.specs.declared.Lent.{Lent}
+use Rattle.eval_asks.specs.declared.State.{State as Numbers}
+use Rattle.eval_asks.specs.Lent.{plan_of, pool_of, table_of, text_of, root_of, cap_of, at_of, with_at}
+use Rattle.eval_asks.specs.Asks.{Asked, Steady, Gives, AskEnter, AskSegment, DoneSegment, AskSelector, DoneSelector, Selects, selection, DoneKeep, AskEach, DoneEach, each, AskNext, DoneNext}
+use Rattle.eval_asks.specs.Steady.{steady_refl, gives_of, gives_none, gives_as, Going, going_asked, going_on, going_step, going_end, going_full, going_last}
 
 -- ---- forms
 
@@ -43,16 +45,16 @@ pub record Keeps (P L : List ℕ) (p z rest : ℕ) : Type 0 where
   pub after : SegmentsAt P L rest k' q
 
 -- what is emitted for the nodes from j up to e for which the test holds
-abbrev pub keeping : (v : List (Bor (List ℕ))) → (p z rest j e : ℕ) → Keeps (plan_of v) (pool_of v) p z rest → ℕ → State → State
+abbrev pub keeping : (v : Lent) → (p z rest j e : ℕ) → Keeps (plan_of v) (pool_of v) p z rest → ℕ → State → State
 keeping v p z rest j e x R = over x.q (node_at (table_of v) (text_of v) R) (kept x.t (node_at (table_of v) (text_of v) R)) (table_of v) (text_of v) j e
 
 -- what is emitted for the nodes that are the places of a walk
-abbrev pub placing : (v : List (Bor (List ℕ))) → (rest : ℕ) → Walk → Query (plan_of v) (pool_of v) rest → ℕ → State → State
+abbrev pub placing : (v : Lent) → (rest : ℕ) → Walk → Query (plan_of v) (pool_of v) rest → ℕ → State → State
 placing v rest w x R = goes x.f (node_at (table_of v) (text_of v) R) (table_of v) (text_of v) (walked w)
 
 -- ---- a name or an index
 
-module _ {v : List (Bor (List ℕ))} {s l : List ℕ} {node p rest : ℕ} (a : Asked v s l) (q : AskSelector v node p rest) where
+module _ {v : Lent} {s : Numbers} {l : List ℕ} {node p rest : ℕ} (a : Asked v s l) (q : AskSelector v node p rest) where
   abbrev S : List ℕ
   S = table_of v
 
@@ -87,7 +89,7 @@ module _ {v : List (Bor (List ℕ))} {s l : List ℕ} {node p rest : ℕ} (a : A
     pub found_asked : (m : ℕ) → r ≡ At m → AskSegment v m rest
     found_asked m e = record { node_in = d.inside m e; query = behind q.selects }
 
-    pub selector_found : (m : ℕ) → r ≡ At m → {s' l' : List ℕ} → DoneSegment v m rest s l s' l' → DoneSelector v node p rest s l s' l'
+    pub selector_found : (m : ℕ) → r ≡ At m → {s' : Numbers} {l' : List ℕ} → DoneSegment v m rest s l s' l' → DoneSelector v node p rest s l s' l'
     selector_found m e g = gives_as _ g behind (λ x R σ. one_found S X x.x _ _ x.q r m σ _ e (d.selects x.x x.k _ x.stands.selector) refl)
 
   -- ---- a wildcard
@@ -96,7 +98,7 @@ module _ {v : List (Bor (List ℕ))} {s l : List ℕ} {node p rest : ℕ} (a : A
     pub each_asked : AskEach v i (i + n) rest
     each_asked = record { range = λ h. range_in S X a.given.tab node q.node_in i n g (omega arith); query = behind q.selects }
 
-    pub wildcard_done : get_or (plan_of v) p 0 ≡ 8 → {s' l' : List ℕ} → DoneEach v i (i + n) rest s l s' l' → DoneSelector v node p rest s l s' l'
+    pub wildcard_done : get_or (plan_of v) p 0 ≡ 8 → {s' : Numbers} {l' : List ℕ} → DoneEach v i (i + n) rest s l s' l' → DoneSelector v node p rest s l s' l'
     wildcard_done e d = gives_as _ d behind (λ x R σ. wildcard_range (plan_of v) (pool_of v) S X a.given.tab node p i n q.node_in g e x.x x.q x.k x.stands.selector _ σ)
 
   -- ---- a slice
@@ -128,12 +130,12 @@ module _ {v : List (Bor (List ℕ))} {s l : List ℕ} {node p rest : ℕ} (a : A
         places_same : (x : Selects (plan_of v) (pool_of v) p rest) (R : ℕ) (σ : State) → goes x.q (node_at S X R) S X (walked u) σ ≡ selection v node p rest x R σ
         places_same x R σ = f.picks (child_count S node) d.inside X x.q _ σ ∙ slice_done a.given.tab q.node_in from_range (sliced x) w d x.q _ σ
 
-        pub slice_ended : get_or (plan_of v) rest 0 ≡ 0x0A → (l' : List ℕ) (n : ℕ) → st (cap_of s) l' n ≡ emit (walked u) (st (cap_of s) l (at_of s)) → DoneSelector v node p rest s l (set s 2 n) l'
+        pub slice_ended : get_or (plan_of v) rest 0 ≡ 0x0A → (l' : List ℕ) (n : ℕ) → st (cap_of s) l' n ≡ emit (walked u) (st (cap_of s) l (at_of s)) → DoneSelector v node p rest s l (with_at s n) l'
         slice_ended z l' n m =
-            gives_wrote _ s l l' n a
+            gives_of _ s l (with_at s n) l'
             (λ x. m ∙ goes_places x.q _ S X a.given.tab (is_end (plan_of v) rest x.k' x.q x.stands.after.holds z) u _ placed_in ∙ places_same x (root_of s) _)
 
-        pub slice_done_all : {s' l' : List ℕ} → Gives (Query (plan_of v) (pool_of v) rest) (placing v rest u) s l s' l' → DoneSelector v node p rest s l s' l'
+        pub slice_done_all : {s' : Numbers} {l' : List ℕ} → Gives (Query (plan_of v) (pool_of v) rest) (placing v rest u) s l s' l' → DoneSelector v node p rest s l s' l'
         slice_done_all g = gives_as _ g behind places_same
 
   -- ---- a filter
@@ -175,30 +177,30 @@ module _ {v : List (Bor (List ℕ))} {s l : List ℕ} {node p rest : ℕ} (a : A
         pub next_asked : (j : ℕ) → i ≤ j → AskNext v (root_of s) j (i + c) (p + 3) (p + 3 + n)
         next_asked j h = record { given = a.given; root_in = a.root_in; range = λ y. kept_in_table (omega arith); test = test_asked }
 
-        pub filter_done : {s' l' : List ℕ} → Gives (Keeps (plan_of v) (pool_of v) (p + 3) (p + 3 + n) rest) (keeping v (p + 3) (p + 3 + n) rest i (i + c)) s l s' l' → DoneSelector v node p rest s l s' l'
+        pub filter_done : {s' : Numbers} {l' : List ℕ} → Gives (Keeps (plan_of v) (pool_of v) (p + 3) (p + 3 + n) rest) (keeping v (p + 3) (p + 3 + n) rest i (i + c)) s l s' l' → DoneSelector v node p rest s l s' l'
         filter_done g = gives_as _ g (λ x. record { t = (filtered x).t; k = x.k; q = x.q; k' = x.k'; tested = tests x; after = x.stands.after }) kept_same
 
 -- ---- the children of a range
 
-pub record InEach (v : List (Bor (List ℕ))) (i e rest : ℕ) (s₀ : List ℕ) (l₀ : MutBor (List ℕ)) (s : List ℕ) (l : MutBor (List ℕ)) (j : ℕ) : Type 0 where
+pub record InEach (v : Lent) (i e rest : ℕ) (s₀ : Numbers) (l₀ : MutBor (List ℕ)) (s : Numbers) (l : MutBor (List ℕ)) (j : ℕ) : Type 0 where
   pub low : i ≤ j
   pub going : Going (each v rest i e) (each v rest j e) s₀ l₀ s l
 
-module _ {v : List (Bor (List ℕ))} {i e rest : ℕ} where
-  pub each_ended : {s l : List ℕ} → Asked v s l → AskEach v i e rest → get_or (plan_of v) rest 0 ≡ 0x0A → (l' : List ℕ) (n : ℕ) → st (cap_of s) l' n ≡ emit (numbers_from i (e - i)) (st (cap_of s) l (at_of s)) → DoneEach v i e rest s l (set s 2 n) l'
+module _ {v : Lent} {i e rest : ℕ} where
+  pub each_ended : {s : Numbers} {l : List ℕ} → Asked v s l → AskEach v i e rest → get_or (plan_of v) rest 0 ≡ 0x0A → (l' : List ℕ) (n : ℕ) → st (cap_of s) l' n ≡ emit (numbers_from i (e - i)) (st (cap_of s) l (at_of s)) → DoneEach v i e rest s l (with_at s n) l'
   each_ended {s} {l} a q z l' n m =
-      gives_wrote _ s l l' n a
+      gives_of _ s l (with_at s n) l'
       (λ x. m ∙ sym (over_numbers _ (table_of v) (text_of v) a.given.tab i e _ q.range)
       ∙ ap (λ (f : Segments). over f _ one_of (table_of v) (text_of v) i e (st (cap_of s) l (at_of s))) (sym (is_end (plan_of v) rest x.k x.f x.at.holds z)))
 
-  pub each_none : {s l : List ℕ} → Asked v s l → e ≤ i → DoneEach v i e rest s l s l
+  pub each_none : {s : Numbers} {l : List ℕ} → Asked v s l → e ≤ i → DoneEach v i e rest s l s l
   each_none {s} {l} a h = gives_none _ s l (λ x R σ. sym (over_end x.f _ one_of (table_of v) (text_of v) i e σ h))
 
-  pub numbers_asked : {s l : List ℕ} → Asked v s l → AskEach v i e rest → i < e → AskNumbers (length l) e (at_of s) (cap_of s)
+  pub numbers_asked : {s : Numbers} {l : List ℕ} → Asked v s l → AskEach v i e rest → i < e → AskNumbers (length l) e (at_of s) (cap_of s)
   numbers_asked a q h = record { room = a.room; wide = a.wide; small = a.small; few = omega (arith, q.range h, a.given.tab.size.few) }
 
-  module _ {s₀ : List ℕ} {l₀ : MutBor (List ℕ)} {s : List ℕ} {l : MutBor (List ℕ)} {j : ℕ} (t : InEach v i e rest s₀ l₀ s l j) where
-    pub each_again : j < e → {s' : List ℕ} {l' : MutBor (List ℕ)} → Steady s l s' l' → at_of s' ≤ cap_of s + 1 → DoneSegment v j rest s l.now s' l'.now → InEach v i e rest s₀ l₀ s' l' (j + 1)
+  module _ {s₀ : Numbers} {l₀ : MutBor (List ℕ)} {s : Numbers} {l : MutBor (List ℕ)} {j : ℕ} (t : InEach v i e rest s₀ l₀ s l j) where
+    pub each_again : j < e → {s' : Numbers} {l' : MutBor (List ℕ)} → Steady s l s' l' → at_of s' ≤ cap_of s + 1 → DoneSegment v j rest s l.now s' l'.now → InEach v i e rest s₀ l₀ s' l' (j + 1)
     each_again h k b d =
         record {
           low = omega (arith, t.low);
@@ -217,18 +219,18 @@ module _ {v : List (Bor (List ℕ))} {i e rest : ℕ} where
 
 -- ---- the places of a slice
 
-pub record InPlaces (v : List (Bor (List ℕ))) (rest : ℕ) (w₀ : Walk) (s₀ : List ℕ) (l₀ : MutBor (List ℕ)) (s : List ℕ) (l : MutBor (List ℕ)) (w : Walk) : Type 0 where
+pub record InPlaces (v : Lent) (rest : ℕ) (w₀ : Walk) (s₀ : Numbers) (l₀ : MutBor (List ℕ)) (s : Numbers) (l : MutBor (List ℕ)) (w : Walk) : Type 0 where
   pub inside : Inside (node_count (table_of v)) w
   pub going : Going (placing v rest w₀) (placing v rest w) s₀ l₀ s l
 
-module _ {v : List (Bor (List ℕ))} {rest : ℕ} {w₀ : Walk} {s₀ : List ℕ} {l₀ : MutBor (List ℕ)} {s : List ℕ} {l : MutBor (List ℕ)} {w : Walk} (t : InPlaces v rest w₀ s₀ l₀ s l w) where
+module _ {v : Lent} {rest : ℕ} {w₀ : Walk} {s₀ : Numbers} {l₀ : MutBor (List ℕ)} {s : Numbers} {l : MutBor (List ℕ)} {w : Walk} (t : InPlaces v rest w₀ s₀ l₀ s l w) where
   pub place_in : 0 < w.left → w.at < node_count (table_of v)
   place_in h = inside_at (node_count (table_of v)) w t.inside h
 
   pub place_near : node_count (table_of v) ≤ max_nodes → Inside max_nodes w
   place_near h = inside_more (node_count (table_of v)) max_nodes w h t.inside
 
-  pub places_again : {s' : List ℕ} {l' : MutBor (List ℕ)} {w' : Walk} → Steady s l s' l' → at_of s' ≤ cap_of s + 1 → DoneSegment v w.at rest s l.now s' l'.now → Further w w' → InPlaces v rest w₀ s₀ l₀ s' l' w'
+  pub places_again : {s' : Numbers} {l' : MutBor (List ℕ)} {w' : Walk} → Steady s l s' l' → at_of s' ≤ cap_of s + 1 → DoneSegment v w.at rest s l.now s' l'.now → Further w w' → InPlaces v rest w₀ s₀ l₀ s' l' w'
   places_again {w' = w'} k b d f =
       record {
         inside = f.next.inside (node_count (table_of v)) t.inside;
@@ -244,7 +246,7 @@ module _ {v : List (Bor (List ℕ))} {rest : ℕ} {w₀ : Walk} {s₀ : List ℕ
 -- ---- the children that a test keeps
 
 -- the nodes for which the test fails are passed
-module _ {v : List (Bor (List ℕ))} {root j e p z r : ℕ} {call : Bits} (d : DoneNext v root j e p z r call) (rest : ℕ) (x : Keeps (plan_of v) (pool_of v) p z rest) (σ : State) where
+module _ {v : Lent} {root j e p z r : ℕ} {call : Bits} (d : DoneNext v root j e p z r call) (rest : ℕ) (x : Keeps (plan_of v) (pool_of v) p z rest) (σ : State) where
   passed_by : r ≤ e → (o b : ℕ) → b + o ≡ r → j ≤ b → keeping v p z rest r e x root σ ≡ keeping v p z rest b e x root σ
   passed_by h zero b u y = let n : r ≡ b = omega arith in ap (λ (m : ℕ). keeping v p z rest m e x root σ) n
   passed_by h (suc o) b u y =
@@ -255,13 +257,13 @@ module _ {v : List (Bor (List ℕ))} {root j e p z r : ℕ} {call : Bits} (d : D
   passed h = let y = d.low in passed_by h (r - j) j (omega arith) (omega arith)
 
 -- node j is the next for which it holds or that meets a call, or e
-pub record InFilter (v : List (Bor (List ℕ))) (i e p z rest : ℕ) (s₀ : List ℕ) (l₀ : MutBor (List ℕ)) (s : List ℕ) (l : MutBor (List ℕ)) (j : ℕ) (call : Bits) : Type 0 where
+pub record InFilter (v : Lent) (i e p z rest : ℕ) (s₀ : Numbers) (l₀ : MutBor (List ℕ)) (s : Numbers) (l : MutBor (List ℕ)) (j : ℕ) (call : Bits) : Type 0 where
   pub low : i ≤ j
   pub high : j ≤ e
   pub holds : call ≡ false → j < e → (x : Keeps (plan_of v) (pool_of v) p z rest) → eval_test x.t (node_at (table_of v) (text_of v) (root_of s₀)) (node_at (table_of v) (text_of v) j) ≡ true
   pub going : Going (keeping v p z rest i e) (keeping v p z rest j e) s₀ l₀ s l
 
-pub filter_start : {v : List (Bor (List ℕ))} {i e p z j : ℕ} {call : Bits} (rest : ℕ) (s : List ℕ) (l : MutBor (List ℕ)) → Asked v s l.now → i ≤ e → DoneNext v (root_of s) i e p z j call → InFilter v i e p z rest s l s l j call
+pub filter_start : {v : Lent} {i e p z j : ℕ} {call : Bits} (rest : ℕ) (s : Numbers) (l : MutBor (List ℕ)) → Asked v s l.now → i ≤ e → DoneNext v (root_of s) i e p z j call → InFilter v i e p z rest s l s l j call
 filter_start {v} {i} {e} {p} {z} {j} rest s l a h d =
     record {
       low = d.low;
@@ -270,15 +272,15 @@ filter_start {v} {i} {e} {p} {z} {j} rest s l a h d =
       going = record { kept = steady_refl s l; room = a.room; again = λ x R C r c. subst (λ (R : ℕ). keeping v p z rest j e x R (st C l.now (at_of s)) ≡ keeping v p z rest i e x R (st C l.now (at_of s))) r (passed d rest x _ (d.high h)) };
     }
 
-module _ {v : List (Bor (List ℕ))} {i e p z rest : ℕ} {s₀ : List ℕ} {l₀ : MutBor (List ℕ)} {s : List ℕ} {l : MutBor (List ℕ)} {j : ℕ} {call : Bits} (t : InFilter v i e p z rest s₀ l₀ s l j call) where
+module _ {v : Lent} {i e p z rest : ℕ} {s₀ : Numbers} {l₀ : MutBor (List ℕ)} {s : Numbers} {l : MutBor (List ℕ)} {j : ℕ} {call : Bits} (t : InFilter v i e p z rest s₀ l₀ s l j call) where
   pub filter_end_all : e ≤ j → Gives (Keeps (plan_of v) (pool_of v) p z rest) (keeping v p z rest i e) s₀ l₀.now s l.now
   filter_end_all h = going_end t.going (λ x R σ. over_end x.q _ (kept x.t _) (table_of v) (text_of v) j e σ h)
 
   -- those that are left
-  pub filter_left : {s' l' : List ℕ} → Gives (Keeps (plan_of v) (pool_of v) p z rest) (keeping v p z rest j e) s l.now s' l' → Gives (Keeps (plan_of v) (pool_of v) p z rest) (keeping v p z rest i e) s₀ l₀.now s' l'
+  pub filter_left : {s' : Numbers} {l' : List ℕ} → Gives (Keeps (plan_of v) (pool_of v) p z rest) (keeping v p z rest j e) s l.now s' l' → Gives (Keeps (plan_of v) (pool_of v) p z rest) (keeping v p z rest i e) s₀ l₀.now s' l'
   filter_left d = going_last t.going d (λ x. x) (λ x R σ. refl)
 
-  module _ (n : call ≡ false) (h : j < e) {s' : List ℕ} {l' : MutBor (List ℕ)} (k : Steady s l s' l') (b : at_of s' ≤ cap_of s + 1) (d : DoneSegment v j rest s l.now s' l'.now) where
+  module _ (n : call ≡ false) (h : j < e) {s' : Numbers} {l' : MutBor (List ℕ)} (k : Steady s l s' l') (b : at_of s' ≤ cap_of s + 1) (d : DoneSegment v j rest s l.now s' l'.now) where
     kept_one : (x : Keeps (plan_of v) (pool_of v) p z rest) (R : ℕ) → root_of s ≡ R → (σ σ' : State) → σ' ≡ go x.q (node_at (table_of v) (text_of v) R) (node_at (table_of v) (text_of v) j ∷ []) σ → keeping v p z rest (j + 1) e x R σ' ≡ keeping v p z rest j e x R σ
     kept_one x R r σ σ' y =
         over_step x.q _ (kept x.t _) (table_of v) (text_of v) j e σ σ' h
@@ -306,17 +308,17 @@ module _ {v : List (Bor (List ℕ))} {i e p z rest : ℕ} {s₀ : List ℕ} {l�
 
 -- ---- the first node for which a test holds
 
-pub record InNext (v : List (Bor (List ℕ))) (root i e p z j : ℕ) : Type 0 where
+pub record InNext (v : Lent) (root i e p z j : ℕ) : Type 0 where
   pub low : i ≤ j
   pub high : i ≤ e → j ≤ e
   pub passed : (t : Test) (k : ℕ) → Tested (plan_of v) (pool_of v) p z t k → (m : ℕ) → i ≤ m → m < j → eval_test t (node_at (table_of v) (text_of v) root) (node_at (table_of v) (text_of v) m) ≡ false
 
-module _ {v : List (Bor (List ℕ))} {root i e p z j : ℕ} (t : InNext v root i e p z j) where
+module _ {v : Lent} {root i e p z j : ℕ} (t : InNext v root i e p z j) where
   pub next_found : {b call : Bits} → (call ≡ false → DoneTest (plan_of v) (pool_of v) (table_of v) (text_of v) root j p z b) → b ≡ true → DoneNext v root i e p z j call
   next_found d b = record { low = t.low; high = t.high; passed = t.passed; holds = λ n h x k y. sym (d n x k y) ∙ b }
 
-  pub next_none : {call : Bits} → e ≤ j → DoneNext v root i e p z j call
-  next_none h = record { low = t.low; high = t.high; passed = t.passed; holds = λ n y. absurd (omega arith) }
+  pub next_none : {call : Bits} → e ≤ j → j ≤ e → DoneNext v root i e p z e call
+  next_none h n = record { low = omega (arith, t.low); high = λ y. omega arith; passed = λ x k y m u w. t.passed x k y m u (omega arith); holds = λ y w. absurd (omega arith) }
 
   pub next_again : {b : Bits} → j < e → DoneTest (plan_of v) (pool_of v) (table_of v) (text_of v) root j p z b → b ≡ false → InNext v root i e p z (j + 1)
   next_again h d b =
@@ -332,25 +334,25 @@ module _ {v : List (Bor (List ℕ))} {root i e p z j : ℕ} (t : InNext v root i
 
 -- ---- a filter that is read once, or is not
 
-pub kept_none : (v : List (Bor (List ℕ))) (node p rest : ℕ) (s l : List ℕ) → DoneKeep v node p rest s l s l false
+pub kept_none : (v : Lent) (node p rest : ℕ) (s : Numbers) (l : List ℕ) → DoneKeep v node p rest s l s l false
 kept_none v node p rest s l = record { done = λ u. absurd (never u); numbers = λ u. refl; list = λ u. refl }
 
-pub kept_done : (v : List (Bor (List ℕ))) (node p rest : ℕ) (s l s' l' : List ℕ) → DoneSelector v node p rest s l s' l' → DoneKeep v node p rest s l s' l' true
+pub kept_done : (v : Lent) (node p rest : ℕ) (s : Numbers) (l : List ℕ) (s' : Numbers) (l' : List ℕ) → DoneSelector v node p rest s l s' l' → DoneKeep v node p rest s l s' l' true
 kept_done v node p rest s l s' l' d = record { done = λ u. d; numbers = λ u. absurd (never (sym u)); list = λ u. absurd (never (sym u)) }
 
 -- where it is not, what follows is done from the same numbers and the same list
-pub kept_after : {v : List (Bor (List ℕ))} {node p rest : ℕ} {s l s' l' s'' l'' : List ℕ} {r : Bits} → DoneKeep v node p rest s l s' l' r → r ≡ false → DoneSelector v node p rest s' l' s'' l'' → DoneSelector v node p rest s l s'' l''
+pub kept_after : {v : Lent} {node p rest : ℕ} {s : Numbers} {l : List ℕ} {s' : Numbers} {l' : List ℕ} {s'' : Numbers} {l'' : List ℕ} {r : Bits} → DoneKeep v node p rest s l s' l' r → r ≡ false → DoneSelector v node p rest s' l' s'' l'' → DoneSelector v node p rest s l s'' l''
 kept_after {v} {node} {p} {rest} {s} {l} {l' = l'} {s'' = s''} {l'' = l''} k e d =
     subst (λ (x : List ℕ). Gives (Selects (plan_of v) (pool_of v) p rest) (selection v node p rest) s x s'' l'') (k.list e)
-    (subst (λ (x : List ℕ). Gives (Selects (plan_of v) (pool_of v) p rest) (selection v node p rest) x l' s'' l'') (k.numbers e) d)
+    (subst (λ (x : Numbers). Gives (Selects (plan_of v) (pool_of v) p rest) (selection v node p rest) x l' s'' l'') (k.numbers e) d)
 
-pub kept_room : {v : List (Bor (List ℕ))} {node p rest : ℕ} {s l s' l' : List ℕ} {r : Bits} → Asked v s l → DoneKeep v node p rest s l s' l' r → r ≡ false → at_of s' ≤ cap_of s + 1
-kept_room {s = s} a k e = subst (λ (x : List ℕ). at_of x ≤ cap_of s + 1) (sym (k.numbers e)) a.room
+pub kept_room : {v : Lent} {node p rest : ℕ} {s : Numbers} {l : List ℕ} {s' : Numbers} {l' : List ℕ} {r : Bits} → Asked v s l → DoneKeep v node p rest s l s' l' r → r ≡ false → at_of s' ≤ cap_of s + 1
+kept_room {s = s} a k e = subst (λ (x : Numbers). at_of x ≤ cap_of s + 1) (sym (k.numbers e)) a.room
 
 -- a selector that is none of the others is a filter
-pub kind_filter : {v : List (Bor (List ℕ))} {s l : List ℕ} {node p rest : ℕ} → Asked v s l → AskSelector v node p rest → 6 < get_or (plan_of v) p 0 → (get_or (plan_of v) p 0 ≡ 7 → ⊥) → (get_or (plan_of v) p 0 ≡ 8 → ⊥) → get_or (plan_of v) p 0 ≡ 9
+pub kind_filter : {v : Lent} {s : Numbers} {l : List ℕ} {node p rest : ℕ} → Asked v s l → AskSelector v node p rest → 6 < get_or (plan_of v) p 0 → (get_or (plan_of v) p 0 ≡ 7 → ⊥) → (get_or (plan_of v) p 0 ≡ 8 → ⊥) → get_or (plan_of v) p 0 ≡ 9
 kind_filter a q h u w = omega (arith, kind_high q.selects.stands)
 
 -- the node that `$` stands for stays
-pub next_later : {v : List (Bor (List ℕ))} {i e p z : ℕ} {s s' : List ℕ} {l l' : MutBor (List ℕ)} → Steady s l s' l' → AskNext v (root_of s) i e p z → AskNext v (root_of s') i e p z
+pub next_later : {v : Lent} {i e p z : ℕ} {s s' : Numbers} {l l' : MutBor (List ℕ)} → Steady s l s' l' → AskNext v (root_of s) i e p z → AskNext v (root_of s') i e p z
 next_later k a = let r = k.root in record { given = a.given; root_in = omega (arith, a.root_in); range = a.range; test = a.test }

@@ -40,9 +40,7 @@ pub fn lay(column: &mut [u32], n: usize, p: usize)
     requires { (n ≤ length column.old) × (p < 65536) }
     ensures { Laid n p column.new }
 {
-    let mut k = 0;
-    while k < n {
+    for k in 0..n {
         column[k] = p as u32;
-        k += 1;
     }
 }

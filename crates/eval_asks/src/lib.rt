@@ -1,5 +1,4 @@
-// What the functions of evaluation and its shortcuts are lent, ask and give: the places of what stands behind their references of one word. What each asks and gives
-// stands in specs/.
+// What the functions of evaluation and its shortcuts are lent, ask and give: what stands behind their references of one word. What each asks and gives stands in specs/.
 //
 //   cells   how far a filter has been told of a node
 
@@ -7,18 +6,19 @@
 
 pub mod cells;
 
-// The places of what is lent.
-pub const PLAN: usize = 0;
+// What is lent: the plan, its pool, the table and the text.
+#[derive(Clone, Copy)]
+pub struct Lent<'a> {
+    pub plan: &'a [u8],
+    pub pool: &'a [u8],
+    pub table: &'a [u8],
+    pub text: &'a [u8],
+}
 
-pub const POOL: usize = 1;
-
-pub const TABLE: usize = 2;
-
-pub const TEXT: usize = 3;
-
-// The places of the evaluation's numbers: the node that `$` stands for, how many nodes are counted, and the next place of the list.
-pub const ROOT: usize = 0;
-
-pub const CAP: usize = 1;
-
-pub const AT: usize = 2;
+// The numbers of the evaluation: the node that `$` stands for, how many nodes are counted, and the next place of the list.
+#[derive(Clone, Copy)]
+pub struct State {
+    pub root: usize,
+    pub cap: usize,
+    pub at: usize,
+}

@@ -1,6 +1,6 @@
 -- A call of match or search in a filter's code, of a query of names and indices and a text of the plan: what stands in the plan, and that what is left of the code
 -- goes on behind it with its answer. P is the plan, L the pool, S the table, X the text. Assumes nothing.
-use Rattle.std.specs.Prelude.{ℕ, ◌+◌, ◌-◌, ◌≤◌, ◌<◌, ◌≡◌, refl, List, [], ◌∷◌, Bool as Bits, true, false, ◌&&◌, leb, length, get_or}
+use Rattle.std.specs.Prelude.{ℕ, ◌+◌, ◌≤◌, ◌<◌, ◌≡◌, refl, List, [], ◌∷◌, Bool as Bits, true, false, ◌&&◌, leb, length, get_or}
 use Rattle.std.proofs.Common.{sym, ap, ◌∙◌, subst, arith, leb-true, le-leb}
 use Rattle.std.proofs.lemmas.Bool.{lt-leb}
 use Rattle.definition.specs.Bytes.{number, part}
@@ -15,17 +15,16 @@ use Rattle.definition.specs.Tables.{node_count, node_at}
 use Rattle.definition.specs.Evaluation.{eval_segments, first_value}
 use Rattle.basics.specs.Bools.{and_left, and_right}
 use Rattle.eval_laws.specs.Items.{SegmentsAt, segments_in}
-use Rattle.eval_laws.specs.Todos.{Todo, todo_in, todo_inside, todo_to, QueryAt, at_query, LiteralAt, at_literal, Matched, at_regex}
+use Rattle.eval_laws.specs.Todos.{Todo, todo_in, todo_inside, todo_to, LiteralAt, at_literal, Matched, at_regex}
 use Rattle.eval_items.specs.EndLaws.{past_text}
 use Rattle.eval_items.specs.LeafLaws.{done_text}
 use Rattle.eval_items.specs.Leaves.{begins_at}
-use Rattle.eval_front.specs.Fronts.{never}
-use Rattle.eval_front.specs.Visits.{Query, Given, AskReach}
-use Rattle.eval_filters.specs.Queries.{Within, begins_in}
+use Rattle.eval_front.specs.Visits.{AskReach}
+use Rattle.eval_filters.specs.Queries.{begins_in}
 use Rattle.eval_filters.specs.Tests.{Left, AskShort, query_at, short_query}
 use Rattle.eval_filters.specs.Values.{AskLeft, test_short}
 use Rattle.eval_rows.specs.declared.calls.Call.{Call}
-use Rattle.eval_rows.specs.Paths.{AskPath, Leads, leads_low, leads_past}
+use Rattle.eval_rows.specs.Paths.{AskPath, Leads, leads_past}
 
 unfoldable pub regex_kind : ℕ → Bits
 regex_kind k = leb 0x1C k && leb k 0x1D
@@ -91,12 +90,9 @@ left_in {P} {L} {q = q} {z = z} a = todo_in P L q z _ _ _ _ _ _ a.todo a.more
 pub left_near : {P L S X : List ℕ} {root node q z : ℕ} → AskLeft P L S X root node q z → z ≤ max_plan
 left_near a = omega (arith, left_inside a, a.within.few_p)
 
-pub none_read : {P : List ℕ} {q z : ℕ} {g : Call} → g.some ≡ false → g.some ≡ true → ReadAt P q z g
-none_read i e = absurd (never (sym i ∙ e))
-
 -- what is read is such a call
-pub call_read : {P : List ℕ} {q z end start size kind : ℕ} {b : Bits} → get_or P q 0 ≤ 2 → Leads P end (q + 1) → get_or P (end + 1) 0 ≡ 0x12 → start ≡ number (part P (end + 2) 2) → size ≡ number (part P (end + 4) 2)
-    → get_or P (end + 6) 0 ≡ kind → regex_kind kind ≡ true → end + 7 ≤ z → ReadAt P q z (record { at = q; end = end; start = start; size = size; kind = kind; some = b })
+pub call_read : {P : List ℕ} {q z end start size kind : ℕ} → get_or P q 0 ≤ 2 → Leads P end (q + 1) → get_or P (end + 1) 0 ≡ 0x12 → start ≡ number (part P (end + 2) 2) → size ≡ number (part P (end + 4) 2)
+    → get_or P (end + 6) 0 ≡ kind → regex_kind kind ≡ true → end + 7 ≤ z → ReadAt P q z (record { at = q; end = end; start = start; size = size; kind = kind })
 call_read {P} {q} {z} {end} {kind = kind} c l t u v k r e =
     let e2 : end + 2 ≡ end + 1 + 1 = omega arith in
     let e3 : end + 4 ≡ end + 1 + 3 = omega arith in

@@ -1,9 +1,9 @@
 -- The nodes of a range with a filter: those that it keeps are pushed, or each has a cell that says how far it is told. P is the plan, L the pool, S the table, X the
 -- text. Assumes nothing.
-use Rattle.std.specs.Prelude.{ℕ, ◌+◌, ◌-◌, ◌≤◌, ◌<◌, ◌≡◌, refl, ◌⊎◌, List, Bool as Bits, true, false, not, ltb, length, get_or, set}
-use Rattle.std.proofs.Common.{sym, ap, ◌∙◌, subst, inl, inr, length-set, arith, ltb-true, ltb-false}
+use Rattle.std.specs.Prelude.{Some, None, ℕ, ◌+◌, ◌-◌, ◌≤◌, ◌<◌, ◌≡◌, refl, ◌⊎◌, List, Bool as Bits, true, false, ltb, length, get_or, set}
+use Rattle.std.proofs.Common.{sym, ◌∙◌, subst, inl, inr, length-set, arith, ltb-true, ltb-false}
 use Rattle.definition.specs.Limits.{max_plan}
-use Rattle.definition.specs.Tables.{node_count, node_at}
+use Rattle.definition.specs.Tables.{node_count}
 use Rattle.eval_front.specs.Fronts.{never}
 use Rattle.eval_front.specs.Visits.{Given}
 use Rattle.eval_filters.specs.Queries.{Within}
@@ -11,9 +11,10 @@ use Rattle.eval_filters.specs.Kept.{AskTest, DoneTest, InKept, kept_passed, kept
 use Rattle.eval_filters.specs.Keeps.{DonePushed, test_code}
 use Rattle.eval_filters.specs.Values.{AskLeft}
 use Rattle.eval_laws.specs.Todos.{todo_end}
-use Rattle.eval_asks.specs.Cells.{answer_of, place_of, InCell, Column, cell_no, cell_start, cell_next, cell_left, column_set}
+use Rattle.eval_asks.specs.Cells.{answer_of, place_of, InCell, Column, cell_start, cell_next, cell_left, column_set}
 use Rattle.eval_rows.specs.declared.rows.Filter.{Filter}
 use Rattle.eval_rows.specs.declared.rows.Answer.{Answer}
+use Rattle.eval_rows.specs.declared.rows.Left.{Left as LeftAt}
 use Rattle.eval_rows.specs.declared.rows.Passed.{Passed}
 use Rattle.eval_rows.specs.Rows.{DoneAnswer, AskRows, DoneRows, rows_full, rows_end, rows_stuck, rows_later, rows_then}
 
@@ -70,11 +71,11 @@ pass_start a =
     }
 
 module _ {P L S X : List ℕ} {f : Filter} {i : ℕ} {l₀ : List ℕ} {a₀ : ℕ} {l : List ℕ} {a j : ℕ} (s : AskPass P L S X f i l₀ a₀) (t : InPass P L S X f.cells f.root i f.e f.p f.z f.rest f.cap l₀ a₀ l a j) where
-  pub pass_full : (q : ℕ) → f.cap < a → DonePass P L S X f i l₀ a₀ l (record { i = j; at = a; q = q; more = false })
-  pass_full q h = record { rows = λ u. rows_full {f = f} (t.rows u) q h (s.rows u).kept.wide; cells = t.cells }
+  pub pass_full : f.cap < a → DonePass P L S X f i l₀ a₀ l (record { at = a; left = None })
+  pass_full h = record { rows = λ u. rows_full {f = f} (t.rows u) h (s.rows u).kept.wide; cells = t.cells }
 
-  pub pass_end : (q : ℕ) → f.e ≤ j → DonePass P L S X f i l₀ a₀ l (record { i = j; at = a; q = q; more = false })
-  pass_end q h = record { rows = λ u. rows_end {f = f} (t.rows u) q h; cells = t.cells }
+  pub pass_end : f.e ≤ j → DonePass P L S X f i l₀ a₀ l (record { at = a; left = None })
+  pass_end h = record { rows = λ u. rows_end {f = f} (t.rows u) h; cells = t.cells }
 
   -- where a node stands, and what is asked of it
   module _ (h : j < f.e) where
@@ -89,7 +90,7 @@ module _ {P L S X : List ℕ} {f : Filter} {i : ℕ} {l₀ : List ℕ} {a₀ : �
           go true u = subst (InCell P L S X f.root j f.p f.z) (sym (d.there u)) ((t.cells u).all j t.low h)
           go false u = let n = pass_code s in subst (InCell P L S X f.root j f.p f.z) (sym (d.none u)) (cell_start s.test (omega (arith, n.0, n.1)))
 
-      module _ {first : ℕ} {r : Answer} (v : DoneAnswer P L S X f.root j c first f.z r) where
+      module _ {r : Answer} (v : DoneAnswer P L S X f.root j c f.z r) where
         pub answer_near : r.q < 65536
         answer_near = let n = pass_code s in omega (arith, n.1, v.near pass_cell.near)
 
@@ -105,47 +106,44 @@ module _ {P L S X : List ℕ} {f : Filter} {i : ℕ} {l₀ : List ℕ} {a₀ : �
             }
 
         -- it has none
-        module _ (u : f.cells ≡ false) (o : f.cells ≡ false → first ≡ f.p) where
-          at_first : place_of c ≡ first
-          at_first = let n = pass_code s in ap place_of (d.none u) ∙ (cell_no f.p (omega (arith, n.0, n.1))).1 ∙ sym (o u)
-
-          pub pass_stuck : r.some ≡ false → DonePass P L S X f i l₀ a₀ l (record { i = j; at = a; q = r.q; more = true })
+        module _ (u : f.cells ≡ false) where
+          pub pass_stuck : r.q < f.z → DonePass P L S X f i l₀ a₀ l (record { at = a; left = Some (record { i = j; q = r.q }) })
           pass_stuck n =
               record {
-                rows = λ w. rows_stuck {f = f} (t.rows w) r.q h (record { within = pass_within s j t.low h; acc = r.acc; want = _; todo = v.goes _ (pass_cell.again s.test.t s.test.k s.test.stands); more = v.untold n at_first });
+                rows = λ w. rows_stuck {f = f} (t.rows w) r.q h (record { within = pass_within s j t.low h; acc = r.acc; want = _; todo = v.goes _ (pass_cell.again s.test.t s.test.k s.test.stands); more = n });
                 cells = t.cells;
               }
 
-          told_test : r.some ≡ true → DoneTest P L S X f.root j f.p f.z r.acc
-          told_test n x k b = todo_end _ _ _ _ _ _ _ _ _ _ (v.goes _ (pass_cell.again x k b)) (v.told n)
+          told_test : f.z ≤ r.q → DoneTest P L S X f.root j f.p f.z r.acc
+          told_test n x k b = todo_end _ _ _ _ _ _ _ _ _ _ (v.goes _ (pass_cell.again x k b)) n
 
-          pub pass_out : r.some ≡ true → r.acc ≡ false → InPass P L S X f.cells f.root i f.e f.p f.z f.rest f.cap l₀ a₀ l a (j + 1)
+          pub pass_out : f.z ≤ r.q → r.acc ≡ false → InPass P L S X f.cells f.root i f.e f.p f.z f.rest f.cap l₀ a₀ l a (j + 1)
           pass_out n m = record { low = omega (arith, t.low); same = t.same; rows = λ w. kept_passed (t.rows w) h (told_test n) m; cells = λ w. absurd (never (sym u ∙ w)) }
 
-          pub pass_in : r.some ≡ true → r.acc ≡ true → {l' : List ℕ} {n' : ℕ} → DonePushed P L S X j f.rest f.cap l a l' n' → length l' ≡ length l
+          pub pass_in : f.z ≤ r.q → r.acc ≡ true → {l' : List ℕ} {n' : ℕ} → DonePushed P L S X j f.rest f.cap l a l' n' → length l' ≡ length l
               → InPass P L S X f.cells f.root i f.e f.p f.z f.rest f.cap l₀ a₀ l' n' (j + 1)
           pass_in n m d' w = record { low = omega (arith, t.low); same = w ∙ t.same; rows = λ y. kept_step (t.rows y) h (told_test n) m d' refl w; cells = λ y. absurd (never (sym u ∙ y)) }
 
 -- ---- the nodes behind those that are pushed
 
-module _ {P L S X : List ℕ} {f : Filter} {i : ℕ} {l : List ℕ} {at : ℕ} (s : AskPass P L S X f i l at) (u : f.cells ≡ false) {l' : List ℕ} {r : Passed} (d : DonePass P L S X f i l at l' r) where
-  pub pass_left : r.more ≡ true → AskLeft P L S X f.root r.i r.q f.z
-  pass_left m = (d.rows u).stuck m
+module _ {P L S X : List ℕ} {f : Filter} {i : ℕ} {l : List ℕ} {at : ℕ} (s : AskPass P L S X f i l at) (u : f.cells ≡ false) {l' : List ℕ} {r : Passed} (d : DonePass P L S X f i l at l' r) {k : LeftAt} (m : r.left ≡ Some k) where
+  pub pass_left : AskLeft P L S X f.root k.i k.q f.z
+  pass_left = ((d.rows u).left k m).stuck
 
-  pub pass_later : AskPass P L S X f r.i l' r.at
+  pub pass_later : AskPass P L S X f k.i l' r.at
   pass_later =
-      let b = (d.rows u).going.low in
+      let b = ((d.rows u).left k m).going.low in
       record {
         given = s.given;
         root_in = s.root_in;
         range = λ h. s.range (omega arith);
         test = s.test;
-        rows = λ w. rows_later {f = f} (d.rows w).going (s.rows w);
+        rows = λ w. rows_later {f = f} ((d.rows w).left k m).going (s.rows w);
         cells = λ w. absurd (never (sym u ∙ w));
       }
 
-  pub pass_then : {l'' : List ℕ} {r' : Passed} → DonePass P L S X f r.i l' r.at l'' r' → DonePass P L S X f i l at l'' r'
-  pass_then e = record { rows = λ w. rows_then {f = f} (d.rows w).going (e.rows w); cells = λ w. absurd (never (sym u ∙ w)) }
+  pub pass_then : {l'' : List ℕ} {r' : Passed} → DonePass P L S X f k.i l' r.at l'' r' → DonePass P L S X f i l at l'' r'
+  pass_then e = record { rows = λ w. rows_then {f = f} ((d.rows w).left k m).going (e.rows w); cells = λ w. absurd (never (sym u ∙ w)) }
 
 -- ---- from one place of the code to the next
 

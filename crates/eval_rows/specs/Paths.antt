@@ -1,12 +1,11 @@
 -- Names and indices that lead to the end of a query: what stands in the plan, what the functions ask and give, and the turns of their loops. P is the plan, L the
 -- pool, S the table, X the text. Assumes nothing.
-use Rattle.std.specs.Prelude.{ℕ, ◌+◌, ◌≤◌, ◌<◌, ◌≡◌, refl, List, true, false, length, get_or}
-use Rattle.std.proofs.Common.{sym, ap, ◌∙◌, subst, arith}
+use Rattle.std.specs.Prelude.{ℕ, ◌+◌, ◌≤◌, ◌<◌, ◌≡◌, List, true, false, length, get_or}
+use Rattle.std.proofs.Common.{sym, ◌∙◌, subst, arith}
 use Rattle.definition.specs.Limits.{max_plan}
 use Rattle.definition.specs.Forms.{Segments}
-use Rattle.definition.specs.Plans.{code_segments, code_selector}
-use Rattle.definition.specs.Tables.{node_count}
-use Rattle.eval_laws.specs.Items.{SegmentsAt, Parts, parts, segments_in, end_long}
+use Rattle.definition.specs.Plans.{code_segments}
+use Rattle.eval_laws.specs.Items.{SegmentsAt, parts, segments_in, end_long}
 use Rattle.eval_values.specs.declared.members.Member.{Member}
 use Rattle.eval_values.specs.declared.members.Member.TheVariants.{At, Nothing as Absent}
 use Rattle.eval_items.specs.Ends.{AskNext, DoneNext}

@@ -1,9 +1,9 @@
 -- The nodes of a range with a filter: the answer for a node, and the loop over all of them. P is the plan, L the pool, S the table, X the text. Assumes nothing.
-use Rattle.std.specs.Prelude.{ℕ, ◌+◌, ◌≤◌, ◌<◌, ◌≡◌, refl, List, Bool as Bits, true, false, length}
-use Rattle.std.proofs.Common.{sym, ◌∙◌, arith}
-use Rattle.definition.specs.Tables.{node_count, node_at}
+use Rattle.std.specs.Prelude.{Some, None, ℕ, ◌+◌, ◌≤◌, ◌<◌, ◌≡◌, refl, List, Bool as Bits, true, length}
+use Rattle.std.proofs.lemmas.Option.{none-some, same_Some}
+use Rattle.std.proofs.Common.{sym, ◌∙◌, subst, arith}
+use Rattle.definition.specs.Tables.{node_at}
 use Rattle.eval_laws.specs.Todos.{todo_to}
-use Rattle.eval_front.specs.Fronts.{never}
 use Rattle.eval_asks.specs.Cells.{answer_of, place_of, left_ended}
 use Rattle.eval_filters.specs.Queries.{Within}
 use Rattle.eval_filters.specs.Kept.{AskTest, AskKept, InKept, kept_full, kept_end}
@@ -14,16 +14,15 @@ use Rattle.eval_filters.specs.Values.{AskLeft}
 use Rattle.eval_filters.specs.declared.Told.{Told}
 use Rattle.eval_rows.specs.declared.rows.Filter.{Filter}
 use Rattle.eval_rows.specs.declared.rows.Answer.{Answer}
+use Rattle.eval_rows.specs.declared.rows.Left.{Left as LeftAt}
 use Rattle.eval_rows.specs.declared.rows.Passed.{Passed}
 
 -- ---- how far the filter is told of a node with a cell
 
-pub record DoneAnswer (P L S X : List ℕ) (root node c first z : ℕ) (r : Answer) : Type 0 where
+pub record DoneAnswer (P L S X : List ℕ) (root node c z : ℕ) (r : Answer) : Type 0 where
   pub later : place_of c ≤ z → place_of c ≤ r.q
   pub near : place_of c ≤ z → r.q ≤ z
   pub goes : (want : Bits) → Left P L (place_of c) z (node_at S X root) (node_at S X node) (answer_of c) want → Left P L r.q z (node_at S X root) (node_at S X node) r.acc want
-  pub told : r.some ≡ true → z ≤ r.q
-  pub untold : r.some ≡ false → place_of c ≡ first → r.q < z
 
 -- what is left of the code gives what was wanted
 pub record InAsked (P L S X : List ℕ) (root node z c : ℕ) (acc : Bits) (q : ℕ) : Type 0 where
@@ -35,8 +34,8 @@ module _ {P L S X : List ℕ} {root node z c : ℕ} {acc : Bits} {q : ℕ} (a : 
   asked_start = record { later = omega arith; goes = λ want d. todo_to P L (place_of c) q z _ _ _ _ _ _ _ _ want e a refl refl d }
 
   -- a cell that is not at the place that is asked
-  pub answer_left : {first : ℕ} → (q ≡ first → ⊥) → DoneAnswer P L S X root node c first z (record { acc = acc; q = q; some = false })
-  answer_left n = record { later = λ h. omega arith; near = λ h. omega arith; goes = asked_start.goes; told = λ u. absurd (never u); untold = λ u v. absurd (n (e ∙ v)) }
+  pub answer_left : DoneAnswer P L S X root node c z (record { acc = acc; q = q })
+  answer_left = record { later = λ h. omega arith; near = λ h. omega arith; goes = asked_start.goes }
 
 module _ {P L S X : List ℕ} {root node z c : ℕ} {acc : Bits} {q : ℕ} (w : Within P L S X root node) (a : AskRest P L S X root node (answer_of c) (place_of c) z) (i : InAsked P L S X root node z c acc q) where
   pub asked_turn : q < z → AskTurn P L S X root node acc q z
@@ -45,11 +44,11 @@ module _ {P L S X : List ℕ} {root node z c : ℕ} {acc : Bits} {q : ℕ} (w : 
   pub asked_further : {r : Told} → q < z → DoneTurn P L S X root node acc q z r → r.some ≡ true → InAsked P L S X root node z c r.acc r.q
   asked_further h d s = record { later = omega (arith, i.later, d.further s); goes = λ want t. d.goes s want (i.goes want t) }
 
-  pub answer_none : {first : ℕ} → q < z → DoneAnswer P L S X root node c first z (record { acc = acc; q = q; some = false })
-  answer_none h = record { later = λ n. i.later; near = λ n. omega arith; goes = i.goes; told = λ u. absurd (never u); untold = λ u v. h }
+  pub answer_none : q < z → DoneAnswer P L S X root node c z (record { acc = acc; q = q })
+  answer_none h = record { later = λ n. i.later; near = λ n. omega arith; goes = i.goes }
 
-  pub answer_told : {first : ℕ} → z ≤ q → DoneAnswer P L S X root node c first z (record { acc = acc; q = z; some = true })
-  answer_told h = record { later = λ n. n; near = λ n. omega arith; goes = λ want t. left_ended h (i.goes want t); told = λ u. omega arith; untold = λ u. absurd (never (sym u)) }
+  pub answer_told : z ≤ q → DoneAnswer P L S X root node c z (record { acc = acc; q = z })
+  answer_told h = record { later = λ n. n; near = λ n. omega arith; goes = λ want t. left_ended h (i.goes want t) }
 
 -- ---- all nodes in turn
 
@@ -59,25 +58,33 @@ pub record AskRows (P L S X : List ℕ) (f : Filter) (i len at : ℕ) : Type 0 w
   pub tail : TailAt P f.rest f.tail
   pub low : f.tail ≤ 1
 
--- those before r.i are done, and all of them where no more are left
+-- those before the one that is left are done
+pub record LeftRows (P L S X : List ℕ) (f : Filter) (i : ℕ) (l : List ℕ) (at : ℕ) (l' : List ℕ) (a : ℕ) (r : LeftAt) : Type 0 where
+  pub going : InKept P L S X f.root i f.e f.p f.z f.rest f.cap l at l' a r.i
+  pub inside : r.i < f.e
+  pub stuck : AskLeft P L S X f.root r.i r.q f.z
+
+-- and all of them where none is left
 pub record DoneRows (P L S X : List ℕ) (f : Filter) (i : ℕ) (l : List ℕ) (at : ℕ) (l' : List ℕ) (r : Passed) : Type 0 where
-  pub going : InKept P L S X f.root i f.e f.p f.z f.rest f.cap l at l' r.at r.i
-  pub whole : r.more ≡ false → DoneRange P L S X f.root i f.e f.p f.z f.rest f.cap l at l' r.at
-  pub inside : r.more ≡ true → r.i < f.e
-  pub stuck : r.more ≡ true → AskLeft P L S X f.root r.i r.q f.z
+  pub left : (k : LeftAt) → r.left ≡ Some k → LeftRows P L S X f i l at l' r.at k
+  pub whole : r.left ≡ None → DoneRange P L S X f.root i f.e f.p f.z f.rest f.cap l at l' r.at
 
 module _ {P L S X : List ℕ} {f : Filter} {i : ℕ} {l₀ : List ℕ} {a₀ : ℕ} {l : List ℕ} {a j : ℕ} (t : InKept P L S X f.root i f.e f.p f.z f.rest f.cap l₀ a₀ l a j) where
-  rows_done : (q : ℕ) → DoneRange P L S X f.root i f.e f.p f.z f.rest f.cap l₀ a₀ l a → DoneRows P L S X f i l₀ a₀ l (record { i = j; at = a; q = q; more = false })
-  rows_done q d = record { going = t; whole = λ u. d; inside = λ u. absurd (never u); stuck = λ u. absurd (never u) }
+  rows_done : DoneRange P L S X f.root i f.e f.p f.z f.rest f.cap l₀ a₀ l a → DoneRows P L S X f i l₀ a₀ l (record { at = a; left = None })
+  rows_done d = record { left = λ k u. absurd (none-some k u); whole = λ u. d }
 
-  pub rows_full : (q : ℕ) → f.cap < a → length l₀ ≤ f.cap + 1 → DoneRows P L S X f i l₀ a₀ l (record { i = j; at = a; q = q; more = false })
-  rows_full q h w = rows_done q (range_done (kept_full t h w) refl)
+  pub rows_full : f.cap < a → length l₀ ≤ f.cap + 1 → DoneRows P L S X f i l₀ a₀ l (record { at = a; left = None })
+  rows_full h w = rows_done (range_done (kept_full t h w) refl)
 
-  pub rows_end : (q : ℕ) → f.e ≤ j → DoneRows P L S X f i l₀ a₀ l (record { i = j; at = a; q = q; more = false })
-  rows_end q h = rows_done q (range_done (kept_end t h) refl)
+  pub rows_end : f.e ≤ j → DoneRows P L S X f i l₀ a₀ l (record { at = a; left = None })
+  rows_end h = rows_done (range_done (kept_end t h) refl)
 
-  pub rows_stuck : (q : ℕ) → j < f.e → AskLeft P L S X f.root j q f.z → DoneRows P L S X f i l₀ a₀ l (record { i = j; at = a; q = q; more = true })
-  rows_stuck q h s = record { going = t; whole = λ u. absurd (never (sym u)); inside = λ u. h; stuck = λ u. s }
+  pub rows_stuck : (q : ℕ) → j < f.e → AskLeft P L S X f.root j q f.z → DoneRows P L S X f i l₀ a₀ l (record { at = a; left = Some (record { i = j; q = q }) })
+  rows_stuck q h s =
+      record {
+        left = λ k u. subst (LeftRows P L S X f i l₀ a₀ l a) (same_Some _ k u) (record { going = t; inside = h; stuck = s });
+        whole = λ u. absurd (none-some _ (sym u));
+      }
 
   -- one of them
   pub rows_within : {len at : ℕ} → AskRows P L S X f i len at → j < f.e → Within P L S X f.root j
@@ -100,10 +107,14 @@ module _ {P L S X : List ℕ} {f : Filter} {i : ℕ} {l₀ : List ℕ} {a₀ : �
 
   pub rows_then : {l' : List ℕ} {r : Passed} → DoneRows P L S X f j l a l' r → DoneRows P L S X f i l₀ a₀ l' r
   rows_then d =
-      let g = d.going in
       record {
-        going = record { low = omega (arith, t.low, g.low); same = g.same ∙ t.same; room = g.room; again = λ x k s k' b c. g.again x k s k' b c ∙ t.again x k s k' b c };
+        left = λ n u.
+            let h = d.left n u in
+            let g = h.going in
+            record {
+              going = record { low = omega (arith, t.low, g.low); same = g.same ∙ t.same; room = g.room; again = λ x k s k' b c. g.again x k s k' b c ∙ t.again x k s k' b c };
+              inside = h.inside;
+              stuck = h.stuck;
+            };
         whole = λ u. let w = d.whole u in record { room = w.room; ended = λ x k s k' b c. w.ended x k s k' b c ∙ t.again x k s k' b c };
-        inside = d.inside;
-        stuck = d.stuck;
       }

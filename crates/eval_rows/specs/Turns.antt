@@ -1,8 +1,10 @@
 -- A call of match or search on a node: the text that its query finds, what the call says by it, and what is left of the code behind it.
 -- P is the plan, L the pool, S the table, X the text. Assumes nothing.
-use Rattle.std.specs.Prelude.{ℕ, ◌+◌, ◌-◌, ◌≤◌, ◌<◌, ◌≡◌, refl, List, [], ◌∷◌, Bool as Bits, true, false, length, get_or, take, drop}
+use Rattle.std.specs.Prelude.{Option, Some, None, ℕ, ◌+◌, ◌-◌, ◌≤◌, ◌<◌, ◌≡◌, refl, List, [], ◌∷◌, Bool as Bits, true, false, length, get_or, take, drop}
+use Rattle.std.proofs.lemmas.Option.{none-some, same_Some}
 use Rattle.std.proofs.Common.{sym, ◌∙◌, subst, arith}
 use Rattle.std.proofs.Math.Path.{ap}
+use Rattle.std.specs.Borrow.{Bor}
 use Rattle.definition.specs.Bytes.{part}
 use Rattle.definition.specs.Utf8.{is_utf8}
 use Rattle.regex_definition.specs.Scope.{Scope}
@@ -18,30 +20,28 @@ use Rattle.eval_laws.specs.Items.{SegmentsAt}
 use Rattle.eval_laws.specs.Founds.{found_first, found_none}
 use Rattle.eval_values.specs.Values.{of_null, of_false, of_true, of_integer_lem, of_float_lem, of_text_lem, value_list, value_map}
 use Rattle.eval_items.specs.Leaves.{begins_at}
-use Rattle.eval_items.specs.Regexes.{cut, cut_test}
-use Rattle.eval_front.specs.Fronts.{never}
+use Rattle.eval_items.specs.Regexes.{cut}
 use Rattle.eval_front.specs.declared.Reached.{Reached}
-use Rattle.eval_filters.specs.Queries.{Within, found_lost, found_one}
+use Rattle.eval_filters.specs.Queries.{found_lost, found_one}
 use Rattle.eval_filters.specs.Tests.{Left}
 use Rattle.eval_filters.specs.Turns.{AskTurn, DoneTurn, turn_left}
 use Rattle.eval_filters.specs.Values.{AskLeft}
 use Rattle.regex_match.specs.Tested.{Tested}
 use Rattle.regex_rooms.specs.Rooms.{scope_for, scope_for_lem}
 use Rattle.eval_rows.specs.declared.calls.Call.{Call}
-use Rattle.eval_rows.specs.declared.turns.Spot.{Spot}
 use Rattle.eval_rows.specs.Paths.{DoneFollow, leads_end, leads_low}
-use Rattle.eval_rows.specs.Calls.{CallAt, Spelled, AskText, DoneCall, call_told, left_near}
+use Rattle.eval_rows.specs.Calls.{CallAt, AskText, DoneCall, call_told, left_near}
 use Rattle.eval_rows.specs.Known.{Ready, Knows}
 
 -- ---- the text of a node
 
--- the first value of the query at q is the text at that spot, or no text
-pub record TextOf (P L S X : List ℕ) (node q : ℕ) (r : Spot) : Type 0 where
+-- the first value of the query at q is that text, or no text
+pub record TextOf (P L S X : List ℕ) (node q : ℕ) (r : Option (Bor (List ℕ))) : Type 0 where
   pub value : Value
   pub first : (f : Segments) (k : ℕ) → SegmentsAt P L (q + 1) k f → value ≡ first_value (eval_segments f (node_at S X node) (node_at S X node ∷ []))
-  pub is_text_lem : r.some ≡ true → value ≡ Value.text (part X r.start r.size)
-  pub inside : r.some ≡ true → (r.start + r.size ≤ length X) × (is_utf8 (part X r.start r.size) ≡ true)
-  pub no_text : r.some ≡ false → (c : Scope) (w : Value) → false ≡ regex_values c value w
+  pub is_text_lem : (t : Bor (List ℕ)) → r ≡ Some t → value ≡ Value.text t.now
+  pub inside : (t : Bor (List ℕ)) → r ≡ Some t → is_utf8 t.now ≡ true
+  pub no_text : r ≡ None → (c : Scope) (w : Value) → false ≡ regex_values c value w
 
 -- a node of another kind has no text
 other_node : (S X : List ℕ) → Accepted S X → (m : ℕ) → m < node_count S → (kind_at S m ≡ 5 → ⊥) → (c : Scope) (w : Value) → false ≡ regex_values c (node_value (node_at S X m)) w
@@ -62,14 +62,14 @@ other_node S X tab m h n c w = go (kind_of S X tab m h)
     go (Kind.map e) = ap to (sym (value_map S X tab m h e))
 
 module _ {P L S X : List ℕ} {from : ℕ} {g : Call} (a : AskText P L S X from g) {r : Reached} (d : DoneFollow P L S X from (g.at + 1) g.end r) where
-  pub text_lost : r.some ≡ false → TextOf P L S X from g.at (record { start = 0; size = 0; some = false })
+  pub text_lost : r.some ≡ false → TextOf P L S X from g.at None
   unfolding regex_values
   text_lost e =
       record {
         value = Value.nothing;
         first = λ f k at. found_none S X _ _ 0 0 (found_lost P L S X a.reach.given.tab from g.at a.reach.node_in r d.reach e 0x19 f k at) refl;
-        is_text_lem = λ u. absurd (never u);
-        inside = λ u. absurd (never u);
+        is_text_lem = λ t u. absurd (none-some t u);
+        inside = λ t u. absurd (none-some t u);
         no_text = λ u c v. refl;
       }
 
@@ -80,62 +80,55 @@ module _ {P L S X : List ℕ} {from : ℕ} {g : Call} (a : AskText P L S X from 
     first_is : (f : Segments) (k : ℕ) → SegmentsAt P L (g.at + 1) k f → node_value (node_at S X r.node) ≡ first_value (eval_segments f (node_at S X from) (node_at S X from ∷ []))
     first_is f k at = found_first S X _ _ 1 r.node (found_one P L S X a.reach.given.tab from g.at a.reach.node_in r d.reach e ended 0x19 f k at) (omega arith)
 
-    pub text_other : (kind_at S r.node ≡ 5 → ⊥) → TextOf P L S X from g.at (record { start = 0; size = 0; some = false })
+    pub text_other : (kind_at S r.node ≡ 5 → ⊥) → TextOf P L S X from g.at None
     text_other n =
         record {
           value = node_value (node_at S X r.node);
           first = first_is;
-          is_text_lem = λ u. absurd (never u);
-          inside = λ u. absurd (never u);
+          is_text_lem = λ t u. absurd (none-some t u);
+          inside = λ t u. absurd (none-some t u);
           no_text = λ u c v. other_node S X a.reach.given.tab r.node d.reach.node_in n c v;
         }
 
-    pub text_found : kind_at S r.node ≡ 5 → (x n : ℕ) → x ≡ low_word S r.node → n ≡ high_word S r.node → TextOf P L S X from g.at (record { start = x; size = n; some = true })
-    text_found k x n i j =
+    -- its text lies in that of the table
+    pub text_spot : kind_at S r.node ≡ 5 → (x n : ℕ) → x ≡ low_word S r.node → n ≡ high_word S r.node → x + n ≤ length X
+    text_spot k x n i j = ((of_text_lem S X a.reach.given.tab r.node d.reach.node_in k x n i j).fine []).0
+
+    pub text_found : kind_at S r.node ≡ 5 → (x n : ℕ) → x ≡ low_word S r.node → n ≡ high_word S r.node → (y : Bor (List ℕ)) → y.now ≡ take (x + n - x) (drop x X) → TextOf P L S X from g.at (Some y)
+    text_found k x n i j y h =
         let t = of_text_lem S X a.reach.given.tab r.node d.reach.node_in k x n i j in
+        let same : part X x n ≡ y.now = sym (cut X x n) ∙ sym h in
         record {
           value = node_value (node_at S X r.node);
           first = first_is;
-          is_text_lem = λ u. sym (t.means []);
-          inside = λ u. t.fine [];
-          no_text = λ u. absurd (never (sym u));
+          is_text_lem = λ w u. sym (t.means []) ∙ ap Value.text (same ∙ ap (λ (b : Bor (List ℕ)). b.now) (same_Some y w u));
+          inside = λ w u. subst (λ (l : List ℕ). is_utf8 l ≡ true) (same ∙ ap (λ (b : Bor (List ℕ)). b.now) (same_Some y w u)) (t.fine []).1;
+          no_text = λ u. absurd (none-some y (sym u));
         }
 
 -- ---- what a call says of a node
 
-module _ {P L S X : List ℕ} {root node z : ℕ} {g : Call} (a : AskLeft P L S X root node g.at z) (r : CallAt P z g) {from : ℕ} (b : from ≡ begins_at (get_or P g.at 0) root node) {s : Spot} (t : TextOf P L S X from g.at s) where
-  pub call_none : s.some ≡ false → DoneCall P L S X root node z g false
+module _ {P L S X : List ℕ} {root node z : ℕ} {g : Call} (a : AskLeft P L S X root node g.at z) (r : CallAt P z g) {from : ℕ} (b : from ≡ begins_at (get_or P g.at 0) root node) {s : Option (Bor (List ℕ))} (t : TextOf P L S X from g.at s) where
+  pub call_none : s ≡ None → DoneCall P L S X root node z g false
   call_none e = call_told a r from b t.value false (λ c i. t.no_text e c _) t.first
 
-  module _ (e : s.some ≡ true) where
+  module _ {y : Bor (List ℕ)} (e : s ≡ Some y) where
     -- the test of two texts
-    tested_as : (u : Bits) → u ≡ regex_test (scope_for g.kind) (part X s.start s.size) (part L g.start g.size) → (c : Scope) → scope_kind c ≡ g.kind → u ≡ regex_values c t.value (Value.text (part L g.start g.size))
+    tested_as : (u : Bits) → u ≡ regex_test (scope_for g.kind) y.now (part L g.start g.size) → (c : Scope) → scope_kind c ≡ g.kind → u ≡ regex_values c t.value (Value.text (part L g.start g.size))
     unfolding regex_values regex_text
     tested_as u i c k =
         i
-        ∙ ap (λ (x : Scope). regex_test x (part X s.start s.size) (part L g.start g.size)) (scope_for_lem c g.kind k)
-        ∙ ap (λ (v : Value). regex_values c v (Value.text (part L g.start g.size))) (sym (t.is_text_lem e))
+        ∙ ap (λ (x : Scope). regex_test x y.now (part L g.start g.size)) (scope_for_lem c g.kind k)
+        ∙ ap (λ (v : Value). regex_values c v (Value.text (part L g.start g.size))) (sym (t.is_text_lem y e))
 
-    call_by : (u : Bits) → u ≡ regex_test (scope_for g.kind) (part X s.start s.size) (part L g.start g.size) → DoneCall P L S X root node z g u
+    call_by : (u : Bits) → u ≡ regex_test (scope_for g.kind) y.now (part L g.start g.size) → DoneCall P L S X root node z g u
     call_by u i = call_told a r from b t.value u (tested_as u i) t.first
 
     pub call_outside : {code : List ℕ} {known : ℕ} → Ready (scope_for g.kind) (part L g.start g.size) code known → known ≡ 1 → DoneCall P L S X root node z g false
     call_outside q i = call_by false (q.outside i _)
 
-    pub call_tested : {code : List ℕ} {known : ℕ} → Ready (scope_for g.kind) (part L g.start g.size) code known → (known ≡ 0 → ⊥) → (known ≡ 1 → ⊥)
-        → (u : Bits) → Tested code (take (s.start + s.size - s.start) (drop s.start X)) u → DoneCall P L S X root node z g u
-    call_tested {code} q i j u h =
-        let y : Tested code (part X s.start s.size) u = subst (λ (l : List ℕ). Tested code l u) (cut X s.start s.size) h in
-        call_by u (q.inside i j _ u (t.inside e).1 y)
-
-    pub call_alone : (u : Bits) → u ≡ regex_test (scope_for g.kind) (take (s.start + s.size - s.start) (drop s.start X)) (take (g.start + g.size - g.start) (drop g.start L)) → DoneCall P L S X root node z g u
-    call_alone u h = call_by u (h ∙ cut_test (scope_for g.kind) X L s.start s.size g.start g.size)
-
-    pub cut_utf8 : is_utf8 (take (s.start + s.size - s.start) (drop s.start X)) ≡ true
-    cut_utf8 = ap is_utf8 (cut X s.start s.size) ∙ (t.inside e).1
-
-pub spelled_utf8 : (L : List ℕ) (g : Call) → Spelled L g → is_utf8 (take (g.start + g.size - g.start) (drop g.start L)) ≡ true
-spelled_utf8 L g s = ap is_utf8 (cut L g.start g.size) ∙ s.1
+    pub call_tested : {code : List ℕ} {known : ℕ} → Ready (scope_for g.kind) (part L g.start g.size) code known → (known ≡ 0 → ⊥) → (known ≡ 1 → ⊥) → (u : Bits) → Tested code y.now u → DoneCall P L S X root node z g u
+    call_tested q i j u h = call_by u (q.inside i j _ u (t.inside y e) h)
 
 -- ---- the call that is known, where a node stands
 

@@ -1,5 +1,5 @@
 // A call of match or search in a filter's code, with a query of names and indices and a text of the plan.
-ghost use Rattle.std.specs.Prelude.{◌≡◌, true, false, ◌≤◌, ◌<◌, length};
+ghost use Rattle.std.specs.Prelude.{◌≡◌, ◌≤◌, ◌<◌, length, IfSome};
 ghost use Rattle.definition.specs.Limits.{max_plan};
 ghost use Rattle.eval_rows.specs.Calls.{AskCall, ReadAt, regex_kind};
 
@@ -10,7 +10,7 @@ use text::bytes;
 // A place that is in no plan.
 const NOWHERE: usize = 65536;
 
-// The places of the call and of its query's end, the expression's place in the pool, and the kind of the call; `some` is false where there is no such call.
+// The places of the call and of its query's end, the expression's place in the pool, and the kind of the call.
 #[derive(Clone, Copy)]
 pub struct Call {
     pub at: usize,
@@ -18,12 +18,11 @@ pub struct Call {
     pub start: usize,
     pub size: usize,
     pub kind: u8,
-    pub some: bool,
 }
 
-// No such call.
+// A call that no node comes to.
 pub fn no_call() -> Call
-    ensures { (result.some ≡ false) × (max_plan < result.at) }
+    ensures { max_plan < result.at }
 {
     Call {
         at: NOWHERE,
@@ -31,7 +30,6 @@ pub fn no_call() -> Call
         start: 0,
         size: 0,
         kind: 0,
-        some: false,
     }
 }
 
@@ -52,48 +50,41 @@ pub fn mentions(plan: &[u8], p: usize, z: usize) -> bool
     if z < 5 {
         return false;
     }
-    let e = z - 5;
-    let mut k = p;
-    while k < e {
-        if plan[k] == TEXT {
-            if is_regex(plan[k + 5]) {
-                return true;
-            }
+    for k in p..z - 5 {
+        if plan[k] == TEXT && is_regex(plan[k + 5]) {
+            return true;
         }
-        k += 1;
     }
     false
 }
 
 // The call at q, in code that ends at z.
-pub fn read_call(plan: &[u8], q: usize, z: usize) -> Call
+pub fn read_call(plan: &[u8], q: usize, z: usize) -> Option<Call>
     requires { AskCall plan.now q z }
-    ensures { result.some ≡ true → ReadAt plan.now q z result }
+    ensures { IfSome result (ReadAt plan.now q z) }
 {
     if z < q + 8 {
-        return no_call();
+        return None;
     }
     if CURRENT < plan[q] {
-        return no_call();
+        return None;
     }
-    let d = paths::read_path(plan, q + 1);
-    let end = d.at;
-    if !d.some {
-        return no_call();
-    }
+    let end = paths::read_path(plan, q + 1)?;
     if z - 7 < end {
-        return no_call();
+        return None;
     }
     let kind = plan[end + 6];
     if plan[end + 1] != TEXT {
-        return no_call();
+        return None;
     }
-    Call {
+    if !is_regex(kind) {
+        return None;
+    }
+    Some(Call {
         at: q,
         end,
         start: bytes::word16(plan, end + 2),
         size: bytes::word16(plan, end + 4),
         kind,
-        some: is_regex(kind),
-    }
+    })
 }

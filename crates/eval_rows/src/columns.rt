@@ -23,11 +23,9 @@ pub fn least(column: &[u32], n: usize, from: usize, z: usize) -> usize
     ensures { DoneLeast column.now n from z result }
 {
     let mut q = z;
-    let mut k = 0;
-    while k < n {
+    for k in 0..n {
         let c = cells::place(column[k]);
         q = lower(from, q, c);
-        k += 1;
     }
     q
 }

@@ -209,17 +209,16 @@ pub fn keep_rows(
     ensures { DonePass plan.now pool.now table.now text.now f i list.old at list.new result }
 {
     let v = unread(plan, pool, table, text, f, i, list, at);
-    if !v.more {
+    let Some(left) = v.left else {
         return v;
-    }
-    let g = calls::read_call(plan, v.q, f.z);
-    if !g.some {
+    };
+    let Some(g) = calls::read_call(plan, left.q, f.z) else {
         return v;
-    }
+    };
     if calls::mentions(plan, g.end + 7, f.z) {
         return v;
     }
-    by_size(plan, pool, table, text, f, v.i, g, list, v.at)
+    by_size(plan, pool, table, text, f, left.i, g, list, v.at)
 }
 
 // The cells of the nodes from i up to e with the filter from p up to z: from the place `from` of the code on, each call of match or search with a text of the plan is asked
@@ -252,15 +251,15 @@ pub fn fill(
         cap: 0,
         cells: true,
     };
+    // The steps differ, so that `for` is no plainer.
     let mut q = columns::least(column, e - i, from, z);
     while q < z {
-        let g = calls::read_call(plan, q, z);
-        if !g.some {
+        let Some(g) = calls::read_call(plan, q, z) else {
             if calls::mentions(plan, q, z) {
                 return q;
             }
             return z;
-        }
+        };
         by_size(plan, pool, table, text, f, i, g, column, 0);
         q = columns::least(column, e - i, q + 1, z);
     }

@@ -1,5 +1,5 @@
 // Names and indices that lead from a node to the end of a query.
-ghost use Rattle.std.specs.Prelude.{◌≡◌, true};
+ghost use Rattle.std.specs.Prelude.{IfSome};
 ghost use Rattle.eval_front.specs.Visits.{AskReach};
 ghost use Rattle.eval_rows.specs.Paths.{AskPath, Leads, DoneFollow};
 
@@ -10,18 +10,12 @@ use plan_format::heads::{INDEX_HEAD, NAME_HEAD};
 use plan_format::kinds::END;
 use text::bytes;
 
-// The place of the end of a query; `some` is false where it takes more than names and indices to come there.
-#[derive(Clone, Copy)]
-pub struct Ended {
-    pub at: usize,
-    pub some: bool,
-}
-
-// Where names and indices lead from pc on.
-pub fn read_path(plan: &[u8], pc: usize) -> Ended
+// The place of the end of a query, to which names and indices lead from pc on; none where it takes more to come there.
+pub fn read_path(plan: &[u8], pc: usize) -> Option<usize>
     requires { AskPath plan.now pc }
-    ensures { result.some ≡ true → Leads plan.now result.at pc }
+    ensures { IfSome result (λ e. Leads plan.now e pc) }
 {
+    // The steps differ, so that `for` is no plainer.
     let mut q = pc;
     while plan[q] != END {
         let head = bytes::word32(plan, q);
@@ -29,12 +23,12 @@ pub fn read_path(plan: &[u8], pc: usize) -> Ended
             q += 8;
         } else {
             if head != INDEX_HEAD {
-                return Ended { at: q, some: false };
+                return None;
             }
             q += 12;
         }
     }
-    Ended { at: q, some: true }
+    Some(q)
 }
 
 // The node that such a query, which ends at e, finds from a node.
@@ -51,6 +45,7 @@ pub fn follow(
     requires leads { Leads plan.now e pc }
     ensures { DoneFollow plan.now pool.now table.now text.now node pc e result }
 {
+    // The steps differ, so that `for` is no plainer.
     let mut m = node;
     let mut q = pc;
     while q < e {

@@ -26,21 +26,25 @@ pub struct Filter {
     pub cells: bool,
 }
 
-// How far the filter is told of a node: the answer in front of q. It is the filter's where `some`; else the test at q is not told.
+// How far the filter is told of a node: the answer in front of q. At the end of the code it is the filter's; else the test at q is not told.
 #[derive(Clone, Copy)]
 pub struct Answer {
     pub acc: bool,
     pub q: usize,
-    pub some: bool,
 }
 
-// The next place of the list of nodes; where `more`, node i is left with those behind it, since the test at q is not told of it.
+// The node that is left with those behind it, since the test at q is not told of it.
+#[derive(Clone, Copy)]
+pub struct Left {
+    pub i: usize,
+    pub q: usize,
+}
+
+// The next place of the list of nodes, and the first of them that is left.
 #[derive(Clone, Copy)]
 pub struct Passed {
-    pub i: usize,
     pub at: usize,
-    pub q: usize,
-    pub more: bool,
+    pub left: Option<Left>,
 }
 
 // How far the filter, whose code ends at z, is told of a node with a cell, by what is known of the expression of the call. A cell that is not at the place `first` is
@@ -64,18 +68,15 @@ fn asked(
 ) -> Answer
     requires within { Within plan.now pool.now table.now text.now root node × AskRest plan.now pool.now table.now text.now root node (answer_of c) (place_of c) z }
     requires knows { Knows plan.now pool.now code.now z g known × Held code.now edges.old sets.old known }
-    ensures done_answer { DoneAnswer plan.now pool.now table.now text.now root node c first z result }
+    ensures done_answer { DoneAnswer plan.now pool.now table.now text.now root node c z result }
     ensures held { Held code.now edges.new sets.new known }
 {
     let mut acc = cells::answer(c);
     let mut q = cells::place(c);
     if q != first {
-        return Answer {
-            acc,
-            q,
-            some: false,
-        };
+        return Answer { acc, q };
     }
+    // The steps differ, so that `for` is no plainer.
     while q < z {
         if q == g.at {
             acc = turns::called(
@@ -85,21 +86,13 @@ fn asked(
         } else {
             let t = eval_filters::plain_turn(plan, pool, table, text, root, node, acc, q, z);
             if !t.some {
-                return Answer {
-                    acc,
-                    q,
-                    some: false,
-                };
+                return Answer { acc, q };
             }
             acc = t.acc;
             q = t.q;
         }
     }
-    Answer {
-        acc,
-        q: z,
-        some: true,
-    }
+    Answer { acc, q: z }
 }
 
 // The cell of a node: the one at place k, or one of which nothing is told where there are none.
@@ -111,16 +104,6 @@ fn stands(in_cells: bool, p: usize, list: &[u32], k: usize) -> u32
         return list[k];
     }
     p as u32
-}
-
-// The place of the nodes that are asked: where there are cells, that of the call.
-fn asks_from(in_cells: bool, p: usize, at: usize) -> usize
-    ensures { in_cells ≡ false → result ≡ p }
-{
-    if in_cells {
-        return at;
-    }
-    p
 }
 
 // The nodes from i on that the filter keeps, with what follows, up to the first of which a test is not told. Where the filter has cells, nothing is pushed: each that
@@ -153,18 +136,12 @@ pub fn keep(
     let tail = f.tail;
     let rest = f.rest;
     let in_cells = f.cells;
-    let first = asks_from(in_cells, p, g.at);
+    let first = if in_cells { g.at } else { p };
     let mut a = at;
-    let mut j = i;
     let mut near = 0;
-    while j < e {
+    for j in i..e {
         if cap < a {
-            return Passed {
-                i: j,
-                at: a,
-                q: first,
-                more: false,
-            };
+            return Passed { at: a, left: None };
         }
         let c = stands(in_cells, p, list, j - i);
         let b = asked(
@@ -172,30 +149,20 @@ pub fn keep(
         );
         if in_cells {
             list[j - i] = cells::cell(b.acc, b.q);
-            j += 1;
-        } else {
-            if !b.some {
-                return Passed {
-                    i: j,
-                    at: a,
-                    q: b.q,
-                    more: true,
-                };
-            }
-            if b.acc {
-                let v = kept::push_tail(plan, pool, table, text, tail, j, rest, near, list, a, cap);
-                a = v.at;
-                near = v.near;
-                j += 1;
-            } else {
-                j += 1;
-            }
+            continue;
         }
+        if b.q < z {
+            return Passed {
+                at: a,
+                left: Some(Left { i: j, q: b.q }),
+            };
+        }
+        if !b.acc {
+            continue;
+        }
+        let v = kept::push_tail(plan, pool, table, text, tail, j, rest, near, list, a, cap);
+        a = v.at;
+        near = v.near;
     }
-    Passed {
-        i: j,
-        at: a,
-        q: first,
-        more: false,
-    }
+    Passed { at: a, left: None }
 }

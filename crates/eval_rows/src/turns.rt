@@ -26,42 +26,29 @@ pub const READ: u8 = 2;
 
 pub const STATES: u8 = 3;
 
-// A text's place; `some` is false where there is none.
-#[derive(Clone, Copy)]
-pub struct Spot {
-    pub start: usize,
-    pub size: usize,
-    pub some: bool,
-}
-
 // The text that the call's query finds from a node.
-fn text_of(plan: &[u8], pool: &[u8], table: &[u8], text: &[u8], from: usize, g: Call) -> Spot
+fn text_of<'a>(
+    plan: &[u8],
+    pool: &[u8],
+    table: &[u8],
+    text: &'a [u8],
+    from: usize,
+    g: Call,
+) -> Option<&'a [u8]>
     requires { AskText plan.now pool.now table.now text.now from g }
     ensures { TextOf plan.now pool.now table.now text.now from g.at result }
 {
     let r = paths::follow(plan, pool, table, text, from, g.at + 1, g.end);
     let m = r.node;
     if !r.some {
-        return Spot {
-            start: 0,
-            size: 0,
-            some: false,
-        };
+        return None;
     }
     if records::kind(table, m) != KIND_TEXT {
-        return Spot {
-            start: 0,
-            size: 0,
-            some: false,
-        };
+        return None;
     }
     let start = records::text_start(table, m) as usize;
     let size = records::text_length(table, m) as usize;
-    Spot {
-        start,
-        size,
-        some: true,
-    }
+    Some(&text[start..start + size])
 }
 
 // Whether a text has the expression that the code is of: by its states where the rooms are ready for them; in rooms of its own where no marks are lent, since then the
@@ -112,14 +99,11 @@ pub fn called(
 {
     let q = g.at;
     let from = leaves::begins(plan[q], root, node);
-    let s = text_of(plan, pool, table, text, from, g);
-    if !s.some {
+    let Some(found) = text_of(plan, pool, table, text, from, g) else {
         return false;
-    }
+    };
     if known == OUTSIDE {
         return false;
     }
-    let a = s.start;
-    let n = s.size;
-    tested(g.kind, known, code, &text[a..a + n], edges, sets, marks)
+    tested(g.kind, known, code, found, edges, sets, marks)
 }

@@ -1,11 +1,10 @@
 -- What a filter of several tests says of a node, told from its beginning without a cell. P is the plan, L the pool, S the table, X the text. Assumes nothing.
 use Rattle.std.specs.Prelude.{ℕ, ◌≤◌, ◌<◌, ◌≡◌, List, Bool as Bits, true, false}
-use Rattle.std.proofs.Common.{sym, arith}
+use Rattle.std.proofs.Common.{arith}
 use Rattle.definition.specs.Forms.{Test}
 use Rattle.definition.specs.Tables.{node_at}
 use Rattle.definition.specs.Evaluation.{eval_test}
 use Rattle.eval_laws.specs.Todos.{todo_start, todo_end}
-use Rattle.eval_front.specs.Fronts.{never}
 use Rattle.eval_filters.specs.Queries.{Within}
 use Rattle.eval_filters.specs.Kept.{Tested, AskTest, DoneTest}
 use Rattle.eval_filters.specs.Tests.{Left}
@@ -16,8 +15,8 @@ use Rattle.eval_filters.specs.Turns.{AskTurn, DoneTurn}
 
 -- the test's answer, or the place of a test that is not told
 pub record DoneJoined (P L S X : List ℕ) (root node p z : ℕ) (r : Answer) : Type 0 where
-  pub told : r.some ≡ true → DoneTest P L S X root node p z r.acc
-  pub untold : r.some ≡ false → AskLeft P L S X root node r.q z
+  pub told : z ≤ r.q → DoneTest P L S X root node p z r.acc
+  pub untold : r.q < z → AskLeft P L S X root node r.q z
 
 -- what is left of the code gives the test's answer, for every form that stands there
 abbrev pub InJoined : List ℕ → List ℕ → List ℕ → List ℕ → ℕ → ℕ → ℕ → ℕ → Bits → ℕ → Type 0
@@ -33,8 +32,8 @@ module _ {P L S X : List ℕ} {root node p z : ℕ} {acc : Bits} {q : ℕ} (w : 
   pub joined_further : {r : Told} → DoneTurn P L S X root node acc q z r → r.some ≡ true → InJoined P L S X root node p z r.acc r.q
   joined_further d s t k h = d.goes s _ (i t k h)
 
-  pub joined_none : q < z → DoneJoined P L S X root node p z (record { acc = false; q = q; some = false })
-  joined_none h = record { told = λ u. absurd (never u); untold = λ u. record { within = w; acc = acc; want = _; todo = i a.t a.k a.stands; more = h } }
+  pub joined_none : {b : Bits} → q < z → DoneJoined P L S X root node p z (record { acc = b; q = q })
+  joined_none h = record { told = λ u. absurd (omega arith); untold = λ u. record { within = w; acc = acc; want = _; todo = i a.t a.k a.stands; more = h } }
 
-  pub joined_told : z ≤ q → DoneJoined P L S X root node p z (record { acc = acc; q = q; some = true })
-  joined_told h = record { told = λ u t k b. todo_end _ _ _ _ _ _ _ _ _ _ (i t k b) h; untold = λ u. absurd (never (sym u)) }
+  pub joined_told : z ≤ q → DoneJoined P L S X root node p z (record { acc = acc; q = q })
+  joined_told h = record { told = λ u t k b. todo_end _ _ _ _ _ _ _ _ _ _ (i t k b) h; untold = λ u. absurd (omega arith) }

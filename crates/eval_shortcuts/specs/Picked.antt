@@ -8,8 +8,8 @@ use Rattle.definition.specs.Values.{Json}
 use Rattle.definition.specs.Forms.{Segments, Selectors, Selector, many_selectors}
 use Rattle.definition.specs.Forms.Segments.{end}
 use Rattle.definition.specs.Plans.{code_selector, pool_selector}
-use Rattle.definition.specs.Tables.{node_count, node_at, kind_at, kind_list, kind_map}
-use Rattle.definition.specs.Evaluation.{eval_selectors, eval_selector}
+use Rattle.definition.specs.Tables.{node_at, kind_at, kind_map}
+use Rattle.definition.specs.Evaluation.{eval_selectors}
 use Rattle.table_laws.specs.Accepted.{Accepted}
 use Rattle.eval_laws.specs.States.{State, st, push}
 use Rattle.eval_laws.specs.Emits.{go, go_end}
@@ -19,8 +19,8 @@ use Rattle.eval_values.specs.declared.members.Member.{Member}
 use Rattle.eval_values.specs.declared.members.Member.TheVariants.{At, Nothing as Absent}
 use Rattle.eval_items.specs.Leaves.{AskOne, DoneOne}
 use Rattle.eval_items.specs.LeafLaws.{name_else, index_else}
-use Rattle.eval_front.specs.Visits.{Given, Query, AskReach, DoneReach, Front, over}
-use Rattle.eval_front.specs.Stands.{one_found, one_absent, some_alone, segments_at}
+use Rattle.eval_front.specs.Visits.{AskReach, DoneReach}
+use Rattle.eval_front.specs.Stands.{one_found, one_absent, segments_at}
 use Rattle.eval_front.specs.Overs.{over_step}
 use Rattle.eval_front.specs.Spans.{Room}
 use Rattle.eval_front.specs.declared.Reached.{Reached}

@@ -2,7 +2,7 @@
 -- stands there. P is the plan, L the pool, S the table, X the text. Assumes nothing.
 use Prim.Native.Nat.{ℕ, zero, suc, ◌+◌, ◌*◌, ◌-◌, ◌≤◌, ◌<◌}
 use Rattle.std.specs.Prelude.{◌≡◌, refl, List, Bool as Bits, true, false, eqb}
-use Rattle.std.proofs.Common.{sym, ap, ◌∙◌, eqb-true}
+use Rattle.std.proofs.Common.{sym, eqb-true}
 use Rattle.std.proofs.Math.Path.{subst}
 use Rattle.std.proofs.Math.ListN.{length, get_or}
 use native.Mathlib.Omega.{arith}
@@ -10,7 +10,7 @@ use Rattle.std.proofs.lemmas.Bool.{eqb-false}
 use Rattle.definition.specs.Bytes.{number, part}
 use Rattle.definition.specs.Limits.{max_plan}
 use Rattle.definition.specs.Values.{Json}
-use Rattle.definition.specs.Forms.{Segments, Selectors, Selector, many_selectors}
+use Rattle.definition.specs.Forms.{Selectors, Selector, many_selectors}
 use Rattle.definition.specs.Forms.Segments.{end}
 use Rattle.definition.specs.Plans.{code_selectors, code_selector, pool_selector}
 use Rattle.definition.specs.Tables.{node_count, node_at, low_word, child_count}
@@ -104,12 +104,14 @@ pub record InEnds (P : List ℕ) (p n q m : ℕ) : Type 0 where
   pub bound : q ≤ length P + 8
   pub again : (z : ℕ) → Ones P q m z → Ones P p n z
 
-pub ends_start : (P : List ℕ) (p n : ℕ) → p ≤ length P → InEnds P p n p n
-ends_start P p n h = record { bound = omega arith; again = λ z o. o }
+pub ends_start : (P : List ℕ) (p n m : ℕ) → m ≡ n → p ≤ length P → InEnds P p n p m
+ends_start P p n m e h = record { bound = omega arith; again = λ z o. subst (λ (i : ℕ). Ones P p i z) e o }
 
 module _ {P : List ℕ} {p n q m : ℕ} (t : InEnds P p n q m) where
-  pub ends_next : (q' : ℕ) → 0 < m → q < length P → 5 ≤ get_or P q 0 → get_or P q 0 ≤ 6 → q' ≡ q + (4 * get_or P q 0 - 15) → InEnds P p n q' (m - 1)
-  ends_next q' l h a b e = record { bound = omega arith; again = λ z o. t.again z (ones_more P q q' m z l a b e o) }
+  pub ends_next : (q' m' : ℕ) → m ≡ m' + 1 → q < length P → 5 ≤ get_or P q 0 → get_or P q 0 ≤ 6 → q' ≡ q + (4 * get_or P q 0 - 15) → InEnds P p n q' m'
+  ends_next q' m' l h a b e =
+      let u : m' ≡ m - 1 = omega arith in
+      record { bound = omega arith; again = λ z o. t.again z (ones_more P q q' m z (omega arith) a b e (subst (λ (i : ℕ). Ones P q' i z) u o)) }
 
   pub ends_done : m ≤ 0 → q < length P → get_or P q 0 ≡ 0x0A → Ends P p n
   unfolding Ones

@@ -1,7 +1,6 @@
 -- From what evaluation asks of the nodes of a range with a filter to what `eval_rows` asks, and back. v is what is lent. Assumes nothing.
-use Rattle.std.specs.Prelude.{ℕ, ◌+◌, ◌-◌, ◌≤◌, ◌<◌, ◌≡◌, refl, List, true, false, length, set}
-use Rattle.std.proofs.Common.{ap, ◌∙◌, subst, arith}
-use Rattle.std.specs.Borrow.{Bor}
+use Rattle.std.specs.Prelude.{Some, None, ℕ, ◌≤◌, ◌<◌, ◌≡◌, refl, List, false, length}
+use Rattle.std.proofs.Common.{◌∙◌, subst, arith}
 use Rattle.eval_laws.specs.States.{st}
 use Rattle.eval_laws.specs.Steps.{kept}
 use Rattle.eval_front.specs.Fronts.{never}
@@ -13,14 +12,16 @@ use Rattle.eval_filters.specs.Turns.{turn_left}
 use Rattle.eval_rows.specs.Rows.{AskRows as AskFilter, DoneRows as DoneFilter}
 use Rattle.eval_rows.specs.Columns.{AskPass, AskFill}
 use Rattle.eval_shortcuts.specs.Joined.{joined_start, joined_turn}
+use Rattle.eval_rows.specs.declared.rows.Left.{Left as LeftAt}
 use Rattle.eval_rows.specs.declared.rows.Passed.{Passed}
-use Rattle.eval_asks.specs.Lent.{plan_of, pool_of, table_of, text_of, root_of, cap_of, at_of}
+use Rattle.eval_asks.specs.declared.Lent.{Lent}
+use Rattle.eval_asks.specs.declared.State.{State as Numbers}
+use Rattle.eval_asks.specs.Lent.{plan_of, pool_of, table_of, text_of, root_of, cap_of, at_of, with_at}
 use Rattle.eval_asks.specs.Asks.{Asked}
-use Rattle.eval_asks.specs.Steady.{wrote_at}
 use Rattle.eval_asks.specs.Kinds.{Keeps, keeping}
 use Rattle.eval_asks.specs.Rows.{AskRows, DoneRows, AskCells}
 
-module _ {v : List (Bor (List ℕ))} {i e p z rest : ℕ} {s l : List ℕ} (a : Asked v s l) where
+module _ {v : Lent} {i e p z rest : ℕ} {s : Numbers} {l : List ℕ} (a : Asked v s l) where
   pub rows_none : DoneRows v i e p z rest s l s l i
   rows_none = record { low = omega arith; high = λ h. h; room = a.room; goes = λ x R C r c. refl }
 
@@ -49,25 +50,24 @@ module _ {v : List (Bor (List ℕ))} {i e p z rest : ℕ} {s l : List ℕ} (a : 
 
     module _ {t : ℕ} {l' : List ℕ} {r : Passed} (d : DoneFilter (plan_of v) (pool_of v) (table_of v) (text_of v) (record { root = root_of s; e = e; p = p; z = z; tail = t; rest = rest; cap = cap_of s; cells = false }) i l (at_of s) l' r) where
       at_root : (k : ℕ) → ((x : Keeps (plan_of v) (pool_of v) p z rest) → keeping v p z rest k e x (root_of s) (st (cap_of s) l' r.at) ≡ keeping v p z rest i e x (root_of s) (st (cap_of s) l (at_of s)))
-          → (x : Keeps (plan_of v) (pool_of v) p z rest) (R C : ℕ) → root_of s ≡ R → cap_of s ≡ C → keeping v p z rest k e x R (st C l' (at_of (set s 2 r.at))) ≡ keeping v p z rest i e x R (st C l (at_of s))
+          → (x : Keeps (plan_of v) (pool_of v) p z rest) (R C : ℕ) → root_of s ≡ R → cap_of s ≡ C → keeping v p z rest k e x R (st C l' r.at) ≡ keeping v p z rest i e x R (st C l (at_of s))
       at_root k g x R C u c =
-          subst (λ (R : ℕ). keeping v p z rest k e x R (st C l' (at_of (set s 2 r.at))) ≡ keeping v p z rest i e x R (st C l (at_of s))) u
-          (subst (λ (C : ℕ). keeping v p z rest k e x (root_of s) (st C l' (at_of (set s 2 r.at))) ≡ keeping v p z rest i e x (root_of s) (st C l (at_of s))) c
-          (ap (λ (n : ℕ). keeping v p z rest k e x (root_of s) (st (cap_of s) l' n)) (wrote_at a r.at) ∙ g x))
+          subst (λ (R : ℕ). keeping v p z rest k e x R (st C l' r.at) ≡ keeping v p z rest i e x R (st C l (at_of s))) u
+          (subst (λ (C : ℕ). keeping v p z rest k e x (root_of s) (st C l' r.at) ≡ keeping v p z rest i e x (root_of s) (st C l (at_of s))) c
+          (g x))
 
-      pub rows_left : r.more ≡ true → DoneRows v i e p z rest s l (set s 2 r.at) l' r.i
-      rows_left m =
-          let w = wrote_at a r.at in
+      pub rows_left : {n : LeftAt} → r.left ≡ Some n → DoneRows v i e p z rest s l (with_at s r.at) l' n.i
+      rows_left {n} m =
+          let h = d.left n m in
           record {
-            low = d.going.low;
-            high = λ h. omega (arith, d.inside m);
-            room = omega (arith, d.going.room);
-            goes = at_root r.i (λ x. d.going.again x.t x.k x.q x.k' x.tested x.after);
+            low = h.going.low;
+            high = λ u. omega (arith, h.inside);
+            room = omega (arith, h.going.room);
+            goes = at_root n.i (λ x. h.going.again x.t x.k x.q x.k' x.tested x.after);
           }
 
-      pub rows_all : i ≤ e → r.more ≡ false → DoneRows v i e p z rest s l (set s 2 r.at) l' e
+      pub rows_all : i ≤ e → r.left ≡ None → DoneRows v i e p z rest s l (with_at s r.at) l' e
       rows_all h m =
-          let w = wrote_at a r.at in
           record {
             low = h;
             high = λ u. omega arith;
@@ -77,5 +77,5 @@ module _ {v : List (Bor (List ℕ))} {i e p z rest : ℕ} {s l : List ℕ} (a : 
 
 -- ---- the cells of those from i up to e
 
-pub cells_asked : {v : List (Bor (List ℕ))} {root i e p z : ℕ} {l : List ℕ} → AskCells v root i e p z l → AskFill (plan_of v) (pool_of v) (table_of v) (text_of v) root i e p z
+pub cells_asked : {v : Lent} {root i e p z : ℕ} {l : List ℕ} → AskCells v root i e p z l → AskFill (plan_of v) (pool_of v) (table_of v) (text_of v) root i e p z
 cells_asked a = let n = a.next in record { given = n.given; root_in = n.root_in; upto = a.upto; range = n.range; test = n.test }

@@ -134,6 +134,7 @@ fn flat_each(
     requires { AskFlats plan.now pool.now table.now text.now i e p (length list.old) at cap }
     ensures { DoneFlats plan.now pool.now table.now text.now i e p cap list.old at list.new result }
 {
+    // The steps differ, so that `for` is no plainer.
     let mut a = at;
     let mut j = i;
     let mut near = 0;
@@ -200,6 +201,7 @@ fn skip_flats(table: &[u8], i: usize, e: usize) -> usize
     requires { AskSkipped table.now i e }
     ensures { DoneSkipped table.now i e result }
 {
+    // The steps differ, so that `for` is no plainer.
     let mut j = i;
     while j < e {
         if !is_flat(table, j) {

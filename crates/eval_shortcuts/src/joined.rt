@@ -1,7 +1,7 @@
 // A range of nodes with a filter of several tests, of which the first is a test of one member, or of one comparison that begins with a literal or with `count`, `value`
 // or `length`: one loop over the nodes. Of several tests those of one member are told where they stand, so that no call is needed for them; others without evaluation are
 // called.
-ghost use Rattle.std.specs.Prelude.{◌≡◌, ◌+◌, ◌≤◌, ◌<◌, length};
+ghost use Rattle.std.specs.Prelude.{◌+◌, ◌≤◌, ◌<◌, length, IfSome};
 ghost use Rattle.eval_filters.specs.Queries.{Within};
 ghost use Rattle.eval_filters.specs.Atoms.{AskCode};
 ghost use Rattle.eval_filters.specs.Kept.{AskTest};
@@ -13,13 +13,15 @@ ghost use Rattle.eval_shortcuts.specs.Joined.{DoneJoined};
 
 use eval_filters::{Told, atoms, kept, values};
 use eval_rows::paths;
-use eval_rows::rows::{Answer, Filter, Passed};
+use eval_rows::rows::{Answer, Filter, Left, Passed};
 use plan_format::kinds::{COUNT, CURRENT, VALUE};
 
-// The ways of a filter: several tests, and one comparison.
-const JOINED: u8 = 1;
-
-const ALONE: u8 = 2;
+// The ways of a filter: several tests of which the first is one of a member, and one comparison of such values.
+#[derive(Clone, Copy)]
+pub enum Way {
+    Joined,
+    Alone,
+}
 
 // The test at q that no operator stands before, in code that ends at z.
 fn test_at(
@@ -62,6 +64,7 @@ fn asked(
     requires { Within plan.now pool.now table.now text.now root node × AskTest plan.now pool.now p z }
     ensures { DoneJoined plan.now pool.now table.now text.now root node p z result }
 {
+    // The steps differ, so that `for` is no plainer.
     let mut acc = false;
     let mut q = p;
     while q < z {
@@ -72,17 +75,13 @@ fn asked(
         } else {
             let t = test_at(plan, pool, table, text, root, node, q, z);
             if !t.some {
-                return Answer {
-                    acc: false,
-                    q,
-                    some: false,
-                };
+                return Answer { acc, q };
             }
             acc = t.acc;
             q = t.q;
         }
     }
-    Answer { acc, q, some: true }
+    Answer { acc, q }
 }
 
 // What the filter from p up to z says of a node, where it is one comparison of two values.
@@ -105,14 +104,10 @@ fn compared(
     let q = t.q;
     if t.some {
         if z <= q {
-            return Answer { acc, q, some: true };
+            return Answer { acc, q };
         }
     }
-    Answer {
-        acc: false,
-        q: p,
-        some: false,
-    }
+    Answer { acc: false, q: p }
 }
 
 // The same for both kinds of filters.
@@ -125,16 +120,16 @@ fn told(
     node: usize,
     p: usize,
     z: usize,
-    way: u8,
+    way: Way,
 ) -> Answer
     requires within { Within plan.now pool.now table.now text.now root node × AskTest plan.now pool.now p z }
     requires p_lt_z { p < z }
     ensures { DoneJoined plan.now pool.now table.now text.now root node p z result }
 {
-    if way == ALONE {
-        return compared(plan, pool, table, text, root, node, p, z);
+    match way {
+        Way::Joined => asked(plan, pool, table, text, root, node, p, z),
+        Way::Alone => compared(plan, pool, table, text, root, node, p, z),
     }
-    asked(plan, pool, table, text, root, node, p, z)
 }
 
 // Whether the code from p up to z begins with a literal, or with what `count`, `value` or `length` asks of names and indices.
@@ -144,37 +139,31 @@ fn begins_value(plan: &[u8], p: usize, z: usize) -> bool
     if CURRENT < plan[p] {
         return true;
     }
-    let d = paths::read_path(plan, p + 1);
-    let end = d.at;
-    if !d.some {
+    let Some(end) = paths::read_path(plan, p + 1) else {
         return false;
-    }
+    };
     if z - 2 < end {
         return false;
     }
-    let k = plan[end + 1];
-    if k < COUNT {
-        return false;
-    }
-    k <= VALUE
+    matches!(plan[end + 1], COUNT..=VALUE)
 }
 
-// The way of a filter from p up to z: 1 for several tests of which the first is one of a member, 2 for one comparison of such values, 0 for every other.
-pub fn way_of(plan: &[u8], p: usize, z: usize) -> u8
+// The way of a filter from p up to z, if it is one of these.
+pub fn way_of(plan: &[u8], p: usize, z: usize) -> Option<Way>
     requires { AskCode plan.now p z × (p < z → AskCall plan.now p z) }
-    ensures { (result ≡ 0 → ⊥) → p < z }
+    ensures { IfSome result (λ w. p < z) }
 {
     if z < p + 11 {
-        return 0;
+        return None;
     }
     let t = atoms::read_atom(plan, p, z);
     if t.form != 0 {
-        return JOINED;
+        return Some(Way::Joined);
     }
     if begins_value(plan, p, z) {
-        return ALONE;
+        return Some(Way::Alone);
     }
-    0
+    None
 }
 
 // The nodes from i on that the filter keeps, with what follows, up to the first of which a test is not told. The way only says which
@@ -186,7 +175,7 @@ pub fn keep(
     text: &[u8],
     f: Filter,
     i: usize,
-    way: u8,
+    way: Way,
     list: &mut [u32],
     at: usize,
 ) -> Passed
@@ -201,39 +190,24 @@ pub fn keep(
     let tail = f.tail;
     let rest = f.rest;
     let mut a = at;
-    let mut j = i;
     let mut near = 0;
-    while j < e {
+    for j in i..e {
         if cap < a {
-            return Passed {
-                i: j,
-                at: a,
-                q: p,
-                more: false,
-            };
+            return Passed { at: a, left: None };
         }
         let b = told(plan, pool, table, text, root, j, p, z, way);
-        if !b.some {
+        if b.q < z {
             return Passed {
-                i: j,
                 at: a,
-                q: b.q,
-                more: true,
+                left: Some(Left { i: j, q: b.q }),
             };
         }
-        if b.acc {
-            let v = kept::push_tail(plan, pool, table, text, tail, j, rest, near, list, a, cap);
-            a = v.at;
-            near = v.near;
-            j += 1;
-        } else {
-            j += 1;
+        if !b.acc {
+            continue;
         }
+        let v = kept::push_tail(plan, pool, table, text, tail, j, rest, near, list, a, cap);
+        a = v.at;
+        near = v.near;
     }
-    Passed {
-        i: j,
-        at: a,
-        q: p,
-        more: false,
-    }
+    Passed { at: a, left: None }
 }

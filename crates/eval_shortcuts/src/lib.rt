@@ -19,7 +19,7 @@ ghost use Rattle.eval_asks.specs.Cells.{Column};
 ghost use Rattle.eval_filters.specs.Values.{AskLeft};
 ghost use Rattle.std.specs.Prelude.{◌≤◌, ◌<◌};
 
-use eval_asks::{AT, CAP, PLAN, POOL, ROOT, TABLE, TEXT};
+use eval_asks::{Lent, State};
 use eval_filters::kept;
 use eval_rows::calls;
 use eval_rows::rows::Filter;
@@ -34,8 +34,8 @@ pub mod straight;
 
 // The first node from i on that needs a call with the segments at rest, or i. What names and indices up to the end lead to from those before it is pushed.
 pub fn ahead(
-    lent: &[&[u8]; 4],
-    state: &mut [usize; 3],
+    lent: &Lent,
+    state: &mut State,
     list: &mut &mut [u32],
     i: usize,
     e: usize,
@@ -46,34 +46,25 @@ pub fn ahead(
     ensures steady { Steady state.old list.old state.new list.new }
     ensures done_ahead { DoneAhead lent.now i e rest state.old list.old.now state.new list.new.now result }
 {
-    let plan = lent[PLAN];
+    let plan = lent.plan;
     if !straight::leads(plan, rest) {
         if plan[rest] == END {
             return i;
         }
         return pick_ahead(lent, state, list, i, e, rest);
     }
-    let at = state[AT];
+    let at = state.at;
     let r = straight::push_along(
-        plan,
-        lent[POOL],
-        lent[TABLE],
-        lent[TEXT],
-        i,
-        e,
-        rest,
-        *list,
-        at,
-        state[CAP],
+        plan, lent.pool, lent.table, lent.text, i, e, rest, *list, at, state.cap,
     );
-    state[AT] = r.at;
+    state.at = r.at;
     r.i
 }
 
 // The same where the last segment has several.
 fn pick_ahead(
-    lent: &[&[u8]; 4],
-    state: &mut [usize; 3],
+    lent: &Lent,
+    state: &mut State,
     list: &mut &mut [u32],
     i: usize,
     e: usize,
@@ -84,35 +75,25 @@ fn pick_ahead(
     ensures steady { Steady state.old list.old state.new list.new }
     ensures done_ahead { DoneAhead lent.now i e rest state.old list.old.now state.new list.new.now result }
 {
-    let plan = lent[PLAN];
+    let plan = lent.plan;
     let pc = several::last(plan, rest);
     if pc == 0 {
         return i;
     }
-    let at = state[AT];
+    let at = state.at;
     let r = several::push_picked(
-        plan,
-        lent[POOL],
-        lent[TABLE],
-        lent[TEXT],
-        i,
-        e,
-        rest,
-        pc,
-        *list,
-        at,
-        state[CAP],
+        plan, lent.pool, lent.table, lent.text, i, e, rest, pc, *list, at, state.cap,
     );
-    state[AT] = r.at;
+    state.at = r.at;
     r.i
 }
 
 // Whether `pass_flats` may pass a node with the descendant segment at pc. It only says which way is the faster one.
-pub fn has_flats(lent: &[&[u8]; 4], pc: usize) -> bool
+pub fn has_flats(lent: &Lent, pc: usize) -> bool
     requires given { Given (plan_of lent.now) (pool_of lent.now) (table_of lent.now) (text_of lent.now) }
     requires descends { Descends (plan_of lent.now) (pool_of lent.now) pc }
 {
-    let plan = lent[PLAN];
+    let plan = lent.plan;
     if flats::is_plain(plan, pc) {
         return true;
     }
@@ -121,8 +102,8 @@ pub fn has_flats(lent: &[&[u8]; 4], pc: usize) -> bool
 
 // The first node from i on whose descent needs a call, or i. What the descendant segment at pc selects of those before it is pushed.
 pub fn pass_flats(
-    lent: &[&[u8]; 4],
-    state: &mut [usize; 3],
+    lent: &Lent,
+    state: &mut State,
     list: &mut &mut [u32],
     i: usize,
     e: usize,
@@ -133,28 +114,19 @@ pub fn pass_flats(
     ensures steady { Steady state.old list.old state.new list.new }
     ensures done_flats { DoneFlats lent.now i e pc state.old list.old.now state.new list.new.now result }
 {
-    let at = state[AT];
-    let cap = state[CAP];
+    let at = state.at;
+    let cap = state.cap;
     let f = flats::flat_start(
-        lent[PLAN],
-        lent[POOL],
-        lent[TABLE],
-        lent[TEXT],
-        i,
-        e,
-        pc,
-        *list,
-        at,
-        cap,
+        lent.plan, lent.pool, lent.table, lent.text, i, e, pc, *list, at, cap,
     );
-    state[AT] = f.at;
+    state.at = f.at;
     f.i
 }
 
 // The children of a node for which the filter at p holds, each with the segments at rest, where the filter is read once: whether it is.
 pub fn keep_children(
-    lent: &[&[u8]; 4],
-    state: &mut [usize; 3],
+    lent: &Lent,
+    state: &mut State,
     list: &mut &mut [u32],
     node: usize,
     p: usize,
@@ -166,23 +138,23 @@ pub fn keep_children(
     ensures steady { Steady state.old list.old state.new list.new }
     ensures done_keep { DoneKeep lent.now node p rest state.old list.old.now state.new list.new.now result }
 {
-    let plan = lent[PLAN];
+    let plan = lent.plan;
     let z = p + 3 + bytes::word16(plan, p + 1);
     let g = kept::read_form(plan, p + 3, z, rest);
     if g.way == 0 {
         return false;
     }
-    let table = lent[TABLE];
+    let table = lent.table;
     let i = records::first_child(table, node) as usize;
     let n = records::child_count(table, node) as usize;
-    let root = state[ROOT];
-    let at = state[AT];
-    let cap = state[CAP];
+    let root = state.root;
+    let at = state.at;
+    let cap = state.cap;
     let next = kept::keep(
         plan,
-        lent[POOL],
+        lent.pool,
         table,
-        lent[TEXT],
+        lent.text,
         root,
         i,
         i + n,
@@ -194,15 +166,15 @@ pub fn keep_children(
         at,
         cap,
     );
-    state[AT] = next;
+    state.at = next;
     true
 }
 
 // The first node from i on of which the test from p up to z needs evaluation or an expression, or e, for a filter that `joined` is for. Those before it for which it holds
 // are pushed with what follows, where nothing or one name does. Else, and where one node alone is asked, none is looked at.
 pub fn keep_joined(
-    lent: &[&[u8]; 4],
-    state: &mut [usize; 3],
+    lent: &Lent,
+    state: &mut State,
     list: &mut &mut [u32],
     i: usize,
     e: usize,
@@ -218,18 +190,17 @@ pub fn keep_joined(
     if e < i + 2 {
         return i;
     }
-    let plan = lent[PLAN];
-    let way = joined::way_of(plan, p, z);
-    if way == 0 {
+    let plan = lent.plan;
+    let Some(way) = joined::way_of(plan, p, z) else {
         return i;
-    }
+    };
     let tail = kept::tail_of(plan, rest);
     if 1 < tail {
         return i;
     }
-    let root = state[ROOT];
-    let cap = state[CAP];
-    let at = state[AT];
+    let root = state.root;
+    let cap = state.cap;
+    let at = state.at;
     let f = Filter {
         root,
         e,
@@ -240,37 +211,26 @@ pub fn keep_joined(
         cap,
         cells: false,
     };
-    let v = joined::keep(
-        plan,
-        lent[POOL],
-        lent[TABLE],
-        lent[TEXT],
-        f,
-        i,
-        way,
-        *list,
-        at,
-    );
-    state[AT] = v.at;
-    if v.more {
-        return v.i;
+    let v = joined::keep(plan, lent.pool, lent.table, lent.text, f, i, way, *list, at);
+    state.at = v.at;
+    match v.left {
+        Some(left) => left.i,
+        None => e,
     }
-    e
 }
 
 // Whether a call of match or search with a text of the plan stands at q, where a node comes to in a test that ends at z. It only says which way is the faster one.
-pub fn is_call(lent: &[&[u8]; 4], root: usize, node: usize, q: usize, z: usize) -> bool
+pub fn is_call(lent: &Lent, root: usize, node: usize, q: usize, z: usize) -> bool
     requires { AskLeft (plan_of lent.now) (pool_of lent.now) (table_of lent.now) (text_of lent.now) root node q z }
 {
-    let g = calls::read_call(lent[PLAN], q, z);
-    g.some
+    calls::read_call(lent.plan, q, z).is_some()
 }
 
 // The first node from i on of which the test from p up to z needs evaluation or a second expression, or e. Those before it for which it holds are pushed with what
 // follows, where nothing or one name does. Else, and where one node alone is asked, none is looked at.
 pub fn keep_rows(
-    lent: &[&[u8]; 4],
-    state: &mut [usize; 3],
+    lent: &Lent,
+    state: &mut State,
     list: &mut &mut [u32],
     i: usize,
     e: usize,
@@ -286,14 +246,14 @@ pub fn keep_rows(
     if e < i + 2 {
         return i;
     }
-    let plan = lent[PLAN];
+    let plan = lent.plan;
     let tail = kept::tail_of(plan, rest);
     if 1 < tail {
         return i;
     }
-    let root = state[ROOT];
-    let cap = state[CAP];
-    let at = state[AT];
+    let root = state.root;
+    let cap = state.cap;
+    let at = state.at;
     let f = Filter {
         root,
         e,
@@ -304,18 +264,18 @@ pub fn keep_rows(
         cap,
         cells: false,
     };
-    let v = eval_rows::keep_rows(plan, lent[POOL], lent[TABLE], lent[TEXT], f, i, *list, at);
-    state[AT] = v.at;
-    if v.more {
-        return v.i;
+    let v = eval_rows::keep_rows(plan, lent.pool, lent.table, lent.text, f, i, *list, at);
+    state.at = v.at;
+    match v.left {
+        Some(left) => left.i,
+        None => e,
     }
-    e
 }
 
 // The cells of the nodes from i up to e with the test from p up to z: calls of match or search with a text of the plan, from the place `from` of the code on, are asked of
 // those that stand at them. It ends at the first place where something else stands in front of such a call, or at z.
 pub fn fill_cells(
-    lent: &[&[u8]; 4],
+    lent: &Lent,
     root: usize,
     i: usize,
     e: usize,
@@ -329,16 +289,6 @@ pub fn fill_cells(
     ensures lower_bound { result < z → from ≤ result }
 {
     eval_rows::fill(
-        lent[PLAN],
-        lent[POOL],
-        lent[TABLE],
-        lent[TEXT],
-        root,
-        i,
-        e,
-        p,
-        z,
-        from,
-        column,
+        lent.plan, lent.pool, lent.table, lent.text, root, i, e, p, z, from, column,
     )
 }

@@ -10,11 +10,11 @@ ghost use Rattle.eval_items.specs.Leaves.{AskOne, DoneOne};
 ghost use Rattle.eval_shortcuts.specs.Alongs.{AskAlong, DoneAlong};
 ghost use Rattle.eval_shortcuts.specs.Picks.{Below, Ends, Picks, DonePut, AskPick, DonePick};
 
+use crate::straight;
 use crate::straight::Passed;
 use eval_items::leaves;
 use eval_values::members;
 use eval_values::members::Member;
-use plan_format::heads::{INDEX_HEAD, NAME_HEAD};
 use plan_format::kinds::{CHILD, END, INDEX, NAME};
 use plan_format::lengths;
 use table::records;
@@ -24,48 +24,25 @@ use text::bytes;
 // A segment of more names and indices than that is left.
 const MOST: usize = 8;
 
-// The place of the first segment from rest on that has not one name or index alone. It only says where to look.
-fn behind(plan: &[u8], rest: usize) -> usize
-    requires { (length plan.now ≤ max_plan) × (rest ≤ length plan.now) }
-    ensures { result ≤ length plan.now + 4 }
-{
-    let mut q = rest;
-    while q + 8 <= plan.len() {
-        let head = bytes::word32(plan, q);
-        if head == NAME_HEAD {
-            q += 8;
-        } else {
-            if head != INDEX_HEAD {
-                return q;
-            }
-            q += 12;
-        }
-    }
-    q
-}
-
 // Whether the n selectors at p are names and indices, and the query ends behind them.
 fn ends(plan: &[u8], p: usize, n: usize) -> bool
     requires { (length plan.now ≤ max_plan) × (p ≤ length plan.now) }
     ensures { result ≡ true → Ends plan.now p n }
 {
     let mut q = p;
-    let mut m = n;
-    while 0 < m {
+    for _ in 0..n {
         if plan.len() <= q {
             return false;
         }
         let k = plan[q];
         if k == NAME {
             q += lengths::POOLED_ITEM;
-            m -= 1;
-        } else {
-            if k != INDEX {
-                return false;
-            }
-            q += lengths::NUMBER_ITEM;
-            m -= 1;
+            continue;
         }
+        if k != INDEX {
+            return false;
+        }
+        q += lengths::NUMBER_ITEM;
     }
     if plan.len() <= q {
         return false;
@@ -96,7 +73,7 @@ pub fn last(plan: &[u8], rest: usize) -> usize
     requires { (length plan.now ≤ max_plan) × (rest ≤ length plan.now) }
     ensures { (result ≡ 0 → ⊥) → Picks plan.now result }
 {
-    let pc = behind(plan, rest);
+    let pc = straight::behind(plan, rest);
     if picks(plan, pc) {
         return pc;
     }
@@ -225,18 +202,15 @@ fn pick_members(
     let count = records::child_count(table, node) as usize;
     let mut a = at;
     let mut q = p;
-    let mut m = 0;
-    while m < n {
+    for m in 0..n {
         if plan[q] == NAME {
             a = put_member(
                 plan, pool, table, text, q, node, first, count, near, m, list, a, cap,
             );
             q += lengths::POOLED_ITEM;
-            m += 1;
-        } else {
-            q += lengths::NUMBER_ITEM;
-            m += 1;
+            continue;
         }
+        q += lengths::NUMBER_ITEM;
     }
     a
 }
@@ -260,16 +234,13 @@ fn pick_elements(
 {
     let mut a = at;
     let mut q = p;
-    let mut m = 0;
-    while m < n {
+    for _ in 0..n {
         if plan[q] == INDEX {
             a = put_element(plan, pool, table, text, q, node, list, a, cap);
             q += lengths::NUMBER_ITEM;
-            m += 1;
-        } else {
-            q += lengths::POOLED_ITEM;
-            m += 1;
+            continue;
         }
+        q += lengths::POOLED_ITEM;
     }
     a
 }

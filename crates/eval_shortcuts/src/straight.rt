@@ -1,11 +1,9 @@
 // A range of nodes with names and indices behind it: what they lead to is pushed.
-ghost use Rattle.std.specs.Prelude.{◌≤◌, length};
+ghost use Rattle.std.specs.Prelude.{◌+◌, ◌≤◌, length};
 ghost use Rattle.definition.specs.Limits.{max_plan};
 ghost use Rattle.eval_shortcuts.specs.Alongs.{AskAlong, DoneAlong};
 
 use plan_format::heads::{INDEX_HEAD, NAME_HEAD};
-use plan_format::kinds::END;
-use table::records;
 use text::bytes;
 
 // The first node of a range that is left, and the next place of the list of nodes.
@@ -15,10 +13,12 @@ pub struct Passed {
     pub at: usize,
 }
 
-// Whether names and indices, one at least, lead from rest to the last byte of the plan. It only says which way is the faster one.
-pub fn leads(plan: &[u8], rest: usize) -> bool
+// The place of the first segment from rest on that has not one name or index alone. It only says where to look.
+pub fn behind(plan: &[u8], rest: usize) -> usize
     requires { (length plan.now ≤ max_plan) × (rest ≤ length plan.now) }
+    ensures { result ≤ length plan.now + 4 }
 {
+    // The steps differ, so that `for` is no plainer.
     let mut q = rest;
     while q + 8 <= plan.len() {
         let head = bytes::word32(plan, q);
@@ -26,15 +26,20 @@ pub fn leads(plan: &[u8], rest: usize) -> bool
             q += 8;
         } else {
             if head != INDEX_HEAD {
-                return false;
+                return q;
             }
             q += 12;
         }
     }
-    if q == rest {
-        return false;
-    }
-    q + 1 == plan.len()
+    q
+}
+
+// Whether names and indices, one at least, lead from rest to the last byte of the plan. It only says which way is the faster one.
+pub fn leads(plan: &[u8], rest: usize) -> bool
+    requires { (length plan.now ≤ max_plan) × (rest ≤ length plan.now) }
+{
+    let q = behind(plan, rest);
+    q != rest && q + 1 == plan.len()
 }
 
 // The nodes from i up to e with the query at rest, up to the first that needs more than names and indices.

@@ -1,28 +1,24 @@
 -- The answers of the cycle of calls {apply_selector, apply_selectors, descend_flats, each_child, each_place, eval_filter, eval_filter_expr, eval_query, eval_test, evaluate_segment, next_kept, recursive_descent, rows-keep, rows-tell, rows-turn}.
-use Prim.Native.Nat.{ℕ, ◌+◌, ◌*◌, ◌-◌, ◌<◌, ◌≤◌}
-use mathlib.Core.List.{List}
-use lib.ListN.{length, get_or, length-set}
-use Rattle.definition.specs.Limits.{max_depth}
-use Rattle.definition.specs.Tables.{depth_at}
-use Rattle.eval_asks.specs.Lent.{plan_of, table_of, pool_of, text_of}
-use borrow.Author.Rules.{rules}
-use mathlib.Core.Path.{refl, ◌≡◌, ◌∙◌, sym, ap}
+use Prim.Native.Nat.{ℕ, ◌<◌}
+use lib.ListN.{get_or, length-set}
+use Rattle.eval_asks.specs.Lent.{plan_of}
+use mathlib.Core.Path.{refl, ◌∙◌, sym, ap}
 use native.Mathlib.Omega.{arith}
 use borrow.Author.Tests.{not-true, not-false}
 use Rattle.eval_laws.specs.Ranges.{range_of_lem, range_in}
 use Rattle.eval_asks.specs.Steady.{steady_refl, steady_then, steady_wrote, asked_later, going_asked, going_start}
-use Rattle.eval.specs.Calls.{here_push, here_ends, selector_room, InSelectors, parts_bound, parts_skip, selectors_start, selectors_asked, selectors_in, selectors_passed, selectors_again, selectors_done, selectors_next, selectors_room, descent_room, descent_selectors, InDescent, descent_again, descent_ended, descent_done, child_of, segment_room, reach_asked, reached_in, segment_lost, push_asked, segment_ends, onward_selectors, segment_child_done, onward_descent, segment_descent_done}
-use Rattle.eval_asks.specs.Kinds.{one_asked, rest_in, selector_absent, found_asked, selector_found, each_asked, wildcard_done, kept_after, kept_room, kind_filter, InEach, each_none, each_ended, numbers_asked, each_again, each_full, each_end, each_enters, slice_walk, placed_asked, placed_in, walked_asked, slice_ended, slice_done_all, InPlaces, place_in, place_near, places_again, places_full, places_end, filter_bound, filter_inside, rest_asked, next_asked, test_asked, kept_in_table, filter_done, InFilter, filter_start, filter_end_all, filter_left, filter_full, filter_again, next_later, InNext, next_found, next_none, next_again}
+use Rattle.eval.specs.Calls.{here_push, here_ends, selector_room, parts_bound, parts_skip, selectors_start, selectors_asked, selectors_in, selectors_passed, selectors_again, selectors_done, selectors_next, selectors_room, descent_room, descent_selectors, descent_again, descent_ended, descent_done, child_of, segment_room, reach_asked, reached_in, segment_lost, push_asked, segment_ends, onward_selectors, segment_child_done, onward_descent, segment_descent_done}
+use Rattle.eval_asks.specs.Kinds.{one_asked, rest_in, selector_absent, found_asked, selector_found, each_asked, wildcard_done, kept_after, kept_room, kind_filter, each_none, each_ended, numbers_asked, each_again, each_full, each_end, each_enters, slice_walk, placed_asked, placed_in, walked_asked, slice_ended, slice_done_all, place_in, place_near, places_again, places_full, places_end, filter_bound, filter_inside, rest_asked, next_asked, test_asked, kept_in_table, filter_done, filter_start, filter_end_all, filter_left, filter_full, filter_again, next_later, next_found, next_none, next_again}
 use Rattle.eval_laws.specs.Items.{segments_in}
 use Rattle.eval.specs.Alone.{enter_head, enter_selector, enter_done, wildcard_ends, query_bound}
 use Rattle.eval_asks.specs.Rows.{rows_given, rows_next, rows_then}
-use Rattle.eval.specs.Columns.{none_passed, next_met, code_near, InCells, kept_none, rest_here, goes_here, cells_first, cells_next, cells_filled, cell_within, cell_here, cells_full, cells_end, cells_out, cells_in, tell_start, later_less, turn_within, turn_place, turn_asked, turn_set}
+use Rattle.eval.specs.Columns.{none_passed, next_met, code_near, kept_none, rest_here, goes_here, cells_first, cells_next, cells_filled, cell_within, cell_here, cells_full, cells_end, cells_out, cells_in, tell_start, later_less, turn_within, turn_place, turn_asked, turn_set}
 use Rattle.eval_filters.specs.Turns.{turn_left}
-use Rattle.eval.specs.Loops.{InTest, turn_here, said_met, said_told, InRest, clear_left, said_test, said_rest, said_later, rest_start, rest_later}
+use Rattle.eval.specs.Loops.{turn_here, said_met, said_told, clear_left, said_test, said_rest, said_later, rest_start, rest_later}
 use Rattle.eval_filters.specs.Queries.{begins_in, past_of, found_lost, found_one}
 use Rattle.eval.specs.Queries.{cap_small, query_done, here, nested_found, nested_head, walk_found}
 use Rattle.eval_laws.specs.Todos.{todo_in}
-use Rattle.eval_asks.specs.Cells.{left_ended, Column}
+use Rattle.eval_asks.specs.Cells.{left_ended}
 use mathlib.Core.Bool.{not}
 use Rattle.eval.proofs.+evaluation.Goals as goal
 
@@ -296,14 +292,6 @@ each_child-each_child-requires t c =
     (omega (arith, query_bound c.requires.asked.given.few_p c.requires.ask_each.query c.if-plan-rest-eq-END.false), (w.asked, each_asked w.asked q g))
 
 -- each_child
-pub each_child-overflow_add-j : goal.each_child-overflow_add-j
-each_child-overflow_add-j t c = omega (arith, c.loop-j-test.true, c.ranges.e)
-
--- each_child
-pub each_child-loop-j-smaller-then-head-eq-WILDCARD_HEAD : goal.each_child-loop-j-smaller-then-head-eq-WILDCARD_HEAD
-each_child-loop-j-smaller-then-head-eq-WILDCARD_HEAD t c = omega (arith, c.loop-j-test.true)
-
--- each_child
 pub each_child-loop-j-preserved-then-head-eq-WILDCARD_HEAD : goal.each_child-loop-j-preserved-then-head-eq-WILDCARD_HEAD
 each_child-loop-j-preserved-then-head-eq-WILDCARD_HEAD t c =
     let w = each_enters c.loop-j.invariant c.requires.asked c.requires.ask_each c.if-plan-rest-eq-END.false c.loop-j-test.true in
@@ -319,14 +307,6 @@ pub each_child-evaluate_segment-requires : goal.each_child-evaluate_segment-requ
 each_child-evaluate_segment-requires t c =
     let w = each_enters c.loop-j.invariant c.requires.asked c.requires.ask_each c.if-plan-rest-eq-END.false c.loop-j-test.true in
     (omega arith, (w.asked, w.segment))
-
--- each_child
-pub each_child-overflow_add-j-else-head-eq-WILDCARD_HEAD : goal.each_child-overflow_add-j-else-head-eq-WILDCARD_HEAD
-each_child-overflow_add-j-else-head-eq-WILDCARD_HEAD t c = omega (arith, c.loop-j-test.true, c.ranges.e)
-
--- each_child
-pub each_child-loop-j-smaller : goal.each_child-loop-j-smaller
-each_child-loop-j-smaller t c = omega (arith, c.loop-j-test.true)
 
 -- each_child
 pub each_child-loop-j-preserved : goal.each_child-loop-j-preserved
@@ -434,7 +414,7 @@ eval_filter-overflow_add-p-3 t c = omega (arith, filter_bound c.requires.asked c
 
 -- eval_filter
 pub eval_filter-next_kept-v-requires : goal.eval_filter-next_kept-v-requires
-eval_filter-next_kept-v-requires t c = (omega (arith, c.decreases), rows_next (c.keep_joined-k.ensures.steady, c.keep_joined-k.ensures.done_rows) (next_asked c.requires.asked c.requires.ask_selector c.requires.ask_kind c.word16.ensures c.first_child-i.ensures c.child_count-n.ensures _ (omega arith)))
+eval_filter-next_kept-v-requires t c = (omega (arith, c.decreases), (rows_next (c.keep_joined-k.ensures.steady, c.keep_joined-k.ensures.done_rows) (next_asked c.requires.asked c.requires.ask_selector c.requires.ask_kind c.word16.ensures c.first_child-i.ensures c.child_count-n.ensures _ (omega arith)), c.keep_joined-k.ensures.done_rows.high (omega arith)))
 
 -- eval_filter
 pub eval_filter-loop-v-init : goal.eval_filter-loop-v-init
@@ -482,7 +462,7 @@ eval_filter-overflow_add-p-else-v-2 t c = omega (arith, filter_bound c.requires.
 
 -- eval_filter
 pub eval_filter-next_kept-v-requires-else-v-2 : goal.eval_filter-next_kept-v-requires-else-v-2
-eval_filter-next_kept-v-requires-else-v-2 t c = (omega (arith, c.decreases), next_later (steady_then c.keep_joined-k.ensures.steady (steady_then c.loop-v.invariant.going.kept c.evaluate_segment.ensures.steady)) (next_asked c.requires.asked c.requires.ask_selector c.requires.ask_kind c.word16.ensures c.first_child-i.ensures c.child_count-n.ensures _ (omega (arith, c.loop-v.invariant.low, c.keep_joined-k.ensures.done_rows.low))))
+eval_filter-next_kept-v-requires-else-v-2 t c = (omega (arith, c.decreases), (next_later (steady_then c.keep_joined-k.ensures.steady (steady_then c.loop-v.invariant.going.kept c.evaluate_segment.ensures.steady)) (next_asked c.requires.asked c.requires.ask_selector c.requires.ask_kind c.word16.ensures c.first_child-i.ensures c.child_count-n.ensures _ (omega (arith, c.loop-v.invariant.low, c.keep_joined-k.ensures.done_rows.low))), omega (arith, c.loop-v-test.true)))
 
 -- eval_filter
 pub eval_filter-loop-v-smaller : goal.eval_filter-loop-v-smaller
@@ -603,11 +583,7 @@ eval_query-evaluate_segment-requires t c =
     let y = c.reach-r.ensures.front h.f h.k h.at in
     let i = begins_in _ (get_or (plan_of c.args.lent.now) c.args.s.q 0) _ _ _ c.begins-from.ensures c.requires.within.root_in c.requires.within.node_in in
     let m = cap_small _ (get_or (plan_of c.args.lent.now) c.past_query-z.result 0) c.cap_of-cap.ensures in
-    (omega (arith, h.inside, c.reach-r.ensures.later), (record { given = record { few_p = c.requires.within.few_p; few_l = c.requires.within.few_l; tab = c.requires.within.tab }; root_in = i; room = omega arith; wide = omega arith; small = omega arith; three = refl }, record { node_in = c.reach-r.ensures.node_in; query = record { f = y.g; k = y.j; at = y.at } }))
-
--- eval_query
-pub eval_query-bounds-state-2 : goal.eval_query-bounds-state-2
-eval_query-bounds-state-2 t c = omega (arith, c.evaluate_segment.ensures.steady.three)
+    (omega (arith, h.inside, c.reach-r.ensures.later), (record { given = record { few_p = c.requires.within.few_p; few_l = c.requires.within.few_l; tab = c.requires.within.tab }; root_in = i; room = omega arith; wide = omega arith; small = omega arith }, record { node_in = c.reach-r.ensures.node_in; query = record { f = y.g; k = y.j; at = y.at } }))
 
 -- eval_query
 pub eval_query-bounds-places-0 : goal.eval_query-bounds-places-0
@@ -743,7 +719,7 @@ next_kept-loop-j-init t c = record { low = omega arith; high = λ h. h; passed =
 
 -- next_kept
 pub next_kept-eval_filter_expr-s-requires : goal.next_kept-eval_filter_expr-s-requires
-next_kept-eval_filter_expr-s-requires t c = (omega (arith, c.decreases), (record { few_p = c.requires.given.few_p; few_l = c.requires.given.few_l; tab = c.requires.given.tab; root_in = c.requires.root_in; node_in = omega (arith, c.loop-j-test.true, c.requires.range (omega (arith, c.loop-j.invariant.low, c.loop-j-test.true))) }, rest_start c.requires.test))
+next_kept-eval_filter_expr-s-requires t c = (omega (arith, c.decreases), (record { few_p = c.requires.0.given.few_p; few_l = c.requires.0.given.few_l; tab = c.requires.0.given.tab; root_in = c.requires.0.root_in; node_in = omega (arith, c.loop-j-test.true, c.requires.0.range (omega (arith, c.loop-j.invariant.low, c.loop-j-test.true))) }, rest_start c.requires.0.test))
 
 -- next_kept
 pub next_kept-returns-then-not-s : goal.next_kept-returns-then-not-s
@@ -751,7 +727,7 @@ next_kept-returns-then-not-s t c = next_met c.loop-j.invariant
 
 -- next_kept
 pub next_kept-eval_filter_expr-r-requires : goal.next_kept-eval_filter_expr-r-requires
-next_kept-eval_filter_expr-r-requires t c = (omega (arith, c.eval_filter_expr-s.ensures.later (code_near c.requires).0, c.decreases), (record { few_p = c.requires.given.few_p; few_l = c.requires.given.few_l; tab = c.requires.given.tab; root_in = c.requires.root_in; node_in = omega (arith, c.loop-j-test.true, c.requires.range (omega (arith, c.loop-j.invariant.low, c.loop-j-test.true))) }, rest_later c.eval_filter_expr-s.ensures c.requires.test))
+next_kept-eval_filter_expr-r-requires t c = (omega (arith, c.eval_filter_expr-s.ensures.later (code_near c.requires.0).0, c.decreases), (record { few_p = c.requires.0.given.few_p; few_l = c.requires.0.given.few_l; tab = c.requires.0.given.tab; root_in = c.requires.0.root_in; node_in = omega (arith, c.loop-j-test.true, c.requires.0.range (omega (arith, c.loop-j.invariant.low, c.loop-j-test.true))) }, rest_later c.eval_filter_expr-s.ensures c.requires.0.test))
 
 -- next_kept
 pub next_kept-returns-then-r : goal.next_kept-returns-then-r
@@ -762,28 +738,20 @@ pub next_kept-overflow_add-result : goal.next_kept-overflow_add-result
 next_kept-overflow_add-result t c = omega (arith, c.loop-j-test.true, c.ranges.e)
 
 -- next_kept
+pub next_kept-returns-then-s-z : goal.next_kept-returns-then-s-z
+next_kept-returns-then-s-z t c = next_met (next_again c.loop-j.invariant c.loop-j-test.true (said_later c.eval_filter_expr-s.ensures (said_rest c.eval_filter_expr-r.ensures (c.eval_filter_expr-r.ensures.onward refl))) c.if-r.false)
+
+-- next_kept
 pub next_kept-returns-then-s : goal.next_kept-returns-then-s
-next_kept-returns-then-s t c = next_met (next_again c.loop-j.invariant c.loop-j-test.true (said_later c.eval_filter_expr-s.ensures (said_rest c.eval_filter_expr-r.ensures (c.eval_filter_expr-r.ensures.onward refl))) c.if-r.false)
-
--- next_kept
-pub next_kept-returns-then-s-2 : goal.next_kept-returns-then-s-2
-next_kept-returns-then-s-2 t c = next_found c.loop-j.invariant (λ n. said_test c.eval_filter_expr-s.ensures c.if-s.false) c.if-s-2.true
-
--- next_kept
-pub next_kept-overflow_add-j : goal.next_kept-overflow_add-j
-next_kept-overflow_add-j t c = omega (arith, c.loop-j-test.true, c.ranges.e)
-
--- next_kept
-pub next_kept-loop-j-smaller : goal.next_kept-loop-j-smaller
-next_kept-loop-j-smaller t c = omega (arith, c.loop-j-test.true)
+next_kept-returns-then-s t c = next_found c.loop-j.invariant (λ n. said_test c.eval_filter_expr-s.ensures (omega (arith, c.if-s-z.false))) c.if-s.true
 
 -- next_kept
 pub next_kept-loop-j-preserved : goal.next_kept-loop-j-preserved
-next_kept-loop-j-preserved t c = next_again c.loop-j.invariant c.loop-j-test.true (said_test c.eval_filter_expr-s.ensures c.if-s.false) c.if-s-2.false
+next_kept-loop-j-preserved t c = next_again c.loop-j.invariant c.loop-j-test.true (said_test c.eval_filter_expr-s.ensures (omega (arith, c.if-s-z.false))) c.if-s.false
 
 -- next_kept
 pub next_kept-returns : goal.next_kept-returns
-next_kept-returns t c = next_none c.loop-j.invariant c.loop-j-test.false
+next_kept-returns t c = next_none c.loop-j.invariant c.loop-j-test.false (c.loop-j.auto.j-end c.requires.1)
 
 -- recursive_descent
 pub recursive_descent-apply_selectors-requires : goal.recursive_descent-apply_selectors-requires
@@ -1003,7 +971,7 @@ rows::turn-bounds-column-j t c = omega (arith, turn_place c.requires.0.next c.lo
 
 -- rows-turn
 pub rows::turn-eval_filter_expr-s-requires : goal.rows::turn-eval_filter_expr-s-requires
-rows::turn-eval_filter_expr-s-requires t c = (omega (arith, c.decreases), (turn_within c.requires.0.next c.loop-j.invariant.1.0 c.loop-j.invariant.0 c.loop-j-test.true, turn_asked c.requires.0.next c.loop-j.invariant.1.0 c.loop-j.invariant.0 c.loop-j-test.true c.answer.ensures (sym c.if-place-q.true ∙ c.place.ensures)))
+rows::turn-eval_filter_expr-s-requires t c = (omega (arith, c.decreases), (turn_within c.requires.0.next c.loop-j.invariant.1.0 c.loop-j.invariant.0 c.loop-j-test.true, turn_asked c.requires.0.next c.loop-j.invariant.1.0 c.loop-j.invariant.0 c.loop-j-test.true c.answer.ensures (sym c.if-place-q.false ∙ c.place.ensures)))
 
 -- rows-turn
 pub rows::turn-cell-requires : goal.rows::turn-cell-requires
@@ -1014,36 +982,20 @@ pub rows::turn-overflow_sub-column : goal.rows::turn-overflow_sub-column
 rows::turn-overflow_sub-column t c = omega (arith, c.loop-j.invariant.0)
 
 -- rows-turn
-pub rows::turn-offset_bounds-column-j-then-place-q : goal.rows::turn-offset_bounds-column-j-then-place-q
-rows::turn-offset_bounds-column-j-then-place-q t c = omega (arith, turn_place c.requires.0.next c.loop-j.invariant.1.0 c.loop-j.invariant.0 c.loop-j-test.true)
+pub rows::turn-offset_bounds-column-j-in-loop-j : goal.rows::turn-offset_bounds-column-j-in-loop-j
+rows::turn-offset_bounds-column-j-in-loop-j t c = omega (arith, turn_place c.requires.0.next c.loop-j.invariant.1.0 c.loop-j.invariant.0 c.loop-j-test.true)
 
 -- rows-turn
-pub rows::turn-bounds-column-j-then-place-q : goal.rows::turn-bounds-column-j-then-place-q
-rows::turn-bounds-column-j-then-place-q t c = omega (arith, turn_place c.requires.0.next c.loop-j.invariant.1.0 c.loop-j.invariant.0 c.loop-j-test.true)
-
--- rows-turn
-pub rows::turn-overflow_add-j : goal.rows::turn-overflow_add-j
-rows::turn-overflow_add-j t c = omega (arith, c.loop-j-test.true, c.ranges.e)
-
--- rows-turn
-pub rows::turn-loop-j-smaller-then-place-q : goal.rows::turn-loop-j-smaller-then-place-q
-rows::turn-loop-j-smaller-then-place-q t c = omega (arith, c.loop-j-test.true)
-
--- rows-turn
-pub rows::turn-loop-j-preserved-then-place-q : goal.rows::turn-loop-j-preserved-then-place-q
-rows::turn-loop-j-preserved-then-place-q t c = (omega (arith, c.loop-j.invariant.0), (turn_set c.requires.0.next c.loop-j.invariant.1.0 c.loop-j.invariant.0 c.loop-j-test.true c.answer.ensures (sym c.if-place-q.true ∙ c.place.ensures) c.eval_filter_expr-s.ensures _ c.cell.ensures, length-set c.loop-j.column _ _ ∙ c.loop-j.invariant.1.1))
-
--- rows-turn
-pub rows::turn-overflow_add-j-else-place-q : goal.rows::turn-overflow_add-j-else-place-q
-rows::turn-overflow_add-j-else-place-q t c = omega (arith, c.loop-j-test.true, c.ranges.e)
-
--- rows-turn
-pub rows::turn-loop-j-smaller : goal.rows::turn-loop-j-smaller
-rows::turn-loop-j-smaller t c = omega (arith, c.loop-j-test.true)
+pub rows::turn-bounds-column-j-in-loop-j : goal.rows::turn-bounds-column-j-in-loop-j
+rows::turn-bounds-column-j-in-loop-j t c = omega (arith, turn_place c.requires.0.next c.loop-j.invariant.1.0 c.loop-j.invariant.0 c.loop-j-test.true)
 
 -- rows-turn
 pub rows::turn-loop-j-preserved : goal.rows::turn-loop-j-preserved
-rows::turn-loop-j-preserved t c = (omega (arith, c.loop-j.invariant.0), c.loop-j.invariant.1)
+rows::turn-loop-j-preserved t c = (omega (arith, c.loop-j.invariant.0), (turn_set c.requires.0.next c.loop-j.invariant.1.0 c.loop-j.invariant.0 c.loop-j-test.true c.answer.ensures (sym c.if-place-q.false ∙ c.place.ensures) c.eval_filter_expr-s.ensures _ c.cell.ensures, length-set c.loop-j.column _ _ ∙ c.loop-j.invariant.1.1))
+
+-- rows-turn
+pub rows::turn-loop-j-preserved-then-place-q : goal.rows::turn-loop-j-preserved-then-place-q
+rows::turn-loop-j-preserved-then-place-q t c = (omega (arith, c.loop-j.invariant.0), c.loop-j.invariant.1)
 
 -- rows-turn
 pub rows::turn-shape_of-column : goal.rows::turn-shape_of-column

@@ -1,25 +1,16 @@
 -- The measures and invariants of the cycle of calls {apply_selector, apply_selectors, descend_flats, each_child, each_place, eval_filter, eval_filter_expr, eval_query, eval_test, evaluate_segment, next_kept, recursive_descent, rows-keep, rows-tell, rows-turn}.
 use Prim.Native.Nat.{ℕ, ◌+◌, ◌*◌, ◌-◌, ◌<◌, ◌≤◌}
 use mathlib.Core.List.{List}
-use lib.ListN.{length, get_or, length-set}
+use lib.ListN.{length}
 use Rattle.definition.specs.Limits.{max_depth}
 use Rattle.definition.specs.Tables.{depth_at}
 use Rattle.eval_asks.specs.Lent.{plan_of, table_of, pool_of, text_of}
-use borrow.Author.Rules.{rules}
-use native.Mathlib.Omega.{arith}
-use Rattle.eval_asks.specs.Steady.{steady_then, going_asked, asked_later, going_start, steady_refl, steady_wrote}
-use Rattle.eval.specs.Calls.{selector_room, InSelectors, parts_bound, parts_skip, selectors_start, selectors_asked, selectors_in, selectors_passed, selectors_again, selectors_done, selectors_next, selectors_room, descent_room, descent_selectors, InDescent, descent_again, descent_ended, descent_done, child_of, segment_room}
-use Rattle.eval_laws.specs.Ranges.{range_of_lem, range_in}
-use mathlib.Core.Path.{refl, ◌≡◌, ◌∙◌, sym}
-use Rattle.eval_laws.specs.Items.{segments_in}
-use Rattle.eval_asks.specs.Kinds.{InEach, each_none, each_ended, numbers_asked, each_again, each_full, each_end, each_enters, each_asked, wildcard_done, rest_in, slice_walk, placed_asked, placed_in, walked_asked, slice_ended, slice_done_all, InPlaces, place_in, place_near, places_again, places_full, places_end, filter_bound, filter_inside, rest_asked, next_asked, test_asked, kept_in_table, filter_done, InFilter, filter_start, filter_end_all, filter_left, filter_full, filter_again, next_later, InNext, next_found, next_none, next_again}
-use Rattle.eval.specs.Alone.{enter_head, enter_selector, enter_done, wildcard_ends, query_bound}
-use Rattle.eval_asks.specs.Rows.{rows_given, rows_next, rows_then}
-use Rattle.eval.specs.Columns.{none_passed, next_met, code_near, InCells, kept_none, rest_here, goes_here, cells_first, cells_next, cells_filled, cell_within, cell_here, cells_full, cells_end, cells_out, cells_in, tell_start, later_less, turn_within, turn_place, turn_asked, turn_set}
-use Rattle.eval_filters.specs.Turns.{turn_left}
-use Rattle.eval.specs.Loops.{InTest, turn_here, said_met, said_told, InRest, clear_left, said_test, said_rest, said_later, rest_start, rest_later}
-use Rattle.eval_laws.specs.Todos.{todo_in}
-use Rattle.eval_asks.specs.Cells.{left_ended, Column}
+use Rattle.eval.specs.Calls.{InSelectors, InDescent}
+use mathlib.Core.Path.{◌≡◌}
+use Rattle.eval_asks.specs.Kinds.{InEach, InPlaces, InFilter, InNext}
+use Rattle.eval.specs.Columns.{InCells}
+use Rattle.eval.specs.Loops.{InTest, InRest}
+use Rattle.eval_asks.specs.Cells.{Column}
 use Rattle.eval.proofs.+evaluation.Given as goal
 
 -- 64 for each byte that is left of the plan
@@ -86,9 +77,6 @@ decreases-descend_flats-loop-j l = l.e - l.j
 abbrev pub invariant-each_child-loop-j : goal.invariant-each_child-loop-j
 invariant-each_child-loop-j l = InEach l.lent l.i l.e l.rest l.initial.state l.initial.list l.state l.list l.j
 
-abbrev pub decreases-each_child-loop-j : goal.decreases-each_child-loop-j
-decreases-each_child-loop-j l = l.e - l.j
-
 abbrev pub invariant-each_place-loop-w : goal.invariant-each_place-loop-w
 invariant-each_place-loop-w l = InPlaces l.lent l.rest l.initial.w l.initial.state l.initial.list l.state l.list l.w
 
@@ -116,9 +104,6 @@ decreases-eval_test-loop-s l = l.e - l.s.q
 abbrev pub invariant-next_kept-loop-j : goal.invariant-next_kept-loop-j
 invariant-next_kept-loop-j l = InNext l.lent l.root l.i l.e l.p l.z l.j
 
-abbrev pub decreases-next_kept-loop-j : goal.decreases-next_kept-loop-j
-decreases-next_kept-loop-j l = l.e - l.j
-
 abbrev pub invariant-recursive_descent-loop-j : goal.invariant-recursive_descent-loop-j
 invariant-recursive_descent-loop-j l = InDescent l.lent l.pc l.e l.initial.j l.initial.state l.initial.list l.state l.list l.j
 
@@ -139,6 +124,3 @@ decreases-rows::tell-loop-q l = l.z - l.q
 
 abbrev pub invariant-rows::turn-loop-j : goal.invariant-rows::turn-loop-j
 invariant-rows::turn-loop-j l = (l.i ≤ l.j) × (Column (plan_of l.lent) (pool_of l.lent) (table_of l.lent) (text_of l.lent) l.root l.i l.e l.p l.z l.column × (length l.column ≡ length l.initial.column))
-
-abbrev pub decreases-rows::turn-loop-j : goal.decreases-rows::turn-loop-j
-decreases-rows::turn-loop-j l = l.e - l.j

@@ -1,7 +1,5 @@
 -- The answers of the cycle of calls {long}.
-use Prim.Native.Nat.{ℕ, ◌<◌}
 use mathlib.Core.Path.{refl}
-use borrow.Author.Rules.{rules}
 use Rattle.regex_rooms.proofs.Laws.{rooms}
 use Rattle.eval_rows.proofs.+long.Goals as goal
 

@@ -1,5 +1,4 @@
 -- The measures and invariants of the cycle of calls {long}.
-use Prim.Native.Nat.{ℕ, ◌<◌}
 use Rattle.eval_rows.proofs.+long.Given as goal
 
 abbrev pub decreases-long : goal.decreases-long

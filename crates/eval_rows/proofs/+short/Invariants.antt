@@ -1,5 +1,4 @@
 -- The measures and invariants of the cycle of calls {short}.
-use Prim.Native.Nat.{ℕ, ◌<◌}
 use Rattle.eval_rows.proofs.+short.Given as goal
 
 abbrev pub decreases-short : goal.decreases-short

@@ -1,8 +1,6 @@
 -- `by_size` meets its contract.
 use Rattle.regex_rooms.specs.Rooms.{scope_for}
 use Rattle.eval_rows.specs.Known.{cut_long}
-use borrow.Author.Rules.{rules}
-use Rattle.eval_rows.proofs.by_size.Lts as lts
 use Rattle.eval_rows.proofs.by_size.Goals as goal
 
 pub short-requires : goal.short-requires

@@ -1,14 +1,8 @@
 -- `fill` meets its contract. The loop keeps the cells, and the place at which it is is later and one of them stands there.
-use Prim.Native.Nat.{◌-◌, ◌≤◌, ◌<◌}
-use mathlib.Core.Path.{◌≡◌, refl, sym, ◌∙◌}
-use lib.ListN.{length}
+use mathlib.Core.Path.{refl, ◌∙◌}
 use native.Mathlib.Omega.{arith}
-use borrow.Author.Tests.{not-false}
-use borrow.Author.Rules.{rules}
-use Rattle.eval_asks.specs.Cells.{Column}
 use Rattle.eval_rows.specs.Calls.{left_asked, read_spelled}
-use Rattle.eval_rows.specs.Columns.{Standing, least_less, fill_code, fill_asked, stands_left}
-use Rattle.eval_rows.proofs.fill.Lts as lts
+use Rattle.eval_rows.specs.Columns.{least_less, fill_code, fill_asked, stands_left}
 use Rattle.eval_rows.proofs.fill.Goals as goal
 
 pub overflow_sub-e : goal.overflow_sub-e
@@ -20,8 +14,8 @@ least-q-requires c = c.requires.column.long
 pub loop-q-init : goal.loop-q-init
 loop-q-init c = (c.requires.column, (refl, c.least-q.ensures))
 
-pub read_call-g-requires : goal.read_call-g-requires
-read_call-g-requires c = left_asked (stands_left (fill_asked c.requires.ask_fill c.loop-q.invariant.0) refl (c.loop-q.invariant.1.1 c.loop-q-test.true).1 c.loop-q-test.true)
+pub read_call-requires : goal.read_call-requires
+read_call-requires c = left_asked (stands_left (fill_asked c.requires.ask_fill c.loop-q.invariant.0) refl (c.loop-q.invariant.1.1 c.loop-q-test.true).1 c.loop-q-test.true)
 
 pub mentions-requires : goal.mentions-requires
 mentions-requires c = ((left_asked (stands_left (fill_asked c.requires.ask_fill c.loop-q.invariant.0) refl (c.loop-q.invariant.1.1 c.loop-q-test.true).1 c.loop-q-test.true)).inside, (fill_code c.requires.ask_fill).1)
@@ -32,14 +26,14 @@ shape_of-column-then-mentions c = c.loop-q.invariant.1.0
 pub returns-then-mentions : goal.returns-then-mentions
 returns-then-mentions c = record { column_2 = c.loop-q.invariant.0; lower_bound = λ h. (c.loop-q.invariant.1.1 c.loop-q-test.true).0 }
 
-pub shape_of-column-then-not-g : goal.shape_of-column-then-not-g
-shape_of-column-then-not-g c = c.loop-q.invariant.1.0
+pub shape_of-column-in_default : goal.shape_of-column-in_default
+shape_of-column-in_default c = c.loop-q.invariant.1.0
 
-pub returns-then-not-g : goal.returns-then-not-g
-returns-then-not-g c = record { column_2 = c.loop-q.invariant.0; lower_bound = λ h. absurd (omega arith) }
+pub returns-in_default : goal.returns-in_default
+returns-in_default c = record { column_2 = c.loop-q.invariant.0; lower_bound = λ h. absurd (omega arith) }
 
 pub by_size-requires : goal.by_size-requires
-by_size-requires c = let r = c.read_call-g.ensures (not-false _ c.if-not-g.false) in record { ask_pass = fill_asked c.requires.ask_fill c.loop-q.invariant.0; call_at = (r.call, read_spelled (stands_left (fill_asked c.requires.ask_fill c.loop-q.invariant.0) refl (c.loop-q.invariant.1.1 c.loop-q-test.true).1 c.loop-q-test.true) r) }
+by_size-requires c = let r = c.in-Some.ensures in record { ask_pass = fill_asked c.requires.ask_fill c.loop-q.invariant.0; call_at = (r.call, read_spelled (stands_left (fill_asked c.requires.ask_fill c.loop-q.invariant.0) refl (c.loop-q.invariant.1.1 c.loop-q-test.true).1 c.loop-q-test.true) r) }
 
 pub overflow_sub-e-in-loop-q : goal.overflow_sub-e-in-loop-q
 overflow_sub-e-in-loop-q c = omega (arith, c.requires.ask_fill.upto)

@@ -1,14 +1,9 @@
 -- `fill` meets its contract. The loop keeps the cells, and the place at which it is is later and one of them stands there.
 use Prim.Native.Nat.{◌-◌, ◌≤◌, ◌<◌}
-use mathlib.Core.Path.{◌≡◌, refl, sym, ◌∙◌}
+use mathlib.Core.Path.{◌≡◌}
 use lib.ListN.{length}
-use native.Mathlib.Omega.{arith}
-use borrow.Author.Tests.{not-false}
-use borrow.Author.Rules.{rules}
 use Rattle.eval_asks.specs.Cells.{Column}
-use Rattle.eval_rows.specs.Calls.{left_asked, read_spelled}
-use Rattle.eval_rows.specs.Columns.{Standing, least_less, fill_code, fill_asked, stands_left}
-use Rattle.eval_rows.proofs.fill.Lts as lts
+use Rattle.eval_rows.specs.Columns.{Standing}
 use Rattle.eval_rows.proofs.fill.Given as goal
 
 abbrev pub invariant-loop-q : goal.invariant-loop-q

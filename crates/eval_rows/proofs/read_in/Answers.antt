@@ -5,8 +5,6 @@ use native.Mathlib.Omega.{arith}
 use Rattle.regex_rooms.specs.Rooms.{scope_for}
 use Rattle.regex_rooms.proofs.Laws.{code_is}
 use Rattle.eval_rows.specs.Known.{cut_asked, cut_outside, cut_code}
-use borrow.Author.Rules.{rules}
-use Rattle.eval_rows.proofs.read_in.Lts as lts
 use Rattle.eval_rows.proofs.read_in.Goals as goal
 
 pub overflow_add-b : goal.overflow_add-b

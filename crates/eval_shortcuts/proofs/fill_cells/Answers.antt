@@ -1,7 +1,5 @@
 -- `fill_cells` meets its contract.
 use Rattle.eval_shortcuts.specs.Rows.{cells_asked}
-use borrow.Author.Rules.{rules}
-use Rattle.eval_shortcuts.proofs.fill_cells.Lts as lts
 use Rattle.eval_shortcuts.proofs.fill_cells.Goals as goal
 
 pub fill-requires : goal.fill-requires

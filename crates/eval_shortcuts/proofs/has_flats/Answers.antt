@@ -1,6 +1,4 @@
 -- `eval_shortcuts::has_flats` meets its contract: what it reads is there.
-use borrow.Author.Rules.{rules}
-use Rattle.eval_shortcuts.proofs.has_flats.Lts as lts
 use Rattle.eval_shortcuts.proofs.has_flats.Goals as goal
 
 pub is_plain-requires : goal.is_plain-requires

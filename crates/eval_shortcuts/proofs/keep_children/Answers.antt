@@ -1,6 +1,4 @@
 -- `eval_shortcuts::keep_children` meets its contract: a filter that is read once keeps what it selects, and else nothing is done.
-use borrow.Author.Rules.{rules}
-use Rattle.eval_shortcuts.proofs.keep_children.Lts as lts
 use mathlib.Core.Path.{refl}
 use native.Mathlib.Omega.{arith}
 use Rattle.eval_filters.specs.Keeps.{test_code, tail_asked}

@@ -4,8 +4,6 @@ use native.Mathlib.Omega.{arith}
 use Rattle.eval_filters.specs.Keeps.{test_code}
 use Rattle.eval_asks.specs.Steady.{steady_refl, steady_wrote}
 use Rattle.eval_shortcuts.specs.Rows.{rows_none, rows_call, rows_tail, rows_filter, rows_left, rows_all}
-use borrow.Author.Rules.{rules}
-use Rattle.eval_shortcuts.proofs.keep_joined.Lts as lts
 use Rattle.eval_shortcuts.proofs.keep_joined.Goals as goal
 
 pub overflow_add-i : goal.overflow_add-i
@@ -14,11 +12,11 @@ overflow_add-i c = omega (arith, c.requires.ask_rows.near)
 pub returns-then-e-i : goal.returns-then-e-i
 returns-then-e-i c = record { steady = steady_refl _ _; done_rows = rows_none c.requires.asked }
 
-pub way_of-way-requires : goal.way_of-way-requires
-way_of-way-requires c = (test_code c.requires.asked.given.few_p c.requires.ask_rows.test, rows_call c.requires.asked c.requires.ask_rows)
+pub way_of-requires : goal.way_of-requires
+way_of-requires c = (test_code c.requires.asked.given.few_p c.requires.ask_rows.test, rows_call c.requires.asked c.requires.ask_rows)
 
-pub returns-then-way-eq0 : goal.returns-then-way-eq0
-returns-then-way-eq0 c = record { steady = steady_refl _ _; done_rows = rows_none c.requires.asked }
+pub returns-in_default : goal.returns-in_default
+returns-in_default c = record { steady = steady_refl _ _; done_rows = rows_none c.requires.asked }
 
 pub tail_of-tail-requires : goal.tail_of-tail-requires
 tail_of-tail-requires c = rows_tail c.requires.asked c.requires.ask_rows
@@ -27,10 +25,10 @@ pub returns-then-tail-gt1 : goal.returns-then-tail-gt1
 returns-then-tail-gt1 c = record { steady = steady_refl _ _; done_rows = rows_none c.requires.asked }
 
 pub keep-v-requires : goal.keep-v-requires
-keep-v-requires c = (rows_filter c.requires.asked c.requires.ask_rows c.tail_of-tail.ensures c.if-tail-gt1.false, c.way_of-way.ensures c.if-way-eq0.false)
+keep-v-requires c = (rows_filter c.requires.asked c.requires.ask_rows c.tail_of-tail.ensures c.if-tail-gt1.false, c.in-Some.ensures)
 
-pub returns-then-v : goal.returns-then-v
-returns-then-v c = record { steady = steady_wrote _ _ _ _ c.keep-v.auto.list refl; done_rows = rows_left c.requires.asked c.requires.ask_rows c.keep-v.ensures c.if-v.true }
+pub returns-in-Some-left : goal.returns-in-Some-left
+returns-in-Some-left c = record { steady = steady_wrote _ _ _ _ c.keep-v.auto.list refl; done_rows = rows_left c.requires.asked c.requires.ask_rows c.keep-v.ensures c.in-Some-left.is }
 
-pub returns : goal.returns
-returns c = record { steady = steady_wrote _ _ _ _ c.keep-v.auto.list refl; done_rows = rows_all c.requires.asked c.requires.ask_rows c.keep-v.ensures (omega (arith, c.if-e-i.false)) c.if-v.false }
+pub returns-in-None : goal.returns-in-None
+returns-in-None c = record { steady = steady_wrote _ _ _ _ c.keep-v.auto.list refl; done_rows = rows_all c.requires.asked c.requires.ask_rows c.keep-v.ensures (omega (arith, c.if-e-i.false)) c.in-None.is }

@@ -3,8 +3,6 @@ use mathlib.Core.Path.{refl}
 use native.Mathlib.Omega.{arith}
 use Rattle.eval_asks.specs.Steady.{steady_refl, steady_wrote}
 use Rattle.eval_shortcuts.specs.Rows.{rows_none, rows_tail, rows_asked, rows_left, rows_all}
-use borrow.Author.Rules.{rules}
-use Rattle.eval_shortcuts.proofs.keep_rows.Lts as lts
 use Rattle.eval_shortcuts.proofs.keep_rows.Goals as goal
 
 pub overflow_add-i : goal.overflow_add-i
@@ -22,8 +20,8 @@ returns-then-tail-gt1 c = record { steady = steady_refl _ _; done_rows = rows_no
 pub keep_rows-v-requires : goal.keep_rows-v-requires
 keep_rows-v-requires c = (rows_asked c.requires.asked c.requires.ask_rows c.tail_of-tail.ensures c.if-tail-gt1.false, refl)
 
-pub returns-then-v : goal.returns-then-v
-returns-then-v c = record { steady = steady_wrote _ _ _ _ c.keep_rows-v.auto.list refl; done_rows = rows_left c.requires.asked c.requires.ask_rows (c.keep_rows-v.ensures.rows refl) c.if-v.true }
+pub returns-in-Some : goal.returns-in-Some
+returns-in-Some c = record { steady = steady_wrote _ _ _ _ c.keep_rows-v.auto.list refl; done_rows = rows_left c.requires.asked c.requires.ask_rows (c.keep_rows-v.ensures.rows refl) c.in-Some.is }
 
-pub returns : goal.returns
-returns c = record { steady = steady_wrote _ _ _ _ c.keep_rows-v.auto.list refl; done_rows = rows_all c.requires.asked c.requires.ask_rows (c.keep_rows-v.ensures.rows refl) (omega (arith, c.if-e-i.false)) c.if-v.false }
+pub returns-in-None : goal.returns-in-None
+returns-in-None c = record { steady = steady_wrote _ _ _ _ c.keep_rows-v.auto.list refl; done_rows = rows_all c.requires.asked c.requires.ask_rows (c.keep_rows-v.ensures.rows refl) (omega (arith, c.if-e-i.false)) c.in-None.is }

@@ -1,6 +1,4 @@
 -- `eval_shortcuts::pass_flats` meets its contract: what is passed selects what is pushed.
-use borrow.Author.Rules.{rules}
-use Rattle.eval_shortcuts.proofs.pass_flats.Lts as lts
 use mathlib.Core.Path.{refl}
 use Rattle.eval_asks.specs.Steady.{steady_wrote}
 use Rattle.eval_shortcuts.specs.Entries.{flats_asked, flats_done}

@@ -3,8 +3,6 @@ use native.Mathlib.Omega.{arith}
 use mathlib.Core.Path.{refl}
 use Rattle.eval_asks.specs.Steady.{steady_refl, steady_wrote}
 use Rattle.eval_shortcuts.specs.Entries.{rest_here, ahead_none, ahead_asked, ahead_done}
-use borrow.Author.Rules.{rules}
-use Rattle.eval_shortcuts.proofs.pick_ahead.Lts as lts
 use Rattle.eval_shortcuts.proofs.pick_ahead.Goals as goal
 
 pub last-pc-requires : goal.last-pc-requires

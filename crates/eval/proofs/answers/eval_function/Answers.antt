@@ -1,5 +1,4 @@
 -- `eval::answers::eval_function` meets its contract, by a law for each function.
-use borrow.Author.Rules.{rules}
 use native.Mathlib.Omega.{arith}
 use mir.Syntax.{w64}
 use mir.ValLaws.{to_z_pos}

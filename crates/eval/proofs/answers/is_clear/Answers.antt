@@ -2,8 +2,6 @@
 use mathlib.Core.Path.{sym, ◌∙◌}
 use borrow.Author.Tests.{not-true}
 use Rattle.eval_front.specs.Fronts.{never}
-use borrow.Author.Rules.{rules}
-use Rattle.eval.proofs.answers.is_clear.Lts as lts
 use Rattle.eval.proofs.answers.is_clear.Goals as goal
 
 pub returns-then-q-p : goal.returns-then-q-p

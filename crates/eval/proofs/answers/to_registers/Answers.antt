@@ -1,5 +1,4 @@
 -- `eval::answers::to_registers` meets its contract, by a law for each thing that is asked of a query.
-use borrow.Author.Rules.{rules}
 use mathlib.Core.Path.{refl, sym, ◌∙◌}
 use Rattle.eval.specs.Answers.{answer_test, answer_function, answer_first}
 use Rattle.eval.proofs.answers.to_registers.Goals as goal

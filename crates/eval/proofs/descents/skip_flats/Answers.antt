@@ -1,6 +1,4 @@
 -- `eval::descents::skip_flats` meets its contract: past the cap nothing is left, and else what the shortcut leaves.
-use borrow.Author.Rules.{rules}
-use Rattle.eval.proofs.descents.skip_flats.Lts as lts
 use Rattle.eval_asks.specs.Steady.{steady_refl}
 use Rattle.eval.specs.Calls.{flats_full, flats_asked, flats_done}
 use Rattle.eval.proofs.descents.skip_flats.Goals as goal

@@ -1,6 +1,4 @@
 -- `eval::descents::skip_scalars` meets its contract: past the cap nothing is left, and else what is passed is no list or map.
-use borrow.Author.Rules.{rules}
-use Rattle.eval.proofs.descents.skip_scalars.Lts as lts
 use Rattle.eval_asks.specs.Steady.{steady_refl}
 use Rattle.eval.specs.Calls.{flats_full, flats_scalars}
 use Rattle.eval.proofs.descents.skip_scalars.Goals as goal

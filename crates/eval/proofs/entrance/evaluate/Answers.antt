@@ -1,8 +1,5 @@
 -- `entrance::evaluate` meets its contract: nothing is found, or a node is pushed, or evaluation goes on behind its entrance.
-use borrow.Author.Rules.{rules}
-use Rattle.eval.proofs.entrance.evaluate.Lts as lts
 use mathlib.Core.Path.{refl}
-use native.Mathlib.Omega.{arith}
 use borrow.Author.Tests.{not-true, not-false}
 use Rattle.eval.specs.Fronts.{front_asked, front_lost, front_on, front_end, front_in, front_push}
 use Rattle.eval.proofs.entrance.evaluate.Goals as goal
@@ -25,10 +22,7 @@ returns-then-plan-q-eq-END c = front_end c.requires.begins c.requires.ask_segmen
 pub enter-requires : goal.enter-requires
 enter-requires c =
     let w = c.front-r.ensures.front c.requires.ask_segments.f c.requires.ask_segments.k c.requires.ask_segments.at in
-    record { asked = record { given = record { few_p = c.requires.begins.few_p; few_l = c.requires.begins.few_l; tab = c.requires.begins.tab }; root_in = c.requires.begins.root_in; room = c.requires.begins.room; wide = c.requires.begins.wide; small = c.requires.begins.small; three = refl }; segment = record { node_in = c.front-r.ensures.node_in; query = record { f = w.g; k = w.j; at = w.at } }; going = c.if-plan-q-eq-END.false }
-
-pub bounds-state-2 : goal.bounds-state-2
-bounds-state-2 c = omega (arith, c.enter.ensures.kept.three)
+    record { asked = record { given = record { few_p = c.requires.begins.few_p; few_l = c.requires.begins.few_l; tab = c.requires.begins.tab }; root_in = c.requires.begins.root_in; room = c.requires.begins.room; wide = c.requires.begins.wide; small = c.requires.begins.small }; segment = record { node_in = c.front-r.ensures.node_in; query = record { f = w.g; k = w.j; at = w.at } }; going = c.if-plan-q-eq-END.false }
 
 pub shape_of-list : goal.shape_of-list
 shape_of-list c = c.enter.ensures.kept.long

@@ -1,6 +1,4 @@
 -- `entrance::first` meets its contract: a child segment of one filter, slice or wildcard is its selector, and every other segment is evaluated.
-use borrow.Author.Rules.{rules}
-use Rattle.eval.proofs.entrance.first.Lts as lts
 use Prim.Native.Nat.{ℕ, ◌<◌}
 use lib.ListN.{get_or}
 use native.Mathlib.Omega.{arith}

@@ -1,8 +1,6 @@
 -- `cells::cell` meets its contract.
 use mathlib.Core.Path.{sym, ◌∙◌}
 use Rattle.eval_asks.specs.Cells.{cell_yes, cell_no}
-use borrow.Author.Rules.{rules}
-use Rattle.eval_asks.proofs.cells.cell.Lts as lts
 use Rattle.eval_asks.proofs.cells.cell.Goals as goal
 
 pub returns-then-acc : goal.returns-then-acc

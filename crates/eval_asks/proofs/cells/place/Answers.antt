@@ -1,7 +1,5 @@
 -- `cells::place` meets its contract.
 use Rattle.eval_asks.specs.Cells.{place_yes, place_no}
-use borrow.Author.Rules.{rules}
-use Rattle.eval_asks.proofs.cells.place.Lts as lts
 use Rattle.eval_asks.proofs.cells.place.Goals as goal
 
 pub returns-then-c-ge-YES : goal.returns-then-c-ge-YES

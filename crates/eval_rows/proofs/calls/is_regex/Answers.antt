@@ -1,6 +1,5 @@
 -- `calls::is_regex` meets its contract.
 use Rattle.eval_rows.specs.Calls.{regex_below, regex_from}
-use Rattle.eval_rows.proofs.calls.is_regex.Lts as lts
 use Rattle.eval_rows.proofs.calls.is_regex.Goals as goal
 
 pub returns-then-k-lt-MATCH : goal.returns-then-k-lt-MATCH

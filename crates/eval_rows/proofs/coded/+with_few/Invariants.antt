@@ -1,5 +1,4 @@
 -- The measures and invariants of the cycle of calls {with_few}.
-use Prim.Native.Nat.{ℕ, ◌<◌}
 use Rattle.eval_rows.proofs.coded.+with_few.Given as goal
 
 abbrev pub decreases-with_few : goal.decreases-with_few

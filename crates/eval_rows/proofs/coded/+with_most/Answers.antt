@@ -1,7 +1,5 @@
 -- The answers of the cycle of calls {with_most}.
-use Prim.Native.Nat.{ℕ, ◌<◌}
 use native.Mathlib.Omega.{arith}
-use borrow.Author.Rules.{rules}
 use Rattle.eval_rows.specs.Known.{held_none, knows}
 use Rattle.eval_rows.proofs.coded.+with_most.Goals as goal
 

@@ -1,5 +1,4 @@
 -- The measures and invariants of the cycle of calls {with_most}.
-use Prim.Native.Nat.{ℕ, ◌<◌}
 use Rattle.eval_rows.proofs.coded.+with_most.Given as goal
 
 abbrev pub decreases-with_most : goal.decreases-with_most

@@ -1,8 +1,6 @@
 -- The answers of the cycle of calls {with_states}.
-use Prim.Native.Nat.{ℕ, ◌<◌}
 use mathlib.Core.Path.{refl}
 use native.Mathlib.Omega.{arith}
-use borrow.Author.Rules.{rules}
 use Rattle.eval_rows.specs.Known.{rooms_enough, knows}
 use Rattle.eval_rows.proofs.coded.+with_states.Goals as goal
 

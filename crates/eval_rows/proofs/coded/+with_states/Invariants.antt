@@ -1,5 +1,4 @@
 -- The measures and invariants of the cycle of calls {with_states}.
-use Prim.Native.Nat.{ℕ, ◌<◌}
 use Rattle.eval_rows.proofs.coded.+with_states.Given as goal
 
 abbrev pub decreases-with_states : goal.decreases-with_states

@@ -1,7 +1,5 @@
 -- `coded::by_code` meets its contract.
 use Rattle.eval_rows.specs.Known.{ready_states}
-use borrow.Author.Rules.{rules}
-use Rattle.eval_rows.proofs.coded.by_code.Lts as lts
 use Rattle.eval_rows.proofs.coded.by_code.Goals as goal
 
 pub with_states-requires : goal.with_states-requires

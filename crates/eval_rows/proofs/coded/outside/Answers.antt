@@ -1,8 +1,6 @@
 -- `coded::outside` meets its contract.
 use native.Mathlib.Omega.{arith}
 use Rattle.eval_rows.specs.Known.{knows_outside, held_none}
-use borrow.Author.Rules.{rules}
-use Rattle.eval_rows.proofs.coded.outside.Lts as lts
 use Rattle.eval_rows.proofs.coded.outside.Goals as goal
 
 pub keep-requires : goal.keep-requires

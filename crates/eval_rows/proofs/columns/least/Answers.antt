@@ -1,9 +1,6 @@
 -- `columns::least` meets its contract. The loop keeps the least place so far.
-use Prim.Native.Nat.{◌-◌}
 use native.Mathlib.Omega.{arith}
-use Rattle.eval_rows.specs.Columns.{DoneLeast, least_lower}
-use borrow.Author.Rules.{rules}
-use Rattle.eval_rows.proofs.columns.least.Lts as lts
+use Rattle.eval_rows.specs.Columns.{least_lower}
 use Rattle.eval_rows.proofs.columns.least.Goals as goal
 
 pub loop-k-init : goal.loop-k-init
@@ -14,12 +11,6 @@ offset_bounds-column-k c = omega (arith, c.requires, c.loop-k-test.true)
 
 pub bounds-column-k : goal.bounds-column-k
 bounds-column-k c = omega (arith, c.requires, c.loop-k-test.true)
-
-pub overflow_add-k : goal.overflow_add-k
-overflow_add-k c = omega (arith, c.loop-k-test.true, c.ranges.n)
-
-pub loop-k-smaller : goal.loop-k-smaller
-loop-k-smaller c = omega (arith, c.loop-k-test.true)
 
 pub loop-k-preserved : goal.loop-k-preserved
 loop-k-preserved c = least_lower c.loop-k.invariant c.loop-k-test.true c.place-c.ensures c.lower-q.ensures

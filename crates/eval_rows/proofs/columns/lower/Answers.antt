@@ -1,7 +1,6 @@
 -- `columns::lower` meets its contract.
 use mathlib.Core.Path.{refl}
 use mathlib.Core.Logic.{inl, inr}
-use Rattle.eval_rows.proofs.columns.lower.Lts as lts
 use Rattle.eval_rows.proofs.columns.lower.Goals as goal
 
 pub returns-then-c-from : goal.returns-then-c-from

@@ -1,9 +1,6 @@
 -- `paths::follow` meets its contract: each segment is a name or an index, and leads to one node or to none.
 use Prim.Native.Nat.{◌-◌}
-use native.Mathlib.Omega.{arith}
-use borrow.Author.Rules.{rules}
-use Rattle.eval_rows.specs.Paths.{InFollow, follow_start, follow_in, follow_one, follow_next, follow_lost, follow_later, follow_again, follow_end}
-use Rattle.eval_rows.proofs.paths.follow.Lts as lts
+use Rattle.eval_rows.specs.Paths.{InFollow}
 use Rattle.eval_rows.proofs.paths.follow.Given as goal
 
 abbrev pub invariant-loop-q : goal.invariant-loop-q

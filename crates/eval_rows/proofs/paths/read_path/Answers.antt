@@ -1,13 +1,9 @@
 -- `paths::read_path` meets its contract: what leads from a segment on leads from the one before it on.
-use Prim.Native.Nat.{◌-◌}
 use mathlib.Core.Path.{refl}
 use native.Mathlib.Omega.{arith}
-use Rattle.definition.specs.Limits.{max_plan}
 use Rattle.eval_front.specs.Heads.{head_read, name_ends, index_ends}
-use Rattle.eval_front.specs.Fronts.{never}
-use Rattle.eval_rows.specs.Paths.{InPath, path_in, path_bound, path_next}
+use Rattle.eval_rows.specs.Paths.{path_in, path_bound, path_next}
 use Rattle.eval_rows.specs.Paths.Leads.{stop}
-use Rattle.eval_rows.proofs.paths.read_path.Lts as lts
 use Rattle.eval_rows.proofs.paths.read_path.Goals as goal
 
 pub loop-q-init : goal.loop-q-init
@@ -28,9 +24,6 @@ loop-q-smaller-then-head-eq-NAME_HEAD c = omega (arith, path_in c.loop-q.invaria
 pub loop-q-preserved-then-head-eq-NAME_HEAD : goal.loop-q-preserved-then-head-eq-NAME_HEAD
 loop-q-preserved-then-head-eq-NAME_HEAD c = let d = head_read 5 (λ k. (c.type_inv.plan k).fits) (path_bound c.loop-q.invariant.ask c.loop-q-test.true) c.word32-head.ensures.is c.if-head-eq-NAME_HEAD.true in path_next c.loop-q.invariant 5 (omega arith) (omega arith) d _ (omega arith) (name_ends c.loop-q.invariant.ask.few d)
 
-pub returns-then-head-ne-INDEX_HEAD : goal.returns-then-head-ne-INDEX_HEAD
-returns-then-head-ne-INDEX_HEAD c = λ e. absurd (never e)
-
 pub overflow_add-q-else-head-eq-NAME_HEAD : goal.overflow_add-q-else-head-eq-NAME_HEAD
 overflow_add-q-else-head-eq-NAME_HEAD c = omega (arith, path_in c.loop-q.invariant.ask, c.loop-q.invariant.ask.few)
 
@@ -41,4 +34,4 @@ pub loop-q-preserved : goal.loop-q-preserved
 loop-q-preserved c = let d = head_read 6 (λ k. (c.type_inv.plan k).fits) (path_bound c.loop-q.invariant.ask c.loop-q-test.true) c.word32-head.ensures.is c.if-head-ne-INDEX_HEAD.false in path_next c.loop-q.invariant 6 (omega arith) (omega arith) d _ (omega arith) (index_ends c.loop-q.invariant.ask.few d)
 
 pub returns : goal.returns
-returns c = λ e. c.loop-q.invariant.leads _ (stop _ refl c.loop-q-test.false)
+returns c = c.loop-q.invariant.leads _ (stop _ refl c.loop-q-test.false)

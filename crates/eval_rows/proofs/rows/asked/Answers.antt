@@ -1,20 +1,15 @@
 -- `rows::asked` meets its contract. The loop keeps that what is left of the filter's code gives what was wanted.
-use Prim.Native.Nat.{◌-◌}
-use mathlib.Core.Path.{◌≡◌, refl, sym, ◌∙◌}
-use lib.ListN.{length}
+use mathlib.Core.Path.{refl, sym, ◌∙◌}
 use native.Mathlib.Omega.{arith}
-use borrow.Author.Tests.{not-true, not-false}
+use borrow.Author.Tests.{not-false}
 use Rattle.eval_rows.specs.Calls.{left_near}
-use Rattle.eval_rows.specs.Known.{Held}
 use Rattle.eval_filters.specs.Turns.{turn_left}
 use Rattle.eval_rows.specs.Turns.{turn_call, turn_at, turn_called}
-use Rattle.eval_rows.specs.Rows.{InAsked, asked_start, asked_turn, asked_further, answer_left, answer_none, answer_told}
-use borrow.Author.Rules.{rules}
-use Rattle.eval_rows.proofs.rows.asked.Lts as lts
+use Rattle.eval_rows.specs.Rows.{asked_start, asked_turn, asked_further, answer_left, answer_none, answer_told}
 use Rattle.eval_rows.proofs.rows.asked.Goals as goal
 
 pub returns-then-q-first : goal.returns-then-q-first
-returns-then-q-first c = record { done_answer = answer_left c.answer-acc.ensures c.place-q.ensures c.if-q-first.true; held = c.requires.knows.1 }
+returns-then-q-first c = record { done_answer = answer_left c.answer-acc.ensures c.place-q.ensures; held = c.requires.knows.1 }
 
 pub loop-q-init : goal.loop-q-init
 loop-q-init c = (asked_start c.answer-acc.ensures c.place-q.ensures, (refl, (refl, (refl, c.requires.knows.1))))

@@ -1,15 +1,10 @@
 -- `rows::keep` meets its contract. The loop keeps the nodes that are left, of which those for which the test fails emit nothing; or the cells.
-use Prim.Native.Nat.{◌-◌}
-use mathlib.Core.Path.{◌≡◌, refl, ◌∙◌}
-use lib.ListN.{length}
+use mathlib.Core.Path.{refl, ◌∙◌}
 use native.Mathlib.Omega.{arith}
 use borrow.Author.Tests.{not-true, not-false}
 use Rattle.eval_filters.specs.Keeps.{kept_visit}
 use Rattle.eval_asks.specs.Cells.{cell_rest}
-use Rattle.eval_rows.specs.Known.{Held}
-use Rattle.eval_rows.specs.Columns.{InPass, pass_code, pass_within, pass_start, pass_full, pass_end, place_in, pass_cell, answer_near, pass_set, pass_stuck, pass_in, pass_out}
-use borrow.Author.Rules.{rules}
-use Rattle.eval_rows.proofs.rows.keep.Lts as lts
+use Rattle.eval_rows.specs.Columns.{pass_code, pass_within, pass_start, pass_full, pass_end, place_in, pass_cell, answer_near, pass_set, pass_stuck, pass_in, pass_out}
 use Rattle.eval_rows.proofs.rows.keep.Goals as goal
 
 pub loop-j-init : goal.loop-j-init
@@ -28,7 +23,7 @@ pub shape_of-list-then-cap-a : goal.shape_of-list-then-cap-a
 shape_of-list-then-cap-a c = c.loop-j.invariant.0.same
 
 pub returns-then-cap-a : goal.returns-then-cap-a
-returns-then-cap-a c = pass_full {f = c.args.f} c.requires.ask_pass c.loop-j.invariant.0 _ c.if-cap-a.true
+returns-then-cap-a c = pass_full {f = c.args.f} c.requires.ask_pass c.loop-j.invariant.0 c.if-cap-a.true
 
 pub overflow_sub-j : goal.overflow_sub-j
 overflow_sub-j c = omega (arith, c.loop-j.invariant.0.low)
@@ -49,52 +44,34 @@ pub offset_bounds-list-j : goal.offset_bounds-list-j
 offset_bounds-list-j c = omega (arith, c.requires.ask_pass.range (omega (arith, c.loop-j-test.true)), c.requires.ask_pass.given.tab.size.few, c.loop-j-test.true)
 
 pub bounds-list-j : goal.bounds-list-j
-bounds-list-j c = place_in {f = c.args.f} c.requires.ask_pass c.loop-j.invariant.0 c.loop-j-test.true c.if-in_cells.true
+bounds-list-j c = place_in {f = c.args.f} c.requires.ask_pass c.loop-j.invariant.0 c.loop-j-test.true c.if-in_cells-2.true
 
-pub overflow_add-j : goal.overflow_add-j
-overflow_add-j c = omega (arith, c.requires.ask_pass.range (omega (arith, c.loop-j-test.true)), c.requires.ask_pass.given.tab.size.few, c.loop-j-test.true)
+pub loop-j-preserved-then-in_cells-2 : goal.loop-j-preserved-then-in_cells-2
+loop-j-preserved-then-in_cells-2 c = (pass_set {f = c.args.f} c.requires.ask_pass c.loop-j.invariant.0 c.loop-j-test.true c.stands-c.ensures c.asked-b.ensures.done_answer _ c.cell.ensures c.if-in_cells-2.true, (c.asked-b.auto.edges ∙ c.loop-j.invariant.1.0, (c.asked-b.auto.sets ∙ c.loop-j.invariant.1.1.0, (c.asked-b.auto.marks ∙ c.loop-j.invariant.1.1.1.0, c.asked-b.ensures.held))))
 
-pub loop-j-smaller-then-in_cells : goal.loop-j-smaller-then-in_cells
-loop-j-smaller-then-in_cells c = omega (arith, c.loop-j-test.true)
+pub shape_of-edges-then-b-z : goal.shape_of-edges-then-b-z
+shape_of-edges-then-b-z c = c.asked-b.auto.edges ∙ c.loop-j.invariant.1.0
 
-pub loop-j-preserved-then-in_cells : goal.loop-j-preserved-then-in_cells
-loop-j-preserved-then-in_cells c = (pass_set {f = c.args.f} c.requires.ask_pass c.loop-j.invariant.0 c.loop-j-test.true c.stands-c.ensures c.asked-b.ensures.done_answer _ c.cell.ensures c.if-in_cells.true, (c.asked-b.auto.edges ∙ c.loop-j.invariant.1.0, (c.asked-b.auto.sets ∙ c.loop-j.invariant.1.1.0, (c.asked-b.auto.marks ∙ c.loop-j.invariant.1.1.1.0, c.asked-b.ensures.held))))
+pub shape_of-sets-then-b-z : goal.shape_of-sets-then-b-z
+shape_of-sets-then-b-z c = c.asked-b.auto.sets ∙ c.loop-j.invariant.1.1.0
 
-pub shape_of-edges-then-not-b : goal.shape_of-edges-then-not-b
-shape_of-edges-then-not-b c = c.asked-b.auto.edges ∙ c.loop-j.invariant.1.0
+pub shape_of-marks-then-b-z : goal.shape_of-marks-then-b-z
+shape_of-marks-then-b-z c = c.asked-b.auto.marks ∙ c.loop-j.invariant.1.1.1.0
 
-pub shape_of-sets-then-not-b : goal.shape_of-sets-then-not-b
-shape_of-sets-then-not-b c = c.asked-b.auto.sets ∙ c.loop-j.invariant.1.1.0
+pub shape_of-list-then-b-z : goal.shape_of-list-then-b-z
+shape_of-list-then-b-z c = c.loop-j.invariant.0.same
 
-pub shape_of-marks-then-not-b : goal.shape_of-marks-then-not-b
-shape_of-marks-then-not-b c = c.asked-b.auto.marks ∙ c.loop-j.invariant.1.1.1.0
-
-pub shape_of-list-then-not-b : goal.shape_of-list-then-not-b
-shape_of-list-then-not-b c = c.loop-j.invariant.0.same
-
-pub returns-then-not-b : goal.returns-then-not-b
-returns-then-not-b c = pass_stuck {f = c.args.f} c.requires.ask_pass c.loop-j.invariant.0 c.loop-j-test.true c.stands-c.ensures c.asked-b.ensures.done_answer c.if-in_cells.false c.asks_from-first.ensures (not-true _ c.if-not-b.true)
+pub returns-then-b-z : goal.returns-then-b-z
+returns-then-b-z c = pass_stuck {f = c.args.f} c.requires.ask_pass c.loop-j.invariant.0 c.loop-j-test.true c.stands-c.ensures c.asked-b.ensures.done_answer c.if-in_cells-2.false c.if-b-z.true
 
 pub push_tail-v-requires : goal.push_tail-v-requires
-push_tail-v-requires c = let r = c.requires.ask_pass.rows c.if-in_cells.false in record { ask_visit = kept_visit r.kept (c.loop-j.invariant.0.rows c.if-in_cells.false) c.loop-j-test.true; tail_at = (r.tail, r.low) }
-
-pub overflow_add-j-then-b : goal.overflow_add-j-then-b
-overflow_add-j-then-b c = omega (arith, c.requires.ask_pass.range (omega (arith, c.loop-j-test.true)), c.requires.ask_pass.given.tab.size.few, c.loop-j-test.true)
-
-pub loop-j-smaller-then-b : goal.loop-j-smaller-then-b
-loop-j-smaller-then-b c = omega (arith, c.loop-j-test.true)
-
-pub loop-j-preserved-then-b : goal.loop-j-preserved-then-b
-loop-j-preserved-then-b c = (pass_in {f = c.args.f} c.requires.ask_pass c.loop-j.invariant.0 c.loop-j-test.true c.stands-c.ensures c.asked-b.ensures.done_answer c.if-in_cells.false c.asks_from-first.ensures (not-false _ c.if-not-b.false) c.if-b.true c.push_tail-v.ensures c.push_tail-v.auto.list, (c.asked-b.auto.edges ∙ c.loop-j.invariant.1.0, (c.asked-b.auto.sets ∙ c.loop-j.invariant.1.1.0, (c.asked-b.auto.marks ∙ c.loop-j.invariant.1.1.1.0, c.asked-b.ensures.held))))
-
-pub overflow_add-j-else-b : goal.overflow_add-j-else-b
-overflow_add-j-else-b c = omega (arith, c.requires.ask_pass.range (omega (arith, c.loop-j-test.true)), c.requires.ask_pass.given.tab.size.few, c.loop-j-test.true)
-
-pub loop-j-smaller : goal.loop-j-smaller
-loop-j-smaller c = omega (arith, c.loop-j-test.true)
+push_tail-v-requires c = let r = c.requires.ask_pass.rows c.if-in_cells-2.false in record { ask_visit = kept_visit r.kept (c.loop-j.invariant.0.rows c.if-in_cells-2.false) c.loop-j-test.true; tail_at = (r.tail, r.low) }
 
 pub loop-j-preserved : goal.loop-j-preserved
-loop-j-preserved c = (pass_out {f = c.args.f} c.requires.ask_pass c.loop-j.invariant.0 c.loop-j-test.true c.stands-c.ensures c.asked-b.ensures.done_answer c.if-in_cells.false c.asks_from-first.ensures (not-false _ c.if-not-b.false) c.if-b.false, (c.asked-b.auto.edges ∙ c.loop-j.invariant.1.0, (c.asked-b.auto.sets ∙ c.loop-j.invariant.1.1.0, (c.asked-b.auto.marks ∙ c.loop-j.invariant.1.1.1.0, c.asked-b.ensures.held))))
+loop-j-preserved c = (pass_in {f = c.args.f} c.requires.ask_pass c.loop-j.invariant.0 c.loop-j-test.true c.stands-c.ensures c.asked-b.ensures.done_answer c.if-in_cells-2.false (omega (arith, c.if-b-z.false)) (not-false _ c.if-not-b.false) c.push_tail-v.ensures c.push_tail-v.auto.list, (c.asked-b.auto.edges ∙ c.loop-j.invariant.1.0, (c.asked-b.auto.sets ∙ c.loop-j.invariant.1.1.0, (c.asked-b.auto.marks ∙ c.loop-j.invariant.1.1.1.0, c.asked-b.ensures.held))))
+
+pub loop-j-preserved-then-not-b : goal.loop-j-preserved-then-not-b
+loop-j-preserved-then-not-b c = (pass_out {f = c.args.f} c.requires.ask_pass c.loop-j.invariant.0 c.loop-j-test.true c.stands-c.ensures c.asked-b.ensures.done_answer c.if-in_cells-2.false (omega (arith, c.if-b-z.false)) (not-true _ c.if-not-b.true), (c.asked-b.auto.edges ∙ c.loop-j.invariant.1.0, (c.asked-b.auto.sets ∙ c.loop-j.invariant.1.1.0, (c.asked-b.auto.marks ∙ c.loop-j.invariant.1.1.1.0, c.asked-b.ensures.held))))
 
 pub shape_of-edges : goal.shape_of-edges
 shape_of-edges c = c.loop-j.invariant.1.0
@@ -109,4 +86,4 @@ pub shape_of-list : goal.shape_of-list
 shape_of-list c = c.loop-j.invariant.0.same
 
 pub returns : goal.returns
-returns c = pass_end {f = c.args.f} c.requires.ask_pass c.loop-j.invariant.0 _ c.loop-j-test.false
+returns c = pass_end {f = c.args.f} c.requires.ask_pass c.loop-j.invariant.0 c.loop-j-test.false

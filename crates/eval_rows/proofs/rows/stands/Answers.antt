@@ -1,8 +1,6 @@
 -- `rows::stands` meets its contract.
 use native.Mathlib.Omega.{arith}
 use Rattle.eval_rows.specs.Columns.{stands_there, stands_none}
-use borrow.Author.Rules.{rules}
-use Rattle.eval_rows.proofs.rows.stands.Lts as lts
 use Rattle.eval_rows.proofs.rows.stands.Goals as goal
 
 pub offset_bounds-list-k : goal.offset_bounds-list-k

@@ -1,6 +1,4 @@
 -- `turns::tested` meets its contract.
-use borrow.Author.Rules.{rules}
-use Rattle.eval_rows.proofs.turns.tested.Lts as lts
 use Rattle.eval_rows.proofs.turns.tested.Goals as goal
 
 pub test_with-requires : goal.test_with-requires

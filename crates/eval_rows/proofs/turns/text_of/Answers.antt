@@ -1,10 +1,9 @@
 -- `turns::text_of` meets its contract: nothing is found, a node that has no text, or its text.
+use mathlib.Core.Path.{refl}
 use native.Mathlib.Omega.{arith}
 use borrow.Author.Tests.{not-true, not-false}
 use Rattle.eval_rows.specs.Calls.{text_near}
-use Rattle.eval_rows.specs.Turns.{text_lost, text_other, text_found}
-use borrow.Author.Rules.{rules}
-use Rattle.eval_rows.proofs.turns.text_of.Lts as lts
+use Rattle.eval_rows.specs.Turns.{text_lost, text_other, text_spot, text_found}
 use Rattle.eval_rows.proofs.turns.text_of.Goals as goal
 
 pub overflow_add-g : goal.overflow_add-g
@@ -19,5 +18,11 @@ returns-then-not-r c = text_lost c.requires c.follow-r.ensures (not-true _ c.if-
 pub returns-then-kind-ne-KIND_TEXT : goal.returns-then-kind-ne-KIND_TEXT
 returns-then-kind-ne-KIND_TEXT c = text_other c.requires c.follow-r.ensures (not-false _ c.if-not-r.false) (λ e. c.if-kind-ne-KIND_TEXT.true (omega arith))
 
+pub overflow_add-result : goal.overflow_add-result
+overflow_add-result c = omega (arith, text_spot c.requires c.follow-r.ensures (not-false _ c.if-not-r.false) (omega arith) _ _ c.text_start-start.ensures c.text_length-size.ensures, c.requires.reach.given.tab.size.short)
+
+pub slice_bounds-result-end : goal.slice_bounds-result-end
+slice_bounds-result-end c = omega (arith, text_spot c.requires c.follow-r.ensures (not-false _ c.if-not-r.false) (omega arith) _ _ c.text_start-start.ensures c.text_length-size.ensures)
+
 pub returns : goal.returns
-returns c = text_found c.requires c.follow-r.ensures (not-false _ c.if-not-r.false) (omega arith) _ _ c.text_start-start.ensures c.text_length-size.ensures
+returns c = text_found c.requires c.follow-r.ensures (not-false _ c.if-not-r.false) (omega arith) _ _ c.text_start-start.ensures c.text_length-size.ensures _ refl

@@ -1,11 +1,8 @@
 -- `eval_shortcuts::flats::flat_each` meets its contract: what is left of the range gives the whole. Of the place that is looked at first nothing need be known.
-use Prim.Native.Nat.{◌-◌}
 use mathlib.Core.Path.{refl}
 use native.Mathlib.Omega.{arith}
 use borrow.Author.Tests.{not-false}
-use Rattle.eval_shortcuts.specs.Flats.{InFlats}
 use Rattle.eval_shortcuts.specs.FlatLaws.{flats_none, flats_full, flats_step}
-use Rattle.eval_shortcuts.proofs.flats.flat_each.Lts as lts
 use mathlib.Core.Path.{ap}
 use mathlib.Core.Bool.{not}
 use Rattle.eval_shortcuts.proofs.flats.flat_each.Goals as goal

@@ -1,11 +1,6 @@
 -- `eval_shortcuts::flats::flat_each` meets its contract: what is left of the range gives the whole. Of the place that is looked at first nothing need be known.
 use Prim.Native.Nat.{◌-◌}
-use mathlib.Core.Path.{refl}
-use native.Mathlib.Omega.{arith}
-use borrow.Author.Tests.{not-false}
 use Rattle.eval_shortcuts.specs.Flats.{InFlats}
-use Rattle.eval_shortcuts.specs.FlatLaws.{flats_none, flats_full, flats_step}
-use Rattle.eval_shortcuts.proofs.flats.flat_each.Lts as lts
 use Rattle.eval_shortcuts.proofs.flats.flat_each.Given as goal
 
 abbrev pub invariant-loop-j : goal.invariant-loop-j

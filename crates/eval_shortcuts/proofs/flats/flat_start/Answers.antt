@@ -1,7 +1,6 @@
 -- `eval_shortcuts::flats::flat_start` meets its contract: a segment of one selector that ends its query is done as that selector, and under a filter that is one test of
 -- a member nodes with nothing below their children are passed.
 use native.Mathlib.Omega.{arith}
-use borrow.Author.Rules.{rules}
 use Rattle.eval_shortcuts.specs.FlatLaws.{below_parts, start_none, start_flats}
 use Rattle.eval_shortcuts.specs.FlatTests.{start_skipped}
 use Rattle.eval_shortcuts.proofs.flats.flat_start.Goals as goal

@@ -1,7 +1,6 @@
 -- `eval_shortcuts::flats::is_flat` meets its contract: without children there is no list or map among them, nor where all are passed.
 use mathlib.Core.Path.{sym, ◌∙◌}
 use native.Mathlib.Omega.{arith}
-use borrow.Author.Rules.{rules}
 use borrow.Author.Tests.{eqb-true}
 use Rattle.eval_laws.specs.Ranges.{range_of_lem, range_in}
 use Rattle.eval_shortcuts.specs.FlatLaws.{bare_empty, bare_passed}

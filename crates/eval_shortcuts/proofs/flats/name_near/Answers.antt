@@ -6,7 +6,6 @@ use Rattle.eval_laws.specs.Items.{selector_in}
 use Rattle.eval_items.specs.LeafLaws.{name_asked}
 use Rattle.eval_filters.specs.Atoms.{name_inside, name_near}
 use Rattle.eval_shortcuts.specs.FlatLaws.{only_name}
-use Rattle.eval_shortcuts.proofs.flats.name_near.Lts as lts
 use Rattle.eval_shortcuts.proofs.flats.name_near.Goals as goal
 
 pub bounds-plan-p : goal.bounds-plan-p

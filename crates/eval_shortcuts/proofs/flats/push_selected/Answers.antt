@@ -3,8 +3,6 @@ use native.Mathlib.Omega.{arith}
 use Rattle.eval_laws.specs.Items.{selector_in}
 use Rattle.eval_laws.specs.Ranges.{range_of_lem, range_in}
 use Rattle.eval_shortcuts.specs.FlatLaws.{selected_one, selected_absent, selected_found, selected_none, selected_all}
-use borrow.Author.Rules.{rules}
-use Rattle.eval_shortcuts.proofs.flats.push_selected.Lts as lts
 use Rattle.eval_shortcuts.proofs.flats.push_selected.Goals as goal
 
 pub bounds-plan-p : goal.bounds-plan-p

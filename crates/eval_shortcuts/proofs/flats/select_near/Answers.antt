@@ -1,8 +1,6 @@
 -- `select_near` meets its contract.
 use native.Mathlib.Omega.{arith}
 use Rattle.eval_shortcuts.specs.FlatLaws.{selected_in, selected_as}
-use borrow.Author.Rules.{rules}
-use Rattle.eval_shortcuts.proofs.flats.select_near.Lts as lts
 use Rattle.eval_shortcuts.proofs.flats.select_near.Goals as goal
 
 pub overflow_add-result : goal.overflow_add-result

@@ -1,9 +1,6 @@
 -- `eval_shortcuts::flats::skip_flats` meets its contract: no node that is passed has a list or a map among its children.
-use Prim.Native.Nat.{◌-◌}
 use native.Mathlib.Omega.{arith}
-use borrow.Author.Rules.{rules}
 use borrow.Author.Tests.{not-false}
-use Rattle.eval_shortcuts.specs.Flats.{DoneSkipped}
 use Rattle.eval_shortcuts.specs.FlatTests.{skipped_none, skipped_step}
 use mathlib.Core.Path.{ap}
 use mathlib.Core.Bool.{not}

@@ -1,8 +1,6 @@
 -- `joined::compared` meets its contract.
 use Rattle.eval_filters.specs.Turns.{turn_left, turn_plain}
 use Rattle.eval_shortcuts.specs.Joined.{joined_start, joined_turn, joined_further, joined_none, joined_told}
-use borrow.Author.Rules.{rules}
-use Rattle.eval_shortcuts.proofs.joined.compared.Lts as lts
 use Rattle.eval_shortcuts.proofs.joined.compared.Goals as goal
 
 pub value_test-t-requires : goal.value_test-t-requires

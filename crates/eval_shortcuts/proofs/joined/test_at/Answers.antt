@@ -2,8 +2,6 @@
 use native.Mathlib.Omega.{arith}
 use Rattle.eval_filters.specs.Values.{test_short}
 use Rattle.eval_rows.specs.Calls.{left_asked}
-use borrow.Author.Rules.{rules}
-use Rattle.eval_shortcuts.proofs.joined.test_at.Lts as lts
 use Rattle.eval_shortcuts.proofs.joined.test_at.Goals as goal
 
 pub read_atom-t-requires : goal.read_atom-t-requires

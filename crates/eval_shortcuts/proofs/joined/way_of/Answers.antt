@@ -1,7 +1,5 @@
 -- `joined::way_of` meets its contract.
 use native.Mathlib.Omega.{arith}
-use borrow.Author.Rules.{rules}
-use Rattle.eval_shortcuts.proofs.joined.way_of.Lts as lts
 use Rattle.eval_shortcuts.proofs.joined.way_of.Goals as goal
 
 pub begins_value-requires : goal.begins_value-requires

@@ -2,7 +2,6 @@
 use mathlib.Core.Path.{sym, ◌∙◌}
 use mathlib.Core.Bool.{false≢true}
 use native.Mathlib.Omega.{arith}
-use Rattle.eval_shortcuts.proofs.several.is_at.Lts as lts
 use Rattle.eval_shortcuts.proofs.several.is_at.Goals as goal
 
 pub returns-then-count-near : goal.returns-then-count-near

@@ -1,6 +1,5 @@
 -- `last` meets its contract.
 use mathlib.Core.Path.{refl}
-use Rattle.eval_shortcuts.proofs.several.last.Lts as lts
 use Rattle.eval_shortcuts.proofs.several.last.Goals as goal
 
 pub behind-pc-requires : goal.behind-pc-requires

@@ -1,10 +1,7 @@
 -- `member_at` meets its contract: what has the name at the place that is looked at first is what a search finds.
-use mathlib.Core.Path.{◌≡◌}
 use native.Mathlib.Omega.{arith}
 use Rattle.eval_values.specs.Near.{near_found}
 use Rattle.eval_items.specs.LeafLaws.{name_asked, name_members, name_found}
-use borrow.Author.Rules.{rules}
-use Rattle.eval_shortcuts.proofs.several.member_at.Lts as lts
 use Rattle.eval_shortcuts.proofs.several.member_at.Goals as goal
 
 pub overflow_add-p : goal.overflow_add-p

@@ -1,6 +1,5 @@
 -- `pick` meets its contract.
 use mathlib.Core.Path.{sym, ◌∙◌}
-use Rattle.eval_shortcuts.proofs.several.pick.Lts as lts
 use Rattle.eval_shortcuts.proofs.several.pick.Goals as goal
 
 pub kind-requires : goal.kind-requires

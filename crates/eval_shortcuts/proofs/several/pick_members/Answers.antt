@@ -1,11 +1,7 @@
 -- `pick_members` meets its contract: what is left of the selectors gives the whole.
-use Prim.Native.Nat.{◌-◌}
-use mathlib.Core.Path.{◌≡◌, refl, ◌∙◌}
-use lib.ListN.{length}
+use mathlib.Core.Path.{refl, ◌∙◌}
 use native.Mathlib.Omega.{arith}
-use Rattle.eval_shortcuts.specs.Picked.{InPick, pick_start, pick_done, pick_room, pick_low, pick_high, pick_bound, pick_one, pick_index, pick_next}
-use borrow.Author.Rules.{rules}
-use Rattle.eval_shortcuts.proofs.several.pick_members.Lts as lts
+use Rattle.eval_shortcuts.specs.Picked.{pick_start, pick_done, pick_room, pick_low, pick_high, pick_bound, pick_one, pick_index, pick_next}
 use Rattle.eval_shortcuts.proofs.several.pick_members.Goals as goal
 
 pub first_child-first-requires : goal.first_child-first-requires
@@ -29,8 +25,8 @@ overflow_add-q c = omega (arith, pick_bound c.requires.ask_pick c.loop-m.invaria
 pub loop-m-preserved-then-plan-q-eq-NAME : goal.loop-m-preserved-then-plan-q-eq-NAME
 loop-m-preserved-then-plan-q-eq-NAME c = (c.put_member-a.auto.near ∙ c.loop-m.invariant.0, pick_next c.requires.ask_pick c.loop-m.invariant.1 c.loop-m-test.true c.put_member-a.ensures c.put_member-a.auto.list (omega (arith, c.if-plan-q-eq-NAME.true)))
 
-pub overflow_add-q-else-plan-q-eq-NAME : goal.overflow_add-q-else-plan-q-eq-NAME
-overflow_add-q-else-plan-q-eq-NAME c = omega (arith, pick_bound c.requires.ask_pick c.loop-m.invariant.1 c.loop-m-test.true, pick_low c.requires.ask_pick c.loop-m.invariant.1 c.loop-m-test.true, pick_high c.requires.ask_pick c.loop-m.invariant.1 c.loop-m-test.true, c.if-plan-q-eq-NAME.false, c.requires.ask_pick.given.few_p)
+pub overflow_add-q-in-loop-m : goal.overflow_add-q-in-loop-m
+overflow_add-q-in-loop-m c = omega (arith, pick_bound c.requires.ask_pick c.loop-m.invariant.1 c.loop-m-test.true, pick_low c.requires.ask_pick c.loop-m.invariant.1 c.loop-m-test.true, pick_high c.requires.ask_pick c.loop-m.invariant.1 c.loop-m-test.true, c.if-plan-q-eq-NAME.false, c.requires.ask_pick.given.few_p)
 
 pub loop-m-preserved : goal.loop-m-preserved
 loop-m-preserved c =

@@ -2,7 +2,6 @@
 use mathlib.Core.Bool.{false≢true}
 use native.Mathlib.Omega.{arith}
 use Rattle.eval_shortcuts.specs.Picks.{picks_of}
-use Rattle.eval_shortcuts.proofs.several.picks.Lts as lts
 use Rattle.eval_shortcuts.proofs.several.picks.Goals as goal
 
 pub overflow_add-pc : goal.overflow_add-pc

@@ -1,12 +1,8 @@
 -- `push_picked` meets its contract: the nodes that are left give the whole.
-use Prim.Native.Nat.{◌-◌}
-use mathlib.Core.Path.{◌≡◌, refl, ◌∙◌}
-use lib.ListN.{length}
+use mathlib.Core.Path.{refl, ◌∙◌}
 use native.Mathlib.Omega.{arith}
-use Rattle.eval_shortcuts.specs.Alongs.{InAlong, along_start, along_done}
+use Rattle.eval_shortcuts.specs.Alongs.{along_start, along_done}
 use Rattle.eval_shortcuts.specs.Picked.{picked_reach, picked_lost, picked_asked, picked_next}
-use borrow.Author.Rules.{rules}
-use Rattle.eval_shortcuts.proofs.several.push_picked.Lts as lts
 use Rattle.eval_shortcuts.proofs.several.push_picked.Goals as goal
 
 pub overflow_add-pc : goal.overflow_add-pc

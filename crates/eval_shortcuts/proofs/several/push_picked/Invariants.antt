@@ -1,12 +1,8 @@
 -- `push_picked` meets its contract: the nodes that are left give the whole.
 use Prim.Native.Nat.{◌-◌}
-use mathlib.Core.Path.{◌≡◌, refl, ◌∙◌}
+use mathlib.Core.Path.{◌≡◌}
 use lib.ListN.{length}
-use native.Mathlib.Omega.{arith}
-use Rattle.eval_shortcuts.specs.Alongs.{InAlong, along_start, along_done}
-use Rattle.eval_shortcuts.specs.Picked.{picked_reach, picked_lost, picked_asked, picked_next}
-use borrow.Author.Rules.{rules}
-use Rattle.eval_shortcuts.proofs.several.push_picked.Lts as lts
+use Rattle.eval_shortcuts.specs.Alongs.{InAlong}
 use Rattle.eval_shortcuts.proofs.several.push_picked.Given as goal
 
 abbrev pub invariant-loop-j : goal.invariant-loop-j

@@ -1,8 +1,6 @@
 -- `put_element` meets its contract.
 use native.Mathlib.Omega.{arith}
 use Rattle.eval_shortcuts.specs.Picked.{put_found, put_none}
-use borrow.Author.Rules.{rules}
-use Rattle.eval_shortcuts.proofs.several.put_element.Lts as lts
 use Rattle.eval_shortcuts.proofs.several.put_element.Goals as goal
 
 pub get_by_index-found-requires : goal.get_by_index-found-requires

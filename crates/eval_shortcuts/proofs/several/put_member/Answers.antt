@@ -1,8 +1,6 @@
 -- `put_member` meets its contract.
 use native.Mathlib.Omega.{arith}
 use Rattle.eval_shortcuts.specs.Picked.{put_found, put_none}
-use borrow.Author.Rules.{rules}
-use Rattle.eval_shortcuts.proofs.several.put_member.Lts as lts
 use Rattle.eval_shortcuts.proofs.several.put_member.Goals as goal
 
 pub member_at-found-requires : goal.member_at-found-requires

@@ -1,10 +1,6 @@
 -- `push_along` meets its contract.
-use Prim.Native.Nat.{◌-◌}
 use mathlib.Core.Path.{◌∙◌}
-use borrow.Author.Tests.{not-true, not-false}
-use Rattle.eval_shortcuts.specs.Alongs.{InAlong, along_start, along_done, along_visit, along_stop, along_next}
-use borrow.Author.Rules.{rules}
-use Rattle.eval_shortcuts.proofs.straight.push_along.Lts as lts
+use Rattle.eval_shortcuts.specs.Alongs.{along_start, along_done, along_visit, along_stop, along_next}
 use Rattle.eval_shortcuts.proofs.straight.push_along.Goals as goal
 
 pub loop-j-init : goal.loop-j-init

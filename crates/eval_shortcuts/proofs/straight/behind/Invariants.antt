@@ -1,10 +1,7 @@
--- `leads` meets its contract.
+-- `behind` meets its contract.
 use Prim.Native.Nat.{◌+◌, ◌-◌, ◌≤◌}
 use lib.ListN.{length}
-use native.Mathlib.Omega.{arith}
-use borrow.Author.Rules.{rules}
-use Rattle.eval_shortcuts.proofs.straight.leads.Lts as lts
-use Rattle.eval_shortcuts.proofs.straight.leads.Given as goal
+use Rattle.eval_shortcuts.proofs.straight.behind.Given as goal
 
 abbrev pub invariant-loop-q : goal.invariant-loop-q
 invariant-loop-q l = l.q ≤ length l.plan + 4

@@ -1,9 +1,6 @@
 -- `behind` meets its contract.
-use Prim.Native.Nat.{◌+◌, ◌-◌, ◌≤◌}
-use lib.ListN.{length}
 use native.Mathlib.Omega.{arith}
-use Rattle.eval_shortcuts.proofs.several.behind.Lts as lts
-use Rattle.eval_shortcuts.proofs.several.behind.Goals as goal
+use Rattle.eval_shortcuts.proofs.straight.behind.Goals as goal
 
 pub loop-q-init : goal.loop-q-init
 loop-q-init c = omega (arith, c.requires.1)
