@@ -1,6 +1,6 @@
 -- From what a function of evaluation has at hand to what the next one asks, and from what that one gives to what was asked; the invariants of the loops, and their
 -- turns. P is the plan, L the pool, S the table, X the text; v is what is lent. Assumes nothing.
-use Rattle.std.specs.Prelude.{ℕ, ◌+◌, ◌-◌, ◌≤◌, ◌<◌, ◌≡◌, refl, List, true, false, get_or}
+use Rattle.std.specs.Prelude.{Some, None, ℕ, ◌+◌, ◌-◌, ◌≤◌, ◌<◌, ◌≡◌, refl, List, true, false, get_or}
 use Rattle.std.proofs.Common.{sym, ap, ◌∙◌, subst, arith}
 use Rattle.std.proofs.Math.ListN.{length}
 use Rattle.std.specs.Borrow.{MutBor}
@@ -62,48 +62,49 @@ module _ {v : Lent} {s : Numbers} {l : List ℕ} {node pc : ℕ} (a : Asked v s 
     reached_in = let y = d.front q.query.f q.query.k q.query.at in segments_in (plan_of v) (pool_of v) r.pc y.j y.g y.at
 
     -- it leads nowhere
-    pub segment_lost : r.some ≡ false → DoneSegment v node pc s l s l
+    pub segment_lost : r.node ≡ None → DoneSegment v node pc s l s l
     segment_lost e = gives_none _ s l (λ x R σ. (d.front x.f x.k x.at).lost e (node_at (table_of v) (text_of v) R) σ)
-
-    -- to the end of the query
-    pub push_asked : AskPush (length l) (at_of s) r.node (cap_of s)
-    push_asked = record { room = a.room; wide = a.wide; small = a.small; number = omega (arith, d.node_in, a.given.tab.size.few) }
-
-    pub segment_ends : r.some ≡ true → get_or (plan_of v) r.pc 0 ≡ 0x0A → (l' : List ℕ) (n : ℕ) → st (cap_of s) l' n ≡ push r.node (st (cap_of s) l (at_of s)) → DoneSegment v node pc s l (with_at s n) l'
-    segment_ends e z l' n p =
-        gives_of _ s l (with_at s n) l'
-        (λ x. let y = d.front x.f x.k x.at in
-        p ∙ segment_end (table_of v) (text_of v) a.given.tab y.g _ r.node d.node_in _ (is_end (plan_of v) r.pc y.j y.g y.at.holds z) ∙ y.found e _ _)
 
     -- to another segment
     abbrev onward : Query (plan_of v) (pool_of v) pc → Query (plan_of v) (pool_of v) r.pc
     onward x = let y = d.front x.f x.k x.at in record { f = y.g; k = y.j; at = y.at }
 
-    module _ (n : get_or (plan_of v) r.pc 0 ≡ 0x0A → ⊥) where
-      pub onward_selectors : AskSelectors v r.node r.pc
-      onward_selectors = record { node_in = d.node_in; query = onward q.query; going = n }
+    module _ {m : ℕ} (e : r.node ≡ Some m) where
+      -- to the end of the query
+      pub push_asked : AskPush (length l) (at_of s) m (cap_of s)
+      push_asked = record { room = a.room; wide = a.wide; small = a.small; number = omega (arith, d.node_in m e, a.given.tab.size.few) }
 
-      pub segment_child_done : r.some ≡ true → get_or (plan_of v) r.pc 0 ≡ 3 → (s' : Numbers) (l' : List ℕ) → DoneSelectors v r.node r.pc s l s' l' → DoneSegment v node pc s l s' l'
-      segment_child_done e k s' l' g =
-          gives_as _ g (λ x. parted_at a.given.few_p (onward x) n)
-          (λ x R σ. let y = d.front x.f x.k x.at in
-          let z = (parted_at a.given.few_p (onward x) n).parts in
-          segment_child z.ss z.q y.g _ _ σ (z.is_child k) ∙ y.found e _ σ)
+      pub segment_ends : get_or (plan_of v) r.pc 0 ≡ 0x0A → (l' : List ℕ) (n : ℕ) → st (cap_of s) l' n ≡ push m (st (cap_of s) l (at_of s)) → DoneSegment v node pc s l (with_at s n) l'
+      segment_ends z l' n p =
+          gives_of _ s l (with_at s n) l'
+          (λ x. let y = d.front x.f x.k x.at in
+          p ∙ segment_end (table_of v) (text_of v) a.given.tab y.g _ m (d.node_in m e) _ (is_end (plan_of v) r.pc y.j y.g y.at.holds z) ∙ y.found m e _ _)
 
-      abbrev descends_at : (get_or (plan_of v) r.pc 0 ≡ 3 → ⊥) → Query (plan_of v) (pool_of v) r.pc → Descends (plan_of v) (pool_of v) r.pc
-      descends_at k x =
-          let z = (parted_at a.given.few_p x n).parts in
-          record { ss = z.ss; q = z.q; k = x.k; at = subst (λ (f : Segments). SegmentsAt (plan_of v) (pool_of v) r.pc x.k f) (z.is_descendant k) x.at }
+      module _ (n : get_or (plan_of v) r.pc 0 ≡ 0x0A → ⊥) where
+        pub onward_selectors : AskSelectors v m r.pc
+        onward_selectors = record { node_in = d.node_in m e; query = onward q.query; going = n }
 
-      pub onward_descent : (get_or (plan_of v) r.pc 0 ≡ 3 → ⊥) → AskDescent v r.node r.pc
-      onward_descent k = record { node_in = d.node_in; descends = descends_at k (onward q.query) }
+        pub segment_child_done : get_or (plan_of v) r.pc 0 ≡ 3 → (s' : Numbers) (l' : List ℕ) → DoneSelectors v m r.pc s l s' l' → DoneSegment v node pc s l s' l'
+        segment_child_done k s' l' g =
+            gives_as _ g (λ x. parted_at a.given.few_p (onward x) n)
+            (λ x R σ. let y = d.front x.f x.k x.at in
+            let z = (parted_at a.given.few_p (onward x) n).parts in
+            segment_child z.ss z.q y.g _ _ σ (z.is_child k) ∙ y.found m e _ σ)
 
-      pub segment_descent_done : r.some ≡ true → (get_or (plan_of v) r.pc 0 ≡ 3 → ⊥) → (s' : Numbers) (l' : List ℕ) → DoneDescent v r.node r.pc s l s' l' → DoneSegment v node pc s l s' l'
-      segment_descent_done e k s' l' g =
-          gives_as _ g (λ x. descends_at k (onward x))
-          (λ x R σ. let y = d.front x.f x.k x.at in
-          let z = (parted_at a.given.few_p (onward x) n).parts in
-          segment_descendant z.ss z.q y.g _ _ σ (z.is_descendant k) ∙ y.found e _ σ)
+        abbrev descends_at : (get_or (plan_of v) r.pc 0 ≡ 3 → ⊥) → Query (plan_of v) (pool_of v) r.pc → Descends (plan_of v) (pool_of v) r.pc
+        descends_at k x =
+            let z = (parted_at a.given.few_p x n).parts in
+            record { ss = z.ss; q = z.q; k = x.k; at = subst (λ (f : Segments). SegmentsAt (plan_of v) (pool_of v) r.pc x.k f) (z.is_descendant k) x.at }
+
+        pub onward_descent : (get_or (plan_of v) r.pc 0 ≡ 3 → ⊥) → AskDescent v m r.pc
+        onward_descent k = record { node_in = d.node_in m e; descends = descends_at k (onward q.query) }
+
+        pub segment_descent_done : (get_or (plan_of v) r.pc 0 ≡ 3 → ⊥) → (s' : Numbers) (l' : List ℕ) → DoneDescent v m r.pc s l s' l' → DoneSegment v node pc s l s' l'
+        segment_descent_done k s' l' g =
+            gives_as _ g (λ x. descends_at k (onward x))
+            (λ x R σ. let y = d.front x.f x.k x.at in
+            let z = (parted_at a.given.few_p (onward x) n).parts in
+            segment_descendant z.ss z.q y.g _ _ σ (z.is_descendant k) ∙ y.found m e _ σ)
 
 -- ---- a descendant segment
 

@@ -28,10 +28,9 @@ pub fn evaluate<'a>(
     ensures { DoneSegments cap plan.now pool.now table.now text.now root node pc list.old at list.new result }
 {
     let r = eval_front::front(plan, pool, table, text, node, pc);
-    if !r.some {
+    let Some(m) = r.node else {
         return at;
-    }
-    let m = r.node;
+    };
     let q = r.pc;
     if plan[q] == END {
         return eval_front::push(list, at, m, cap);

@@ -24,7 +24,6 @@ use eval_asks::{Lent, State};
 use eval_filters::Told;
 use eval_items::{Regs, leaves, plans};
 use eval_values::Operand;
-use eval_values::members::Member;
 use plan_format::heads::WILDCARD_HEAD;
 use plan_format::kinds::{CHILD, CURRENT, END, INDEX, SLICE, WILDCARD};
 use table::records;
@@ -45,6 +44,7 @@ struct Said {
 }
 
 // The next node that a filter keeps; where `call`, the next that goes by cells with those behind it. `seen` says whether those behind it should.
+// Its node is the end of the range where there is none: the loop over the nodes ends there, so that an Option is no plainer.
 #[derive(Clone, Copy)]
 struct Next {
     node: usize,
@@ -62,10 +62,9 @@ fn evaluate_segment(lent: &Lent, state: &mut State, list: &mut &mut [u32], node:
 {
     let plan = lent.plan;
     let r = eval_front::reach(plan, lent.pool, lent.table, lent.text, node, pc);
-    if !r.some {
+    let Some(m) = r.node else {
         return;
-    }
-    let m = r.node;
+    };
     let q = r.pc;
     let k = plan[q];
     if k == END {
@@ -106,7 +105,7 @@ fn recursive_descent(lent: &Lent, state: &mut State, list: &mut &mut [u32], node
     }
 }
 
-// The same where `pass_flats` may pass some of the children.
+// The same where `pass_flats` may pass some of the children. It is a function of its own, since the stack that a level of the table takes is promised (docs/DECISIONS.md, 142).
 #[cycle(evaluation)]
 fn descend_flats(lent: &Lent, state: &mut State, list: &mut &mut [u32], node: usize, pc: usize)
     requires asked { Asked lent.now state.old list.old.now }
@@ -170,7 +169,7 @@ fn apply_selector(
     let k = plan[p];
     if k <= INDEX {
         let found = leaves::select_one(plan, lent.pool, lent.table, lent.text, p, node);
-        let Member::At(m) = found else {
+        let Some(m) = found else {
             return;
         };
         if plan[rest] == END {
@@ -225,6 +224,7 @@ fn each_place(
         state.at = next;
         return;
     }
+    // The steps are those of the walk, so that `for` is no plainer.
     while 0 < w.left {
         if state.cap < state.at {
             return;
@@ -298,6 +298,7 @@ fn eval_filter(
     let e = i + n;
     let k = eval_shortcuts::keep_joined(lent, state, list, i, e, p + 3, z, rest);
     let mut v = next_kept(lent, state.root, k, e, p + 3, z);
+    // The steps differ, so that `for` is no plainer.
     while v.node < e {
         let j = v.node;
         if v.call {
@@ -459,13 +460,12 @@ fn eval_query(lent: &Lent, root: usize, node: usize, s: Regs) -> Regs
     let q = s.q;
     let from = leaves::begins(plan[q], root, node);
     let r = eval_front::reach(plan, lent.pool, table, text, from, q + 1);
-    let m = r.node;
     let pc = r.pc;
     let z = plans::past_query(plan, pc);
     let mode = plan[z];
-    if !r.some {
+    let Some(m) = r.node else {
         return answers::to_registers(table, text, s, mode, z, 0, 0);
-    }
+    };
     if plan[pc] == END {
         return answers::to_registers(table, text, s, mode, z, 1, m);
     }

@@ -1,6 +1,6 @@
 -- The selectors by their kinds: from what `apply_selector` has at hand to what each function asks, and from what that gives to what was asked; the invariants of the
 -- loops over places, children and kept children, and their turns. P is the plan, L the pool, S the table, X the text; v is what is lent. Assumes nothing.
-use Rattle.std.specs.Prelude.{ℕ, zero, suc, ◌+◌, ◌-◌, ◌≤◌, ◌<◌, ◌≡◌, refl, List, [], ◌∷◌, Bool as Bits, true, false, eqb, length, get_or}
+use Rattle.std.specs.Prelude.{ℕ, zero, suc, ◌+◌, ◌-◌, ◌≤◌, ◌<◌, ◌≡◌, refl, List, [], ◌∷◌, Bool as Bits, true, false, eqb, length, get_or, Option, Some, None}
 use Rattle.std.proofs.Common.{sym, ap, ◌∙◌, subst, eqb-true, arith}
 use Rattle.std.proofs.lemmas.Bool.{eqb-false}
 use Rattle.std.specs.Borrow.{MutBor}
@@ -17,8 +17,6 @@ use Rattle.eval_laws.specs.Emits.{go}
 use Rattle.eval_laws.specs.Steps.{kept, one_of, kept_in, kept_out, span_kept}
 use Rattle.eval_laws.specs.Ranges.{Range, range_of_lem, range_in, select_filter}
 use Rattle.eval_laws.specs.Items.{SegmentsAt, Filtered, Sliced, is_end, is_slice, is_filter}
-use Rattle.eval_values.specs.declared.members.Member.{Member}
-use Rattle.eval_values.specs.declared.members.Member.TheVariants.{At, Nothing as Absent}
 use Rattle.eval_items.specs.Leaves.{AskOne, DoneOne, AskWalk, DoneWalk}
 use Rattle.eval_front.specs.Visits.{Query, AskNumbers, AskWalked, AskPlaced, DonePlaced, Further, numbers_from, over, goes}
 use Rattle.eval_front.specs.Overs.{over_step, over_end, over_full, over_numbers, goes_full}
@@ -82,14 +80,14 @@ module _ {v : Lent} {s : Numbers} {l : List ℕ} {node p rest : ℕ} (a : Asked 
   pub rest_in : (p < rest) × (rest < length (plan_of v))
   rest_in = alone_in q.selects.stands
 
-  module _ {r : Member} (d : DoneOne (plan_of v) (pool_of v) (table_of v) (text_of v) p node r) where
-    pub selector_absent : r ≡ Absent → DoneSelector v node p rest s l s l
+  module _ {r : Option ℕ} (d : DoneOne (plan_of v) (pool_of v) (table_of v) (text_of v) p node r) where
+    pub selector_absent : r ≡ None → DoneSelector v node p rest s l s l
     selector_absent e = gives_none _ s l (λ x R σ. one_absent S X x.x _ _ x.q r σ e (d.selects x.x x.k _ x.stands.selector))
 
-    pub found_asked : (m : ℕ) → r ≡ At m → AskSegment v m rest
+    pub found_asked : (m : ℕ) → r ≡ Some m → AskSegment v m rest
     found_asked m e = record { node_in = d.inside m e; query = behind q.selects }
 
-    pub selector_found : (m : ℕ) → r ≡ At m → {s' : Numbers} {l' : List ℕ} → DoneSegment v m rest s l s' l' → DoneSelector v node p rest s l s' l'
+    pub selector_found : (m : ℕ) → r ≡ Some m → {s' : Numbers} {l' : List ℕ} → DoneSegment v m rest s l s' l' → DoneSelector v node p rest s l s' l'
     selector_found m e g = gives_as _ g behind (λ x R σ. one_found S X x.x _ _ x.q r m σ _ e (d.selects x.x x.k _ x.stands.selector) refl)
 
   -- ---- a wildcard

@@ -122,7 +122,7 @@ module _ {P L S X : List ℕ} {f : Filter} {i : ℕ} {l₀ : List ℕ} {a₀ : �
 
           pub pass_in : f.z ≤ r.q → r.acc ≡ true → {l' : List ℕ} {n' : ℕ} → DonePushed P L S X j f.rest f.cap l a l' n' → length l' ≡ length l
               → InPass P L S X f.cells f.root i f.e f.p f.z f.rest f.cap l₀ a₀ l' n' (j + 1)
-          pass_in n m d' w = record { low = omega (arith, t.low); same = w ∙ t.same; rows = λ y. kept_step (t.rows y) h (told_test n) m d' refl w; cells = λ y. absurd (never (sym u ∙ y)) }
+          pass_in n m d' w = record { low = omega (arith, t.low); same = w ∙ t.same; rows = λ y. kept_step (t.rows y) h (told_test n) m d' w; cells = λ y. absurd (never (sym u ∙ y)) }
 
 -- ---- the nodes behind those that are pushed
 

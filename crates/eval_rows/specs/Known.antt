@@ -1,5 +1,5 @@
 -- What is known of an expression of match or search. P is the plan, L the pool. Assumes nothing.
-use Rattle.std.specs.Prelude.{ℕ, ◌+◌, ◌-◌, ◌*◌, ◌≤◌, ◌<◌, ◌≡◌, refl, List, Bool as Bits, true, false, length, take, drop}
+use Rattle.std.specs.Prelude.{None, ℕ, ◌+◌, ◌-◌, ◌*◌, ◌≤◌, ◌<◌, ◌≡◌, refl, List, Bool as Bits, true, false, length, take, drop}
 use Rattle.std.proofs.Common.{ap, ◌∙◌, subst, arith}
 use Rattle.definition.specs.Bytes.{part}
 use Rattle.definition.specs.Limits.{max_plan}
@@ -10,7 +10,6 @@ use Rattle.definition.specs.Regexps.{regex_test}
 use Rattle.eval_items.specs.Regexes.{cut}
 use Rattle.regex_match.specs.Tested.{Tested}
 use Rattle.regex_states.specs.Ready.{Ready as StatesReady}
-use Rattle.regex_reader.specs.declared.nested.Reading.TheVariants as reading
 use Rattle.regex_rooms.specs.Rooms.{scope_for, Widened, IsWidened}
 use Rattle.regex_rooms.proofs.Laws.{holds_none, holds_some, holds_long}
 use Rattle.eval_rows.specs.declared.calls.Call.{Call}
@@ -23,7 +22,7 @@ Outside c e = (t : List ℕ) → false ≡ regex_test c t e
 pub outside_long : (c : Scope) (e : List ℕ) → 1024 < length e → Outside c e
 outside_long c e h t = holds_long c t e h
 
-pub outside_read : (c : Scope) (e : List ℕ) {q : List ℕ} → Widened c e q reading.Outside → Outside c e
+pub outside_read : (c : Scope) (e : List ℕ) {q : List ℕ} → Widened c e q None → Outside c e
 outside_read c e w t = holds_none c t w
 
 -- nothing, that it is outside the part, or its code, for which the rooms may be ready
@@ -61,7 +60,7 @@ module _ (c : Scope) (L : List ℕ) (a n : ℕ) where
       → (is_utf8 (take (a + n - a) (drop a L)) ≡ true) × ((length (take (a + n - a) (drop a L)) ≤ k) × (8 * length (take (a + n - a) (drop a L)) + 15 ≤ q))
   cut_asked s r = let e = cut_length s.0 in let r0 = r.0 in let r1 = r.1 in (ap is_utf8 (cut L a n) ∙ s.1, (omega arith, omega arith))
 
-  pub cut_outside : {q : List ℕ} → Widened c (take (a + n - a) (drop a L)) q reading.Outside → Outside c (part L a n)
+  pub cut_outside : {q : List ℕ} → Widened c (take (a + n - a) (drop a L)) q None → Outside c (part L a n)
   cut_outside w = subst (Outside c) (cut L a n) (outside_read c _ w)
 
   pub cut_long : a + n ≤ length L → 1024 < n → Outside c (part L a n)

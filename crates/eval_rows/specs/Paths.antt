@@ -1,18 +1,17 @@
 -- Names and indices that lead to the end of a query: what stands in the plan, what the functions ask and give, and the turns of their loops. P is the plan, L the
 -- pool, S the table, X the text. Assumes nothing.
-use Rattle.std.specs.Prelude.{ℕ, ◌+◌, ◌≤◌, ◌<◌, ◌≡◌, List, true, false, length, get_or}
+use Rattle.std.specs.Prelude.{ℕ, ◌+◌, ◌≤◌, ◌<◌, ◌≡◌, List, true, false, length, get_or, Option, Some, None}
+use Rattle.std.proofs.lemmas.Option.{none-some}
 use Rattle.std.proofs.Common.{sym, ◌∙◌, subst, arith}
 use Rattle.definition.specs.Limits.{max_plan}
 use Rattle.definition.specs.Forms.{Segments}
 use Rattle.definition.specs.Plans.{code_segments}
 use Rattle.eval_laws.specs.Items.{SegmentsAt, parts, segments_in, end_long}
-use Rattle.eval_values.specs.declared.members.Member.{Member}
-use Rattle.eval_values.specs.declared.members.Member.TheVariants.{At, Nothing as Absent}
 use Rattle.eval_items.specs.Ends.{AskNext, DoneNext}
 use Rattle.eval_items.specs.Leaves.{AskOne, DoneOne}
 use Rattle.eval_front.specs.Visits.{Query, Given, Head, AskReach, DoneReach}
 use Rattle.eval_front.specs.Loops.{InReach}
-use Rattle.eval_front.specs.Fronts.{Single, single, along_start, one_asked, reach_lost, reach_next, reach_found}
+use Rattle.eval_front.specs.Fronts.{Single, single, along_start, one_asked, reach_next, done_lost, done_found}
 use Rattle.eval_front.specs.declared.Reached.{Reached}
 
 -- names and indices lead from c to the end of the query at e
@@ -88,7 +87,7 @@ path_next {P} {pc} {q} i kind l u d q' h n =
 
 pub record DoneFollow (P L S X : List ℕ) (node pc e : ℕ) (r : Reached) : Type 0 where
   pub reach : DoneReach P L S X node pc r
-  pub ends : r.some ≡ true → r.pc ≡ e
+  pub ends : (m : ℕ) → r.node ≡ Some m → r.pc ≡ e
 
 pub record InFollow (P L S X : List ℕ) (node pc e m q : ℕ) : Type 0 where
   pub reach : InReach P L S X node pc m q
@@ -101,11 +100,10 @@ module _ {P L S X : List ℕ} {node pc e m q : ℕ} (z : Given P L S X) (i : InF
   pub follow_in : q < length P
   follow_in = segments_in P L q i.reach.query.k i.reach.query.f i.reach.query.at
 
-  pub follow_end : e ≤ q → DoneFollow P L S X node pc e (record { node = m; pc = q; some = true })
+  pub follow_end : e ≤ q → DoneFollow P L S X node pc e (record { node = Some m; pc = q })
   follow_end h =
-      let r = i.reach in
       let l = leads_low i.leads in
-      record { reach = record { node_in = r.node_in; deeper = r.deeper; later = r.later; front = reach_found r }; ends = λ u. omega arith }
+      record { reach = done_found i.reach; ends = λ n u. omega arith }
 
   module _ (h : q < e) where
     here : Onward P e q
@@ -123,10 +121,8 @@ module _ {P L S X : List ℕ} {node pc e m q : ℕ} (z : Given P L S X) (i : InF
     pub follow_next : AskNext P (q + 3)
     follow_next = record { few = z.few_p; s = alone.x; k = i.reach.query.k; holds = alone.here.holds }
 
-    pub follow_lost : (r : Member) → DoneOne P L S X (q + 3) m r → r ≡ Absent → DoneFollow P L S X node pc e (record { node = m; pc = q; some = false })
-    follow_lost r o a =
-        let t = i.reach in
-        record { reach = record { node_in = t.node_in; deeper = t.deeper; later = t.later; front = reach_lost z t here.head r o a }; ends = λ u. let n : ◌≡◌ {A = ℕ} 0 1 = cc in absurd (omega arith) }
+    pub follow_lost : (r : Option ℕ) → DoneOne P L S X (q + 3) m r → r ≡ None → DoneFollow P L S X node pc e (record { node = None; pc = q })
+    follow_lost r o a = record { reach = done_lost z i.reach here.head r o a; ends = λ n u. absurd (none-some n u) }
 
     -- both say where the next segment stands
     same_next : (q' : ℕ) → DoneNext P (q + 3) q' → q' ≡ here.next
@@ -135,6 +131,6 @@ module _ {P L S X : List ℕ} {node pc e m q : ℕ} (z : Given P L S X) (i : InF
     pub follow_later : (q' : ℕ) → DoneNext P (q + 3) q' → q < q'
     follow_later q' n = omega (arith, same_next q' n, here.later)
 
-    pub follow_again : (r : Member) → DoneOne P L S X (q + 3) m r → (n : ℕ) → r ≡ At n → (q' : ℕ) → DoneNext P (q + 3) q' → InFollow P L S X node pc e n q'
+    pub follow_again : (r : Option ℕ) → DoneOne P L S X (q + 3) m r → (n : ℕ) → r ≡ Some n → (q' : ℕ) → DoneNext P (q + 3) q' → InFollow P L S X node pc e n q'
     follow_again r o n a q' v =
         record { reach = reach_next z i.reach here.head r o n a q' v; leads = subst (Leads P e) (sym (same_next q' v)) here.leads }

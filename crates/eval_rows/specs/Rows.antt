@@ -7,7 +7,7 @@ use Rattle.eval_laws.specs.Todos.{todo_to}
 use Rattle.eval_asks.specs.Cells.{answer_of, place_of, left_ended}
 use Rattle.eval_filters.specs.Queries.{Within}
 use Rattle.eval_filters.specs.Kept.{AskTest, AskKept, InKept, kept_full, kept_end}
-use Rattle.eval_filters.specs.Keeps.{TailAt, DoneRange, range_done}
+use Rattle.eval_filters.specs.Keeps.{TailAt, DoneRange}
 use Rattle.eval_filters.specs.Tests.{Left, AskRest}
 use Rattle.eval_filters.specs.Turns.{AskTurn, DoneTurn}
 use Rattle.eval_filters.specs.Values.{AskLeft}
@@ -74,10 +74,10 @@ module _ {P L S X : List ℕ} {f : Filter} {i : ℕ} {l₀ : List ℕ} {a₀ : �
   rows_done d = record { left = λ k u. absurd (none-some k u); whole = λ u. d }
 
   pub rows_full : f.cap < a → length l₀ ≤ f.cap + 1 → DoneRows P L S X f i l₀ a₀ l (record { at = a; left = None })
-  rows_full h w = rows_done (range_done (kept_full t h w) refl)
+  rows_full h w = rows_done (kept_full t h w)
 
   pub rows_end : f.e ≤ j → DoneRows P L S X f i l₀ a₀ l (record { at = a; left = None })
-  rows_end h = rows_done (range_done (kept_end t h) refl)
+  rows_end h = rows_done (kept_end t h)
 
   pub rows_stuck : (q : ℕ) → j < f.e → AskLeft P L S X f.root j q f.z → DoneRows P L S X f i l₀ a₀ l (record { at = a; left = Some (record { i = j; q = q }) })
   rows_stuck q h s =

@@ -62,7 +62,7 @@ other_node S X tab m h n c w = go (kind_of S X tab m h)
     go (Kind.map e) = ap to (sym (value_map S X tab m h e))
 
 module _ {P L S X : List ℕ} {from : ℕ} {g : Call} (a : AskText P L S X from g) {r : Reached} (d : DoneFollow P L S X from (g.at + 1) g.end r) where
-  pub text_lost : r.some ≡ false → TextOf P L S X from g.at None
+  pub text_lost : r.node ≡ None → TextOf P L S X from g.at None
   unfolding regex_values
   text_lost e =
       record {
@@ -73,33 +73,33 @@ module _ {P L S X : List ℕ} {from : ℕ} {g : Call} (a : AskText P L S X from 
         no_text = λ u c v. refl;
       }
 
-  module _ (e : r.some ≡ true) where
+  module _ {m : ℕ} (e : r.node ≡ Some m) where
     ended : get_or P r.pc 0 ≡ 0x0A
-    ended = ap (λ (x : ℕ). get_or P x 0) (d.ends e) ∙ leads_end a.path
+    ended = ap (λ (x : ℕ). get_or P x 0) (d.ends m e) ∙ leads_end a.path
 
-    first_is : (f : Segments) (k : ℕ) → SegmentsAt P L (g.at + 1) k f → node_value (node_at S X r.node) ≡ first_value (eval_segments f (node_at S X from) (node_at S X from ∷ []))
-    first_is f k at = found_first S X _ _ 1 r.node (found_one P L S X a.reach.given.tab from g.at a.reach.node_in r d.reach e ended 0x19 f k at) (omega arith)
+    first_is : (f : Segments) (k : ℕ) → SegmentsAt P L (g.at + 1) k f → node_value (node_at S X m) ≡ first_value (eval_segments f (node_at S X from) (node_at S X from ∷ []))
+    first_is f k at = found_first S X _ _ 1 m (found_one P L S X a.reach.given.tab from g.at a.reach.node_in r d.reach m e ended 0x19 f k at) (omega arith)
 
-    pub text_other : (kind_at S r.node ≡ 5 → ⊥) → TextOf P L S X from g.at None
+    pub text_other : (kind_at S m ≡ 5 → ⊥) → TextOf P L S X from g.at None
     text_other n =
         record {
-          value = node_value (node_at S X r.node);
+          value = node_value (node_at S X m);
           first = first_is;
           is_text_lem = λ t u. absurd (none-some t u);
           inside = λ t u. absurd (none-some t u);
-          no_text = λ u c v. other_node S X a.reach.given.tab r.node d.reach.node_in n c v;
+          no_text = λ u c v. other_node S X a.reach.given.tab m (d.reach.node_in m e) n c v;
         }
 
     -- its text lies in that of the table
-    pub text_spot : kind_at S r.node ≡ 5 → (x n : ℕ) → x ≡ low_word S r.node → n ≡ high_word S r.node → x + n ≤ length X
-    text_spot k x n i j = ((of_text_lem S X a.reach.given.tab r.node d.reach.node_in k x n i j).fine []).0
+    pub text_spot : kind_at S m ≡ 5 → (x n : ℕ) → x ≡ low_word S m → n ≡ high_word S m → x + n ≤ length X
+    text_spot k x n i j = ((of_text_lem S X a.reach.given.tab m (d.reach.node_in m e) k x n i j).fine []).0
 
-    pub text_found : kind_at S r.node ≡ 5 → (x n : ℕ) → x ≡ low_word S r.node → n ≡ high_word S r.node → (y : Bor (List ℕ)) → y.now ≡ take (x + n - x) (drop x X) → TextOf P L S X from g.at (Some y)
+    pub text_found : kind_at S m ≡ 5 → (x n : ℕ) → x ≡ low_word S m → n ≡ high_word S m → (y : Bor (List ℕ)) → y.now ≡ take (x + n - x) (drop x X) → TextOf P L S X from g.at (Some y)
     text_found k x n i j y h =
-        let t = of_text_lem S X a.reach.given.tab r.node d.reach.node_in k x n i j in
+        let t = of_text_lem S X a.reach.given.tab m (d.reach.node_in m e) k x n i j in
         let same : part X x n ≡ y.now = sym (cut X x n) ∙ sym h in
         record {
-          value = node_value (node_at S X r.node);
+          value = node_value (node_at S X m);
           first = first_is;
           is_text_lem = λ w u. sym (t.means []) ∙ ap Value.text (same ∙ ap (λ (b : Bor (List ℕ)). b.now) (same_Some y w u));
           inside = λ w u. subst (λ (l : List ℕ). is_utf8 l ≡ true) (same ∙ ap (λ (b : Bor (List ℕ)). b.now) (same_Some y w u)) (t.fine []).1;

@@ -28,7 +28,6 @@ ghost use Rattle.eval_rows.specs.Columns.{AskPass, DonePass, AskFill};
 ghost use Rattle.eval_asks.specs.Cells.{Column};
 
 use calls::Call;
-use regex_reader::nested::Reading;
 use regex_rooms::reads;
 use rows::{Filter, Passed};
 use turns::UNREAD;
@@ -68,8 +67,8 @@ fn read_in(
     let b = g.start;
     let n = g.size;
     match reads::read_widened(g.kind, &pool[b..b + n], chars, code) {
-        Reading::Outside => coded::outside(plan, pool, table, text, f, i, g, list, at),
-        Reading::Code(k) => coded::by_code(plan, pool, table, text, f, i, g, &code[..k], list, at),
+        None => coded::outside(plan, pool, table, text, f, i, g, list, at),
+        Some(k) => coded::by_code(plan, pool, table, text, f, i, g, &code[..k], list, at),
     }
 }
 

@@ -5,7 +5,6 @@ ghost use Rattle.eval_rows.specs.Paths.{AskPath, Leads, DoneFollow};
 
 use eval_front::Reached;
 use eval_items::{leaves, plans};
-use eval_values::members::Member;
 use plan_format::heads::{INDEX_HEAD, NAME_HEAD};
 use plan_format::kinds::END;
 use text::bytes;
@@ -50,19 +49,14 @@ pub fn follow(
     let mut q = pc;
     while q < e {
         let found = leaves::select_one(plan, pool, table, text, q + 3, m);
-        let Member::At(k) = found else {
-            return Reached {
-                node: m,
-                pc: q,
-                some: false,
-            };
+        let Some(k) = found else {
+            return Reached { node: None, pc: q };
         };
         m = k;
         q = plans::next_selector(plan, q + 3);
     }
     Reached {
-        node: m,
+        node: Some(m),
         pc: q,
-        some: true,
     }
 }

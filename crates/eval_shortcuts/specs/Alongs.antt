@@ -8,10 +8,10 @@ use Rattle.definition.specs.Tables.{node_count}
 use Rattle.eval_laws.specs.States.{st}
 use Rattle.eval_laws.specs.Steps.{one_of}
 use Rattle.eval_laws.specs.Items.{SegmentsAt}
-use Rattle.eval_front.specs.Visits.{Given, Query, AskVisit, DoneVisit, over}
+use Rattle.eval_front.specs.Visits.{Given, Query, AskVisit, Emitted, Stopped, over}
 use Rattle.eval_front.specs.Overs.{over_step}
 use Rattle.eval_front.specs.Spans.{Room}
-use Rattle.eval_front.specs.declared.Visited.{Visited}
+use Rattle.eval_front.specs.declared.More.{More}
 use Rattle.eval_shortcuts.specs.declared.straight.Passed.{Passed}
 
 pub record AskAlong (P L S X : List ℕ) (i e rest len at cap : ℕ) : Type 0 where
@@ -46,23 +46,23 @@ module _ {P L S X : List ℕ} {i e rest cap : ℕ} {l₀ : List ℕ} {a₀ : ℕ
       let b = t.low in
       record { given = s.given; node_in = omega (arith, s.range (omega arith)); query = s.query; room = t.room; wide = omega (arith, t.same, s.list.wide); small = s.list.small }
 
-  module _ {l' : List ℕ} {v : Visited} (h : j < e) (d : DoneVisit P L S X j rest cap l a l' v) where
+  module _ {l' : List ℕ} (h : j < e) where
     -- a node that needs more is left
-    pub along_stop : v.more ≡ true → DoneAlong P L S X i e rest cap l₀ a₀ l' (record { i = j; at = a })
-    along_stop m =
+    pub along_stop : {m : More} → Stopped P L S X j rest l l' m → DoneAlong P L S X i e rest cap l₀ a₀ l' (record { i = j; at = a })
+    along_stop d =
         record {
           low = t.low;
           high = t.high;
           room = t.room;
-          again = λ f k q R. ap (λ (x : List ℕ). over f R one_of S X j e (st cap x a)) (d.places m) ∙ t.again f k q R;
+          again = λ f k q R. ap (λ (x : List ℕ). over f R one_of S X j e (st cap x a)) d.places ∙ t.again f k q R;
         }
 
-    pub along_next : v.more ≡ false → length l' ≡ length l → InAlong P L S X i e rest cap l₀ a₀ l' v.at (j + 1)
-    along_next m w =
+    pub along_next : {a' : ℕ} → Emitted P L S X j rest cap l a l' a' → length l' ≡ length l → InAlong P L S X i e rest cap l₀ a₀ l' a' (j + 1)
+    along_next {a'} d w =
         record {
           low = omega (arith, t.low);
           high = λ u. omega arith;
           same = w ∙ t.same;
           room = d.room;
-          again = λ f k q R. over_step f R one_of S X j e (st cap l a) (st cap l' v.at) h (d.ended m f k q R) ∙ t.again f k q R;
+          again = λ f k q R. over_step f R one_of S X j e (st cap l a) (st cap l' a') h (d.ended f k q R) ∙ t.again f k q R;
         }

@@ -1,6 +1,6 @@
 -- Nodes without lists and maps among their children, under a descendant segment of one selector that ends its query: what is selected of them, one after the
 -- other. Assumes nothing.
-use Rattle.std.specs.Prelude.{ℕ, ◌+◌, ◌-◌, ◌≤◌, ◌<◌, ◌≡◌, refl, List, Bool as Bits, true, false, length, get_or, eqb}
+use Rattle.std.specs.Prelude.{ℕ, ◌+◌, ◌-◌, ◌≤◌, ◌<◌, ◌≡◌, refl, List, Bool as Bits, true, false, length, get_or, eqb, Option, Some, None}
 use Rattle.std.proofs.Common.{sym, ap, ◌∙◌, arith, eqb-true}
 use Rattle.definition.specs.Limits.{max_plan, max_nodes}
 use Rattle.definition.specs.Values.{Json}
@@ -17,8 +17,6 @@ use Rattle.eval_laws.specs.Emits.{go, go_end}
 use Rattle.eval_laws.specs.Steps.{one_of, below}
 use Rattle.eval_laws.specs.Ranges.{Range, range_in}
 use Rattle.eval_laws.specs.Items.{SegmentsAt, SelectorAt, Parts, parts, Last, last, segments_in, is_end}
-use Rattle.eval_values.specs.declared.members.Member.{Member}
-use Rattle.eval_values.specs.declared.members.Member.TheVariants.{At, Nothing as Absent}
 use Rattle.eval_items.specs.Ends.{AskNext, DoneNext}
 use Rattle.eval_items.specs.Leaves.{AskOne, DoneOne}
 use Rattle.eval_front.specs.Visits.{over, numbers_from, DoneContainer}
@@ -56,10 +54,10 @@ module _ {P L S X : List ℕ} {node p len at cap : ℕ} (z : AskSelected P L S X
       let g = z.given in
       record { few_p = g.few_p; few_l = g.few_l; tab = g.tab; node_in = z.node_in; x = y.x; k = y.k; at = y.at; kind_low = selector_least P L p y.k y.x y.at; kind_high = let m = y.most in let w = y.whole in omega arith }
 
-  pub selected_absent : (r : Member) → DoneOne P L S X p node r → r ≡ Absent → DoneSelected P L S X node p cap l at l at
+  pub selected_absent : (r : Option ℕ) → DoneOne P L S X p node r → r ≡ None → DoneSelected P L S X node p cap l at l at
   selected_absent r d e = record { room = z.list.room; goes = λ x k a R. one_absent S X x R (node_at S X node) end r (st cap l at) e (d.selects x k R a) }
 
-  pub selected_found : (r : Member) (m : ℕ) → DoneOne P L S X p node r → r ≡ At m → (l' : List ℕ) (b : ℕ) → st cap l' b ≡ push m (st cap l at) → DoneSelected P L S X node p cap l at l' b
+  pub selected_found : (r : Option ℕ) (m : ℕ) → DoneOne P L S X p node r → r ≡ Some m → (l' : List ℕ) (b : ℕ) → st cap l' b ≡ push m (st cap l at) → DoneSelected P L S X node p cap l at l' b
   selected_found r m d e l' b h =
       record {
         room = push_bound cap l l' at b m h;
@@ -167,9 +165,9 @@ module _ {P L S X : List ℕ} {i e pc cap : ℕ} {l : List ℕ} {at : ℕ} where
 pub only_name : {P L S X : List ℕ} {p node : ℕ} → AskOne P L S X p node 5 6 → get_or P p 0 ≡ 5 → AskOne P L S X p node 5 5
 only_name a e = record { few_p = a.few_p; few_l = a.few_l; tab = a.tab; node_in = a.node_in; x = a.x; k = a.k; at = a.at; kind_low = a.kind_low; kind_high = omega arith }
 
-pub selected_in : {P L S X : List ℕ} {p node m : ℕ} → AskOne P L S X p node 5 6 → DoneOne P L S X p node (At m) → m < max_nodes
+pub selected_in : {P L S X : List ℕ} {p node m : ℕ} → AskOne P L S X p node 5 6 → DoneOne P L S X p node (Some m) → m < max_nodes
 selected_in {m = m} a o = omega (arith, o.inside m refl, a.tab.size.few)
 
 -- the same node by a number that was read
-pub selected_as : {P L S X : List ℕ} {p node : ℕ} (near j k : ℕ) → j ≡ k → DoneOne P L S X p node (At (k + near)) → DoneOne P L S X p node (At (j + near))
+pub selected_as : {P L S X : List ℕ} {p node : ℕ} (near j k : ℕ) → j ≡ k → DoneOne P L S X p node (Some (k + near)) → DoneOne P L S X p node (Some (j + near))
 selected_as near j k e o = rw e o

@@ -1,6 +1,6 @@
 -- A child segment of several names and indices, selector by selector on a node and node by node of a range: what is left to do gives the whole. P is the plan, L the pool,
 -- S the table, X the text. Assumes nothing.
-use Rattle.std.specs.Prelude.{ℕ, ◌+◌, ◌*◌, ◌-◌, ◌≤◌, ◌<◌, ◌≡◌, refl, List, [], ◌∷◌, Bool as Bits, true, false, leb, length, get_or}
+use Rattle.std.specs.Prelude.{ℕ, ◌+◌, ◌*◌, ◌-◌, ◌≤◌, ◌<◌, ◌≡◌, refl, List, [], ◌∷◌, Bool as Bits, true, false, leb, length, get_or, Option, Some, None}
 use Rattle.std.proofs.Math.Path.{sym, ap}
 use Rattle.std.proofs.Common.{◌∙◌, subst, arith, leb-true, leb-false}
 use Rattle.definition.specs.Bytes.{number, part}
@@ -15,8 +15,6 @@ use Rattle.eval_laws.specs.States.{State, st, push}
 use Rattle.eval_laws.specs.Emits.{go, go_end}
 use Rattle.eval_laws.specs.Steps.{one_of, segment_child, selectors_last, selectors_step}
 use Rattle.eval_laws.specs.Items.{SegmentsAt, SelectorsAt, SelectorAt, Parts, parts, front, last, many_some, is_end}
-use Rattle.eval_values.specs.declared.members.Member.{Member}
-use Rattle.eval_values.specs.declared.members.Member.TheVariants.{At, Nothing as Absent}
 use Rattle.eval_items.specs.Leaves.{AskOne, DoneOne}
 use Rattle.eval_items.specs.LeafLaws.{name_else, index_else}
 use Rattle.eval_front.specs.Visits.{AskReach, DoneReach}
@@ -30,7 +28,7 @@ use Rattle.eval_shortcuts.specs.Picks.{Ones, Ends, Picks, Many, DonePut, AskPick
 -- ---- one name or index
 
 module _ {P L S X : List ℕ} {p node cap : ℕ} {l : List ℕ} {at : ℕ} where
-  pub put_found : Accepted S X → {l' : List ℕ} {f : Member} {r m : ℕ} → DoneOne P L S X p node f → f ≡ At m → st cap l' r ≡ push m (st cap l at) → DonePut P L S X p node cap l at l' r
+  pub put_found : Accepted S X → {l' : List ℕ} {f : Option ℕ} {r m : ℕ} → DoneOne P L S X p node f → f ≡ Some m → st cap l' r ≡ push m (st cap l at) → DonePut P L S X p node cap l at l' r
   unfolding push
   put_found tab {l'} {f} {r} {m} d v e =
       let n = ap (λ (s : State). s.next) e in
@@ -39,7 +37,7 @@ module _ {P L S X : List ℕ} {p node cap : ℕ} {l : List ℕ} {at : ℕ} where
         puts = λ x k a R. one_found S X x R (node_at S X node) end f m (st cap l at) (st cap l' r) v (d.selects x k R a) (e ∙ sym (go_end S X tab R m (d.inside m v) (st cap l at)));
       }
 
-  pub put_none : {f : Member} → DoneOne P L S X p node f → f ≡ Absent → at ≤ cap + 1 → DonePut P L S X p node cap l at l at
+  pub put_none : {f : Option ℕ} → DoneOne P L S X p node f → f ≡ None → at ≤ cap + 1 → DonePut P L S X p node cap l at l at
   put_none {f} d v h = record { room = h; puts = λ x k a R. one_absent S X x R (node_at S X node) end f (st cap l at) v (d.selects x k R a) }
 
 -- ---- several of them on a node
@@ -170,10 +168,10 @@ module _ {P L S X : List ℕ} {i e rest cap : ℕ} {l₀ : List ℕ} {a₀ : ℕ
 
   module _ {r : Reached} (d : DoneReach P L S X j rest r) where
     -- there is no such node
-    pub picked_lost : r.some ≡ false → InAlong P L S X i e rest cap l₀ a₀ l a (j + 1)
+    pub picked_lost : r.node ≡ None → InAlong P L S X i e rest cap l₀ a₀ l a (j + 1)
     picked_lost o = picked_step refl t.room (λ f k q R. (d.front f k q).lost o R (st cap l a))
 
-    module _ (o : r.some ≡ true) (v : r.pc ≡ pc) {n : ℕ} (c : n ≡ number (part P (pc + 1) 2)) where
+    module _ {m : ℕ} (o : r.node ≡ Some m) (v : r.pc ≡ pc) {n : ℕ} (c : n ≡ number (part P (pc + 1) 2)) where
       segment : (f : Segments) (k : ℕ) (q : SegmentsAt P L rest k f) → Parts P L pc (d.front f k q).j (d.front f k q).g
       segment f k q = parts P L s.given.few_p pc (d.front f k q).j (d.front f k q).g (segments_at pc (sym v) (d.front f k q).at) (λ z. omega (arith, z, y.child))
 
@@ -183,12 +181,12 @@ module _ {P L S X : List ℕ} {i e rest cap : ℕ} {l₀ : List ℕ} {a₀ : ℕ
       ending : Ends P (pc + 3) n
       ending = subst (Ends P (pc + 3)) (sym c) y.ends
 
-      pub picked_asked : AskPick P L S X r.node (pc + 3) n (length l) a cap
+      pub picked_asked : AskPick P L S X m (pc + 3) n (length l) a cap
       picked_asked =
           let w = t.same in
           record {
             given = s.given;
-            node_in = d.node_in;
+            node_in = d.node_in m o;
             many = several s.query.f s.query.k s.query.at;
             ends = ending;
             list = record { room = t.room; wide = omega (arith, s.list.wide); small = s.list.small };
@@ -201,13 +199,13 @@ module _ {P L S X : List ℕ} {i e rest cap : ℕ} {l₀ : List ℕ} {a₀ : ℕ
           let w = many_ends P L s.given.few_p s.given.few_l n (pc + 3) ending.z ending.ones (d.front f k q).j x.ss x.selectors (sym x.count ∙ sym c) in
           is_end P _ _ x.q x.after.holds (ap (λ (b : ℕ). get_or P b 0) w ∙ ending.ended)
 
-      pub picked_next : {l' : List ℕ} {a' : ℕ} → length l' ≡ length l → DonePick P L S X r.node (pc + 3) n cap l a l' a' → InAlong P L S X i e rest cap l₀ a₀ l' a' (j + 1)
+      pub picked_next : {l' : List ℕ} {a' : ℕ} → length l' ≡ length l → DonePick P L S X m (pc + 3) n cap l a l' a' → InAlong P L S X i e rest cap l₀ a₀ l' a' (j + 1)
       unfolding several
       picked_next {l'} {a'} w g =
           picked_step w g.room
           (λ f k q R.
           let x = segment f k q in
           g.gives (several f k q) R
-          ∙ ap (λ (z : Segments). go z R (eval_selectors x.ss R (node_at S X r.node)) (st cap l a)) (sym (nothing_more f k q))
-          ∙ segment_child x.ss x.q (d.front f k q).g R (node_at S X r.node) (st cap l a) (x.is_child y.child)
-          ∙ (d.front f k q).found o R (st cap l a))
+          ∙ ap (λ (z : Segments). go z R (eval_selectors x.ss R (node_at S X m)) (st cap l a)) (sym (nothing_more f k q))
+          ∙ segment_child x.ss x.q (d.front f k q).g R (node_at S X m) (st cap l a) (x.is_child y.child)
+          ∙ (d.front f k q).found m o R (st cap l a))

@@ -1,15 +1,13 @@
 // Nodes with no list or map among their children under a descendant segment of one name, index or wildcard that ends its query: there is nothing below them, so
 // that what is selected of them is pushed at once, and no call is needed. Under a filter that is one test of a member nothing is selected of them.
-ghost use Rattle.std.specs.Prelude.{◌≡◌, true, ◌+◌, length};
+ghost use Rattle.std.specs.Prelude.{◌≡◌, true, ◌+◌, length, Some};
 ghost use Rattle.definition.specs.Tables.{low_word};
-ghost use Rattle.eval_values.specs.declared.members.Member.TheVariants.{At};
 ghost use Rattle.eval_items.specs.Leaves.{AskOne, DoneOne};
 ghost use Rattle.eval_shortcuts.specs.Flats.{AskFlat, DoneFlat, AskPlain, DonePlain, AskSelected, DoneSelected, AskFlats, DoneFlats, AskMember, DoneMember, AskSkipped, DoneSkipped, AskStart, DoneStart};
 
 use eval_filters::atoms;
 use eval_items::{leaves, plans};
 use eval_values::members;
-use eval_values::members::Member;
 use plan_format::kinds::{END, FILTER, NAME, SLICE, WILDCARD};
 use table::records;
 use text::bytes;
@@ -54,7 +52,7 @@ fn name_near(
     near: usize,
 ) -> bool
     requires { AskOne plan.now pool.now table.now text.now p node 5 6 }
-    ensures { result ≡ true → DoneOne plan.now pool.now table.now text.now p node (At (low_word table.now node + near)) }
+    ensures { result ≡ true → DoneOne plan.now pool.now table.now text.now p node (Some (low_word table.now node + near)) }
 {
     if plan[p] != NAME {
         return false;
@@ -73,12 +71,12 @@ fn select_near(
     p: usize,
     node: usize,
     near: usize,
-) -> Member
+) -> Option<usize>
     requires { AskOne plan.now pool.now table.now text.now p node 5 6 }
     ensures { DoneOne plan.now pool.now table.now text.now p node result }
 {
     if name_near(plan, pool, table, text, p, node, near) {
-        return Member::At(records::first_child(table, node) as usize + near);
+        return Some(records::first_child(table, node) as usize + near);
     }
     leaves::select_one(plan, pool, table, text, p, node)
 }
@@ -110,7 +108,7 @@ fn push_selected(
         return Pushed { at: a, near };
     }
     let found = select_near(plan, pool, table, text, p, node, near);
-    let Member::At(m) = found else {
+    let Some(m) = found else {
         return Pushed { at, near };
     };
     let there = m - records::first_child(table, node) as usize;

@@ -14,7 +14,6 @@ use crate::straight;
 use crate::straight::Passed;
 use eval_items::leaves;
 use eval_values::members;
-use eval_values::members::Member;
 use plan_format::kinds::{CHILD, END, INDEX, NAME};
 use plan_format::lengths;
 use table::records;
@@ -112,7 +111,7 @@ fn member_at(
     first: usize,
     count: usize,
     near: usize,
-) -> Member
+) -> Option<usize>
     requires ask_one { AskOne plan.now pool.now table.now text.now p node 5 5 }
     requires below { Below table.now node first count × (kind_at table.now node ≡ kind_map) }
     ensures { DoneOne plan.now pool.now table.now text.now p node result }
@@ -120,7 +119,7 @@ fn member_at(
     let start = bytes::word16(plan, p + 1);
     let size = bytes::word16(plan, p + 3);
     if is_at(pool, table, text, first, count, near, start, size) {
-        return Member::At(first + near);
+        return Some(first + near);
     }
     if members::is_short(size) {
         return members::find_short(table, text, first, count, pool, start, size);
@@ -150,7 +149,7 @@ fn put_member(
     ensures { DonePut plan.now pool.now table.now text.now p node cap list.old at list.new result }
 {
     let found = member_at(plan, pool, table, text, p, node, first, count, near[m]);
-    let Member::At(k) = found else {
+    let Some(k) = found else {
         return at;
     };
     near[m] = k - first;
@@ -174,7 +173,7 @@ fn put_element(
     ensures { DonePut plan.now pool.now table.now text.now p node cap list.old at list.new result }
 {
     let found = leaves::get_by_index(plan, pool, table, text, p, node);
-    let Member::At(k) = found else {
+    let Some(k) = found else {
         return at;
     };
     eval_front::push(list, at, k, cap)
@@ -289,6 +288,7 @@ pub fn push_picked(
 {
     let n = bytes::word16(plan, pc + 1);
     let mut near = [0usize; MOST];
+    // A loop over j: the node at which it stops is handed back, so that `for` is no plainer.
     let mut a = at;
     let mut j = i;
     while j < e {
@@ -296,27 +296,27 @@ pub fn push_picked(
             return Passed { i: j, at: a };
         }
         let r = eval_front::reach(plan, pool, table, text, j, rest);
-        if r.some {
-            if r.pc != pc {
-                return Passed { i: j, at: a };
-            }
-            a = pick(
-                plan,
-                pool,
-                table,
-                text,
-                r.node,
-                pc + 3,
-                n,
-                &mut near,
-                list,
-                a,
-                cap,
-            );
+        let Some(m) = r.node else {
             j += 1;
-        } else {
-            j += 1;
+            continue;
+        };
+        if r.pc != pc {
+            return Passed { i: j, at: a };
         }
+        a = pick(
+            plan,
+            pool,
+            table,
+            text,
+            m,
+            pc + 3,
+            n,
+            &mut near,
+            list,
+            a,
+            cap,
+        );
+        j += 1;
     }
     Passed { i: j, at: a }
 }

@@ -58,17 +58,17 @@ pub fn push_along(
     requires { AskAlong plan.now pool.now table.now text.now i e rest (length list.old) at cap }
     ensures { DoneAlong plan.now pool.now table.now text.now i e rest cap list.old at list.new result }
 {
+    // A loop over j: the node at which it stops is handed back, so that `for` is no plainer.
     let mut a = at;
     let mut j = i;
     while j < e {
         if cap < a {
             return Passed { i: j, at: a };
         }
-        let v = eval_front::visit(plan, pool, table, text, j, rest, list, a, cap);
-        if v.more {
-            return Passed { i: j, at: a };
+        match eval_front::visit(plan, pool, table, text, j, rest, list, a, cap) {
+            Ok(next) => a = next,
+            Err(_) => return Passed { i: j, at: a },
         }
-        a = v.at;
         j += 1;
     }
     Passed { i: j, at: a }

@@ -40,21 +40,21 @@ apply_selector-bounds-plan-rest t c = let w = rest_in c.requires.asked c.require
 
 -- apply_selector
 pub apply_selector-push-next-requires : goal.apply_selector-push-next-requires
-apply_selector-push-next-requires t c = here_push c.requires.asked (found_asked c.requires.asked c.requires.ask_selector c.select_one-found.ensures _ c.in-At.is)
+apply_selector-push-next-requires t c = here_push c.requires.asked (found_asked c.requires.asked c.requires.ask_selector c.select_one-found.ensures _ c.in-Some.is)
 
 -- apply_selector
 pub apply_selector-returns-then-plan-rest-eq-END : goal.apply_selector-returns-then-plan-rest-eq-END
-apply_selector-returns-then-plan-rest-eq-END t c = record { steady = steady_wrote _ _ _ _ c.push-next.auto.list refl; done_selector = selector_found c.requires.asked c.requires.ask_selector c.select_one-found.ensures _ c.in-At.is (here_ends c.requires.asked (found_asked c.requires.asked c.requires.ask_selector c.select_one-found.ensures _ c.in-At.is) c.if-plan-rest-eq-END.true _ _ c.push-next.ensures) }
+apply_selector-returns-then-plan-rest-eq-END t c = record { steady = steady_wrote _ _ _ _ c.push-next.auto.list refl; done_selector = selector_found c.requires.asked c.requires.ask_selector c.select_one-found.ensures _ c.in-Some.is (here_ends c.requires.asked (found_asked c.requires.asked c.requires.ask_selector c.select_one-found.ensures _ c.in-Some.is) c.if-plan-rest-eq-END.true _ _ c.push-next.ensures) }
 
 -- apply_selector
 pub apply_selector-evaluate_segment-requires : goal.apply_selector-evaluate_segment-requires
 apply_selector-evaluate_segment-requires t c =
     let w = rest_in c.requires.asked c.requires.ask_selector in
-    (omega (arith, w.0), (c.requires.asked, found_asked c.requires.asked c.requires.ask_selector c.select_one-found.ensures _ c.in-At.is))
+    (omega (arith, w.0), (c.requires.asked, found_asked c.requires.asked c.requires.ask_selector c.select_one-found.ensures _ c.in-Some.is))
 
 -- apply_selector
 pub apply_selector-returns-then-k-le-INDEX : goal.apply_selector-returns-then-k-le-INDEX
-apply_selector-returns-then-k-le-INDEX t c = record { steady = c.evaluate_segment.ensures.steady; done_selector = selector_found c.requires.asked c.requires.ask_selector c.select_one-found.ensures _ c.in-At.is c.evaluate_segment.ensures.done_segment }
+apply_selector-returns-then-k-le-INDEX t c = record { steady = c.evaluate_segment.ensures.steady; done_selector = selector_found c.requires.asked c.requires.ask_selector c.select_one-found.ensures _ c.in-Some.is c.evaluate_segment.ensures.done_segment }
 
 -- apply_selector
 pub apply_selector-each_place-requires : goal.apply_selector-each_place-requires
@@ -551,10 +551,10 @@ eval_query-to_registers-requires t c =
     record { nodes = record { tab = c.requires.within.tab; inside = λ v. absurd (omega arith); few = omega arith }; place = e.0; small = omega (arith, e.1, c.requires.within.few_p) }
 
 -- eval_query
-pub eval_query-returns-then-not-r : goal.eval_query-returns-then-not-r
-eval_query-returns-then-not-r t c =
+pub eval_query-returns-in_default : goal.eval_query-returns-in_default
+eval_query-returns-in_default t c =
     let i = begins_in _ (get_or (plan_of c.args.lent.now) c.args.s.q 0) _ _ _ c.begins-from.ensures c.requires.within.root_in c.requires.within.node_in in
-    query_done _ _ _ _ _ _ _ _ c.begins-from.ensures c.requires.ask_query _ _ _ _ _ (past_of _ _ _ _ c.requires.within.tab _ _ i _ c.reach-r.ensures _ c.past_query-z.ensures) refl c.to_registers.ensures (found_lost _ _ _ _ c.requires.within.tab _ _ i _ c.reach-r.ensures (not-true _ c.if-not-r.true) (get_or (plan_of c.args.lent.now) c.past_query-z.result 0))
+    query_done _ _ _ _ _ _ _ _ c.begins-from.ensures c.requires.ask_query _ _ _ _ _ (past_of _ _ _ _ c.requires.within.tab _ _ i _ c.reach-r.ensures _ c.past_query-z.ensures) refl c.to_registers.ensures (found_lost _ _ _ _ c.requires.within.tab _ _ i _ c.reach-r.ensures c.in_default.is (get_or (plan_of c.args.lent.now) c.past_query-z.result 0))
 
 -- eval_query
 pub eval_query-bounds-plan-pc : goal.eval_query-bounds-plan-pc
@@ -568,13 +568,13 @@ pub eval_query-to_registers-requires-then-plan-pc-eq-END : goal.eval_query-to_re
 eval_query-to_registers-requires-then-plan-pc-eq-END t c =
     let i = begins_in _ (get_or (plan_of c.args.lent.now) c.args.s.q 0) _ _ _ c.begins-from.ensures c.requires.within.root_in c.requires.within.node_in in
     let e = (here c.requires.ask_query).ends _ (past_of _ _ _ _ c.requires.within.tab _ _ i _ c.reach-r.ensures _ c.past_query-z.ensures) in
-    record { nodes = record { tab = c.requires.within.tab; inside = λ v. c.reach-r.ensures.node_in; few = omega arith }; place = e.0; small = omega (arith, e.1, c.requires.within.few_p) }
+    record { nodes = record { tab = c.requires.within.tab; inside = λ v. c.reach-r.ensures.node_in _ c.in-Some.is; few = omega arith }; place = e.0; small = omega (arith, e.1, c.requires.within.few_p) }
 
 -- eval_query
 pub eval_query-returns-then-plan-pc-eq-END : goal.eval_query-returns-then-plan-pc-eq-END
 eval_query-returns-then-plan-pc-eq-END t c =
     let i = begins_in _ (get_or (plan_of c.args.lent.now) c.args.s.q 0) _ _ _ c.begins-from.ensures c.requires.within.root_in c.requires.within.node_in in
-    query_done _ _ _ _ _ _ _ _ c.begins-from.ensures c.requires.ask_query _ _ _ _ _ (past_of _ _ _ _ c.requires.within.tab _ _ i _ c.reach-r.ensures _ c.past_query-z.ensures) refl c.to_registers-then-plan-pc-eq-END.ensures (found_one _ _ _ _ c.requires.within.tab _ _ i _ c.reach-r.ensures (not-false _ c.if-not-r.false) c.if-plan-pc-eq-END.true (get_or (plan_of c.args.lent.now) c.past_query-z.result 0))
+    query_done _ _ _ _ _ _ _ _ c.begins-from.ensures c.requires.ask_query _ _ _ _ _ (past_of _ _ _ _ c.requires.within.tab _ _ i _ c.reach-r.ensures _ c.past_query-z.ensures) refl c.to_registers-then-plan-pc-eq-END.ensures (found_one _ _ _ _ c.requires.within.tab _ _ i _ c.reach-r.ensures _ c.in-Some.is c.if-plan-pc-eq-END.true (get_or (plan_of c.args.lent.now) c.past_query-z.result 0))
 
 -- eval_query
 pub eval_query-evaluate_segment-requires : goal.eval_query-evaluate_segment-requires
@@ -583,7 +583,7 @@ eval_query-evaluate_segment-requires t c =
     let y = c.reach-r.ensures.front h.f h.k h.at in
     let i = begins_in _ (get_or (plan_of c.args.lent.now) c.args.s.q 0) _ _ _ c.begins-from.ensures c.requires.within.root_in c.requires.within.node_in in
     let m = cap_small _ (get_or (plan_of c.args.lent.now) c.past_query-z.result 0) c.cap_of-cap.ensures in
-    (omega (arith, h.inside, c.reach-r.ensures.later), (record { given = record { few_p = c.requires.within.few_p; few_l = c.requires.within.few_l; tab = c.requires.within.tab }; root_in = i; room = omega arith; wide = omega arith; small = omega arith }, record { node_in = c.reach-r.ensures.node_in; query = record { f = y.g; k = y.j; at = y.at } }))
+    (omega (arith, h.inside, c.reach-r.ensures.later), (record { given = record { few_p = c.requires.within.few_p; few_l = c.requires.within.few_l; tab = c.requires.within.tab }; root_in = i; room = omega arith; wide = omega arith; small = omega arith }, record { node_in = c.reach-r.ensures.node_in _ c.in-Some.is; query = record { f = y.g; k = y.j; at = y.at } }))
 
 -- eval_query
 pub eval_query-bounds-places-0 : goal.eval_query-bounds-places-0
@@ -594,7 +594,7 @@ pub eval_query-overflow_cast-head : goal.eval_query-overflow_cast-head
 eval_query-overflow_cast-head t c =
     let h = here c.requires.ask_query in
     let i = begins_in _ (get_or (plan_of c.args.lent.now) c.args.s.q 0) _ _ _ c.begins-from.ensures c.requires.within.root_in c.requires.within.node_in in
-    let f = walk_found _ _ _ _ c.requires.within.tab _ _ i _ c.reach-r.ensures (not-false _ c.if-not-r.false) _ _ _ (λ g j a. c.evaluate_segment.ensures.done_segment.emits (record { f = g; k = j; at = a }) _ _ refl refl) in
+    let f = walk_found _ _ _ _ c.requires.within.tab _ _ i _ c.reach-r.ensures c.in-Some.is _ _ _ (λ g j a. c.evaluate_segment.ensures.done_segment.emits (record { f = g; k = j; at = a }) _ _ refl refl) in
     let y = nested_head _ _ c.requires.within.tab _ _ i _ _ h.f (f h.f h.k h.at) in
     omega (arith, y, c.requires.within.tab.size.few)
 
@@ -604,7 +604,7 @@ eval_query-to_registers-requires-2 t c =
     let h = here c.requires.ask_query in
     let i = begins_in _ (get_or (plan_of c.args.lent.now) c.args.s.q 0) _ _ _ c.begins-from.ensures c.requires.within.root_in c.requires.within.node_in in
     let e = h.ends _ (past_of _ _ _ _ c.requires.within.tab _ _ i _ c.reach-r.ensures _ c.past_query-z.ensures) in
-    let w = walk_found _ _ _ _ c.requires.within.tab _ _ i _ c.reach-r.ensures (not-false _ c.if-not-r.false) _ _ _ (λ g j a. c.evaluate_segment.ensures.done_segment.emits (record { f = g; k = j; at = a }) _ _ refl refl) in
+    let w = walk_found _ _ _ _ c.requires.within.tab _ _ i _ c.reach-r.ensures c.in-Some.is _ _ _ (λ g j a. c.evaluate_segment.ensures.done_segment.emits (record { f = g; k = j; at = a }) _ _ refl refl) in
     let f = nested_found _ _ _ _ c.requires.within.tab _ _ (get_or (plan_of c.args.lent.now) c.past_query-z.result 0) _ i c.cap_of-cap.ensures _ _ w in
     let y = f h.f h.k h.at in
     let n = y.number in
@@ -615,7 +615,7 @@ eval_query-to_registers-requires-2 t c =
 pub eval_query-returns : goal.eval_query-returns
 eval_query-returns t c =
     let i = begins_in _ (get_or (plan_of c.args.lent.now) c.args.s.q 0) _ _ _ c.begins-from.ensures c.requires.within.root_in c.requires.within.node_in in
-    let w = walk_found _ _ _ _ c.requires.within.tab _ _ i _ c.reach-r.ensures (not-false _ c.if-not-r.false) _ _ _ (λ g j a. c.evaluate_segment.ensures.done_segment.emits (record { f = g; k = j; at = a }) _ _ refl refl) in
+    let w = walk_found _ _ _ _ c.requires.within.tab _ _ i _ c.reach-r.ensures c.in-Some.is _ _ _ (λ g j a. c.evaluate_segment.ensures.done_segment.emits (record { f = g; k = j; at = a }) _ _ refl refl) in
     let f = nested_found _ _ _ _ c.requires.within.tab _ _ (get_or (plan_of c.args.lent.now) c.past_query-z.result 0) _ i c.cap_of-cap.ensures _ _ w in
     query_done _ _ _ _ _ _ _ _ c.begins-from.ensures c.requires.ask_query _ _ _ _ _ (past_of _ _ _ _ c.requires.within.tab _ _ i _ c.reach-r.ensures _ c.past_query-z.ensures) refl c.to_registers-2.ensures f
 
@@ -664,8 +664,8 @@ pub evaluate_segment-reach-r-requires : goal.evaluate_segment-reach-r-requires
 evaluate_segment-reach-r-requires t c = reach_asked c.requires.asked c.requires.ask_segment
 
 -- evaluate_segment
-pub evaluate_segment-returns-then-not-r : goal.evaluate_segment-returns-then-not-r
-evaluate_segment-returns-then-not-r t c = record { steady = steady_refl _ _; done_segment = segment_lost c.requires.asked c.requires.ask_segment c.reach-r.ensures (not-true _ c.if-not-r.true) }
+pub evaluate_segment-returns-in_default : goal.evaluate_segment-returns-in_default
+evaluate_segment-returns-in_default t c = record { steady = steady_refl _ _; done_segment = segment_lost c.requires.asked c.requires.ask_segment c.reach-r.ensures c.in_default.is }
 
 -- evaluate_segment
 pub evaluate_segment-bounds-plan-q : goal.evaluate_segment-bounds-plan-q
@@ -673,45 +673,45 @@ evaluate_segment-bounds-plan-q t c = reached_in c.requires.asked c.requires.ask_
 
 -- evaluate_segment
 pub evaluate_segment-push-next-requires : goal.evaluate_segment-push-next-requires
-evaluate_segment-push-next-requires t c = push_asked c.requires.asked c.requires.ask_segment c.reach-r.ensures
+evaluate_segment-push-next-requires t c = push_asked c.requires.asked c.requires.ask_segment c.reach-r.ensures c.in-Some.is
 
 -- evaluate_segment
 pub evaluate_segment-returns-then-k-eq-END : goal.evaluate_segment-returns-then-k-eq-END
-evaluate_segment-returns-then-k-eq-END t c = record { steady = steady_wrote _ _ _ _ c.push-next.auto.list refl; done_segment = segment_ends c.requires.asked c.requires.ask_segment c.reach-r.ensures (not-false _ c.if-not-r.false) c.if-k-eq-END.true _ _ c.push-next.ensures }
+evaluate_segment-returns-then-k-eq-END t c = record { steady = steady_wrote _ _ _ _ c.push-next.auto.list refl; done_segment = segment_ends c.requires.asked c.requires.ask_segment c.reach-r.ensures c.in-Some.is c.if-k-eq-END.true _ _ c.push-next.ensures }
 
 -- evaluate_segment
 pub evaluate_segment-apply_selectors-requires : goal.evaluate_segment-apply_selectors-requires
-evaluate_segment-apply_selectors-requires t c = (omega (arith, c.reach-r.ensures.later), (c.requires.asked, onward_selectors c.requires.asked c.requires.ask_segment c.reach-r.ensures c.if-k-eq-END.false))
+evaluate_segment-apply_selectors-requires t c = (omega (arith, c.reach-r.ensures.later), (c.requires.asked, onward_selectors c.requires.asked c.requires.ask_segment c.reach-r.ensures c.in-Some.is c.if-k-eq-END.false))
 
 -- evaluate_segment
 pub evaluate_segment-returns-then-k-eq-CHILD : goal.evaluate_segment-returns-then-k-eq-CHILD
-evaluate_segment-returns-then-k-eq-CHILD t c = record { steady = c.apply_selectors.ensures.steady; done_segment = segment_child_done c.requires.asked c.requires.ask_segment c.reach-r.ensures c.if-k-eq-END.false (not-false _ c.if-not-r.false) c.if-k-eq-CHILD.true _ _ c.apply_selectors.ensures.done_selectors }
+evaluate_segment-returns-then-k-eq-CHILD t c = record { steady = c.apply_selectors.ensures.steady; done_segment = segment_child_done c.requires.asked c.requires.ask_segment c.reach-r.ensures c.in-Some.is c.if-k-eq-END.false c.if-k-eq-CHILD.true _ _ c.apply_selectors.ensures.done_selectors }
 
 -- evaluate_segment
 pub evaluate_segment-has_flats-requires : goal.evaluate_segment-has_flats-requires
 evaluate_segment-has_flats-requires t c =
-    let d = onward_descent c.requires.asked c.requires.ask_segment c.reach-r.ensures c.if-k-eq-END.false c.if-k-eq-CHILD.false in
+    let d = onward_descent c.requires.asked c.requires.ask_segment c.reach-r.ensures c.in-Some.is c.if-k-eq-END.false c.if-k-eq-CHILD.false in
     record { given = c.requires.asked.given; descends = d.descends }
 
 -- evaluate_segment
 pub evaluate_segment-descend_flats-requires : goal.evaluate_segment-descend_flats-requires
 evaluate_segment-descend_flats-requires t c =
-    let d = onward_descent c.requires.asked c.requires.ask_segment c.reach-r.ensures c.if-k-eq-END.false c.if-k-eq-CHILD.false in
+    let d = onward_descent c.requires.asked c.requires.ask_segment c.reach-r.ensures c.in-Some.is c.if-k-eq-END.false c.if-k-eq-CHILD.false in
     (omega (arith, c.reach-r.ensures.later, c.requires.asked.given.tab.depths _ d.node_in), (c.requires.asked, d))
 
 -- evaluate_segment
 pub evaluate_segment-returns-then-has_flats : goal.evaluate_segment-returns-then-has_flats
-evaluate_segment-returns-then-has_flats t c = record { steady = c.descend_flats.ensures.steady; done_segment = segment_descent_done c.requires.asked c.requires.ask_segment c.reach-r.ensures c.if-k-eq-END.false (not-false _ c.if-not-r.false) c.if-k-eq-CHILD.false _ _ c.descend_flats.ensures.done_descent }
+evaluate_segment-returns-then-has_flats t c = record { steady = c.descend_flats.ensures.steady; done_segment = segment_descent_done c.requires.asked c.requires.ask_segment c.reach-r.ensures c.in-Some.is c.if-k-eq-END.false c.if-k-eq-CHILD.false _ _ c.descend_flats.ensures.done_descent }
 
 -- evaluate_segment
 pub evaluate_segment-recursive_descent-requires : goal.evaluate_segment-recursive_descent-requires
 evaluate_segment-recursive_descent-requires t c =
-    let d = onward_descent c.requires.asked c.requires.ask_segment c.reach-r.ensures c.if-k-eq-END.false c.if-k-eq-CHILD.false in
+    let d = onward_descent c.requires.asked c.requires.ask_segment c.reach-r.ensures c.in-Some.is c.if-k-eq-END.false c.if-k-eq-CHILD.false in
     (omega (arith, c.reach-r.ensures.later, c.requires.asked.given.tab.depths _ d.node_in), (c.requires.asked, d))
 
 -- evaluate_segment
 pub evaluate_segment-returns : goal.evaluate_segment-returns
-evaluate_segment-returns t c = record { steady = c.recursive_descent.ensures.steady; done_segment = segment_descent_done c.requires.asked c.requires.ask_segment c.reach-r.ensures c.if-k-eq-END.false (not-false _ c.if-not-r.false) c.if-k-eq-CHILD.false _ _ c.recursive_descent.ensures.done_descent }
+evaluate_segment-returns t c = record { steady = c.recursive_descent.ensures.steady; done_segment = segment_descent_done c.requires.asked c.requires.ask_segment c.reach-r.ensures c.in-Some.is c.if-k-eq-END.false c.if-k-eq-CHILD.false _ _ c.recursive_descent.ensures.done_descent }
 
 -- next_kept
 pub next_kept-loop-j-init : goal.next_kept-loop-j-init

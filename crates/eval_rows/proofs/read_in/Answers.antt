@@ -17,13 +17,13 @@ pub read_widened-requires : goal.read_widened-requires
 read_widened-requires c = let all = cut_asked (scope_for c.args.g.kind) c.args.pool.now c.args.g.start c.args.g.size c.requires.call_at.1 c.requires.size_in_bounds in record { e_value = all.0; e_in_bounds = all.1 }
 
 pub outside-requires : goal.outside-requires
-outside-requires c = record { ask_pass = c.requires.ask_pass; call_at = c.requires.call_at; outside = cut_outside (scope_for c.args.g.kind) c.args.pool.now c.args.g.start c.args.g.size (rw c.in-Outside.is at c.read_widened.ensures) }
+outside-requires c = record { ask_pass = c.requires.ask_pass; call_at = c.requires.call_at; outside = cut_outside (scope_for c.args.g.kind) c.args.pool.now c.args.g.start c.args.g.size c.in-None.ensures }
 
 pub slice_bounds-by_code-end : goal.slice_bounds-by_code-end
-slice_bounds-by_code-end c = (code_is (rw c.in-Code.is at c.read_widened.ensures)).inside
+slice_bounds-by_code-end c = (code_is c.in-Some.ensures).inside
 
-pub slice_bounds-by_code-end-in-Code : goal.slice_bounds-by_code-end-in-Code
-slice_bounds-by_code-end-in-Code c = sym (length-take-le _ _ (code_is (rw c.in-Code.is at c.read_widened.ensures)).inside)
+pub slice_bounds-by_code-end-in-Some : goal.slice_bounds-by_code-end-in-Some
+slice_bounds-by_code-end-in-Some c = sym (length-take-le _ _ (code_is c.in-Some.ensures).inside)
 
 pub by_code-requires : goal.by_code-requires
-by_code-requires c = record { ask_pass = c.requires.ask_pass; call_at = c.requires.call_at; ready = cut_code (scope_for c.args.g.kind) c.args.pool.now c.args.g.start c.args.g.size _ (code_is (rw c.in-Code.is at c.read_widened.ensures)) }
+by_code-requires c = record { ask_pass = c.requires.ask_pass; call_at = c.requires.call_at; ready = cut_code (scope_for c.args.g.kind) c.args.pool.now c.args.g.start c.args.g.size _ (code_is c.in-Some.ensures) }

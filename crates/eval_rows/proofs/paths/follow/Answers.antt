@@ -25,7 +25,7 @@ pub loop-q-smaller : goal.loop-q-smaller
 loop-q-smaller c = omega (arith, follow_later c.requires.ask_reach.given c.loop-q.invariant c.loop-q-test.true _ c.next_selector-q.ensures)
 
 pub loop-q-preserved : goal.loop-q-preserved
-loop-q-preserved c = follow_again c.requires.ask_reach.given c.loop-q.invariant c.loop-q-test.true _ c.select_one-found.ensures _ c.in-At.is _ c.next_selector-q.ensures
+loop-q-preserved c = follow_again c.requires.ask_reach.given c.loop-q.invariant c.loop-q-test.true _ c.select_one-found.ensures _ c.in-Some.is _ c.next_selector-q.ensures
 
 pub returns : goal.returns
 returns c = follow_end c.requires.ask_reach.given c.loop-q.invariant c.loop-q-test.false

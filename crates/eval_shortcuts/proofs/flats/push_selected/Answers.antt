@@ -26,10 +26,10 @@ pub returns-in_default : goal.returns-in_default
 returns-in_default c = selected_absent c.requires _ _ c.select_near-found.ensures c.in_default.is
 
 pub overflow_sub-there : goal.overflow_sub-there
-overflow_sub-there c = omega (arith, c.select_near-found.ensures.low _ c.in-At.is, c.first_child.ensures)
+overflow_sub-there c = omega (arith, c.select_near-found.ensures.low _ c.in-Some.is, c.first_child.ensures)
 
 pub push-a-requires : goal.push-a-requires
-push-a-requires c = record { room = c.requires.list.room; wide = c.requires.list.wide; small = c.requires.list.small; number = omega (arith, c.select_near-found.ensures.inside _ c.in-At.is, c.requires.given.tab.size.few) }
+push-a-requires c = record { room = c.requires.list.room; wide = c.requires.list.wide; small = c.requires.list.small; number = omega (arith, c.select_near-found.ensures.inside _ c.in-Some.is, c.requires.given.tab.size.few) }
 
 pub returns : goal.returns
-returns c = selected_found c.requires _ _ _ c.select_near-found.ensures c.in-At.is _ _ c.push-a.ensures
+returns c = selected_found c.requires _ _ _ c.select_near-found.ensures c.in-Some.is _ _ c.push-a.ensures

@@ -29,7 +29,7 @@ pub push_tail-v-requires : goal.push_tail-v-requires
 push_tail-v-requires c = record { ask_visit = kept_visit c.requires.0.kept c.loop-j.invariant c.loop-j-test.true; tail_at = (c.requires.0.tail, c.requires.0.low) }
 
 pub loop-j-preserved : goal.loop-j-preserved
-loop-j-preserved c = kept_step c.loop-j.invariant c.loop-j-test.true (c.told-b.ensures.told (omega (arith, c.if-b-z.false))) (not-false _ c.if-not-b.false) c.push_tail-v.ensures refl c.push_tail-v.auto.list
+loop-j-preserved c = kept_step c.loop-j.invariant c.loop-j-test.true (c.told-b.ensures.told (omega (arith, c.if-b-z.false))) (not-false _ c.if-not-b.false) c.push_tail-v.ensures c.push_tail-v.auto.list
 
 pub loop-j-preserved-then-not-b : goal.loop-j-preserved-then-not-b
 loop-j-preserved-then-not-b c = kept_passed c.loop-j.invariant c.loop-j-test.true (c.told-b.ensures.told (omega (arith, c.if-b-z.false))) (not-true _ c.if-not-b.true)

@@ -10,7 +10,7 @@ pub returns-in_default : goal.returns-in_default
 returns-in_default c = put_none c.get_by_index-found.ensures c.in_default.is c.requires.room.room
 
 pub push-requires : goal.push-requires
-push-requires c = record { room = c.requires.room.room; wide = c.requires.room.wide; small = c.requires.room.small; number = omega (arith, c.get_by_index-found.ensures.inside _ c.in-At.is, c.requires.ask_one.tab.size.few) }
+push-requires c = record { room = c.requires.room.room; wide = c.requires.room.wide; small = c.requires.room.small; number = omega (arith, c.get_by_index-found.ensures.inside _ c.in-Some.is, c.requires.ask_one.tab.size.few) }
 
 pub returns : goal.returns
-returns c = put_found c.requires.ask_one.tab c.get_by_index-found.ensures c.in-At.is c.push.ensures
+returns c = put_found c.requires.ask_one.tab c.get_by_index-found.ensures c.in-Some.is c.push.ensures

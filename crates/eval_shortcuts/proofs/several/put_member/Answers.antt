@@ -10,10 +10,10 @@ pub returns-in_default : goal.returns-in_default
 returns-in_default c = put_none c.member_at-found.ensures c.in_default.is c.requires.room.0.room
 
 pub overflow_sub-near : goal.overflow_sub-near
-overflow_sub-near c = omega (arith, c.member_at-found.ensures.low _ c.in-At.is, c.requires.below.0.0)
+overflow_sub-near c = omega (arith, c.member_at-found.ensures.low _ c.in-Some.is, c.requires.below.0.0)
 
 pub push-requires : goal.push-requires
-push-requires c = record { room = c.requires.room.0.room; wide = c.requires.room.0.wide; small = c.requires.room.0.small; number = omega (arith, c.member_at-found.ensures.inside _ c.in-At.is, c.requires.ask_one.tab.size.few) }
+push-requires c = record { room = c.requires.room.0.room; wide = c.requires.room.0.wide; small = c.requires.room.0.small; number = omega (arith, c.member_at-found.ensures.inside _ c.in-Some.is, c.requires.ask_one.tab.size.few) }
 
 pub returns : goal.returns
-returns c = put_found c.requires.ask_one.tab c.member_at-found.ensures c.in-At.is c.push.ensures
+returns c = put_found c.requires.ask_one.tab c.member_at-found.ensures c.in-Some.is c.push.ensures

@@ -12,17 +12,17 @@ shape_of-list-then-cap-a c = c.loop-j.invariant.same
 pub returns-then-cap-a : goal.returns-then-cap-a
 returns-then-cap-a c = along_done c.loop-j.invariant
 
-pub visit-v-requires : goal.visit-v-requires
-visit-v-requires c = along_visit c.loop-j.invariant c.requires c.loop-j-test.true
+pub visit-requires : goal.visit-requires
+visit-requires c = along_visit c.loop-j.invariant c.requires c.loop-j-test.true
 
-pub shape_of-list-then-v : goal.shape_of-list-then-v
-shape_of-list-then-v c = c.visit-v.auto.list ∙ c.loop-j.invariant.same
+pub shape_of-list-in-Err : goal.shape_of-list-in-Err
+shape_of-list-in-Err c = c.visit.auto.list ∙ c.loop-j.invariant.same
 
-pub returns-then-v : goal.returns-then-v
-returns-then-v c = along_stop c.loop-j.invariant c.loop-j-test.true c.visit-v.ensures c.if-v.true
+pub returns-in-Err : goal.returns-in-Err
+returns-in-Err c = along_stop c.loop-j.invariant c.loop-j-test.true c.in-Err.ensures
 
 pub loop-j-preserved : goal.loop-j-preserved
-loop-j-preserved c = along_next c.loop-j.invariant c.loop-j-test.true c.visit-v.ensures c.if-v.false c.visit-v.auto.list
+loop-j-preserved c = along_next c.loop-j.invariant c.loop-j-test.true c.in-Ok.ensures c.visit.auto.list
 
 pub shape_of-list : goal.shape_of-list
 shape_of-list c = c.loop-j.invariant.same
