@@ -5,15 +5,8 @@
 ghost use Rattle.std.specs.Prelude.{◌≡◌, ◌<◌, ◌^◌, length};
 ghost use Rattle.regex_code.specs.Skips.{Skips, SkipsClass};
 
-// A word as a place or a number.
+// A word as a place or a number, with its bound: sums and doubles of such numbers fit.
 pub fn wide(x: u32) -> usize
-    ensures { result ≡ x }
-{
-    x as usize
-}
-
-// The same, with its bound: sums and doubles of such numbers fit.
-pub fn small(x: u32) -> usize
     ensures { (result ≡ x) × (result < 2 ^ 32) }
 {
     x as usize
@@ -27,7 +20,7 @@ pub fn skip_class(code: &[u32], at: usize) -> usize
     if code.len() - at <= 2 {
         return at;
     }
-    let n = small(code[at + 2]);
+    let n = wide(code[at + 2]);
     at + 3 + 2 * n
 }
 

@@ -1,26 +1,23 @@
 -- What is read at a place, one level of the definition at a time: characters. Assumes nothing.
 use Rattle.std.specs.Prelude.{Option as Answer, Some, None}
 use mathlib.Core.Path.{◌≡◌, refl, sym, ◌∙◌}
-use mathlib.Core.Bool.{Bool, true, false, true≢false, false≢true}
+use mathlib.Core.Bool.{Bool, true, false, true≢false}
 use mathlib.Core.List.{List}
 use mathlib.Core.Option.{Option}
 use Prim.Native.Nat.{ℕ, ◌+◌, ◌≤◌, ◌<◌}
 use native.Mathlib.Omega.{arith}
 use borrow.Author.Tests.{ltb-true, ltb-false}
-use lib.Dec.{eqb, ltb}
+use lib.Dec.{ltb}
 use lib.ListN.{length, drop, get_or, drop_of_length-le}
 use Rattle.regex_definition.specs.Chars.{is_escaped, is_class_char, escape_value}
 use Rattle.regex_definition.specs.Read.{begins, rest, read_escape, read_bare, read_ccchar}
-use Rattle.regex_leaves.specs.Reads.{Is, ReadChar}
+use Rattle.regex_leaves.specs.Reads.{ReadChar}
 use Rattle.regex_leaves.specs.Reads.ReadChar.{next, stop}
 use Rattle.basics.specs.Lists.{drop_at}
 
 module _ (s : List ℕ) (at : ℕ) where
   pub begins_end : (x : ℕ) → length s ≤ at → begins x (drop at s) ≡ false
   begins_end x h = rw (drop_of_length-le s h)
-
-  pub begins_at_lem : (x : ℕ) → at < length s → begins x (drop at s) ≡ eqb (get_or s at 0) x
-  begins_at_lem x h = rw (drop_at s at h)
 
   pub rest_at : at < length s → rest (drop at s) ≡ drop (at + 1) s
   rest_at h = rw (drop_at s at h)
@@ -35,12 +32,6 @@ inside s at x e = by (ltb at (length s)) refl
 
 pub behind : (s : List ℕ) (at x : ℕ) → begins x (drop at s) ≡ true → rest (drop at s) ≡ drop (at + 1) s
 behind s at x e = rest_at s at (inside s at x e)
-
-pub is_beyond_lem : (s : List ℕ) (at x : ℕ) → length s ≤ at → Is s at x false
-is_beyond_lem s at x h = record { told = sym (begins_end s at x h); inside = λ e. absurd (false≢true e) }
-
-pub is_there : (s : List ℕ) (at x : ℕ) → at < length s → Is s at x (eqb (get_or s at 0) x)
-is_there s at x h = record { told = sym (begins_at_lem s at x h); inside = λ e. h }
 
 -- the same answer, where the definition goes on to it
 pub same_char : {out out' : Option (ℕ × List ℕ)} {s : List ℕ} {from from' : ℕ} {r : Answer (ℕ × ℕ)} → out ≡ out' → from ≤ from' → ReadChar out' s from' r → ReadChar out s from r

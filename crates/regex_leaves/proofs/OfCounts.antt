@@ -33,12 +33,6 @@ pub digit_bounds : (c : ℕ) → is_digit_lem c ≡ true → (0x30 ≤ c) × (c 
 digit_bounds c e = let t = (and-eq-true_iff (leb 0x30 c) (leb c 0x39)).0 e in (leb-true 0x30 c t.0, leb-true c 0x39 t.1)
 
 module _ (s : List ℕ) (at : ℕ) where
-  pub digit_end : length s ≤ at → begins_digit (drop at s) ≡ false
-  digit_end h = rw (drop_of_length-le s h)
-
-  pub digit_is : at < length s → begins_digit (drop at s) ≡ is_digit_lem (get_or s at 0)
-  digit_is h = rw (drop_at s at h)
-
   -- the digits that were passed stand for v
   pub record Passed (i v : ℕ) : Type 0 where
     pub is : count_from 0 (drop at s) ≡ count_from v (drop i s)

@@ -16,7 +16,7 @@ use passes::{
     second, stop, unmarked, unpack,
 };
 use regex_chars::{char_at, class_has};
-use regex_code::{skip, skip_class, small, wide};
+use regex_code::{skip, skip_class, wide};
 
 // Whether the class at `at` is entered and has c.
 fn hits(code: &[u32], at: usize, enter: bool, c: u32) -> bool
@@ -275,7 +275,7 @@ fn weigh_counted(code: &[u32], at: usize, cap: usize) -> Weight
     if code.len() - at < 3 {
         return Weight { next: at, size: 0 };
     }
-    let hi = small(code[at + 2]);
+    let hi = wide(code[at + 2]);
     let a = weigh(code, at + 3, cap);
     if cap < a.size {
         return Weight {
@@ -297,7 +297,7 @@ fn weigh_least(code: &[u32], at: usize, cap: usize) -> Weight
     if code.len() - at < 3 {
         return Weight { next: at, size: 0 };
     }
-    let lo = small(code[at + 1]);
+    let lo = wide(code[at + 1]);
     let a = weigh(code, at + 2, cap);
     if cap < a.size {
         return Weight {

@@ -4,7 +4,7 @@
 
 #![tactic(auto)]
 
-ghost use Rattle.std.specs.Prelude.{◌≡◌, true, ◌≤◌, min};
+ghost use Rattle.std.specs.Prelude.{◌≡◌, true, ◌≤◌};
 ghost use Rattle.regex_match.specs.Tested.{Tested, Missed};
 
 use regex_bytes::scalars;
@@ -27,12 +27,6 @@ const MAX_TEXT: usize = 2147483648;
 
 // A most number of bytes that bounds nothing.
 const NO_BOUND: usize = 2147483648;
-
-fn lesser(a: usize, b: usize) -> usize
-    ensures { result ≡ min a b }
-{
-    if a <= b { a } else { b }
-}
 
 // Whether the expression has no text of n bytes, by the least and the most bytes that its texts have.
 fn missed(code: &[u32], n: usize) -> bool
@@ -81,7 +75,7 @@ pub fn test(code: &[u32], text: &[u8], marks: &mut [u8]) -> bool
     if missed(code, text.len()) {
         return false;
     }
-    let room = lesser(marks.len(), MAX_ROOM);
+    let room = marks.len().min(MAX_ROOM);
     let w = weigh(code, 0, room);
     let n = w.size;
     if has_room(code.len(), n, room) {

@@ -13,7 +13,7 @@ ghost use Rattle.std.proofs.Math.Seq.{slice};
 ghost use Rattle.regex_needed.specs.Needed.{WroteInRoom, Lessened, once, repeated, Asks, Closes, Misses, Needed, Joins, Endless, Headed};
 ghost use Rattle.regex_code.specs.Flat.{Word};
 
-use regex_code::{skip, small};
+use regex_code::{skip, wide};
 use regex_total::{matches, measure};
 
 // The places behind what was read, and behind what was written. One more than the room has says that it is too small.
@@ -112,8 +112,8 @@ fn product(a: u32, b: u32, n: usize) -> u32
     requires { n ≤ 2 ^ 31 }
     ensures { result ≡ min (a * b) n }
 {
-    let h = small(a);
-    let k = small(b);
+    let h = wide(a);
+    let k = wide(b);
     let m = (h * k).min(n);
     m as u32
 }
@@ -153,7 +153,7 @@ fn endless(lo: u32, hi: u32, m: usize, n: usize) -> bool
     requires { m ≤ 2 ^ 31 }
     ensures { result ≡ true → Endless lo hi m n }
 {
-    let h = small(hi);
+    let h = wide(hi);
     if lo == 0 && n <= h {
         return true;
     }

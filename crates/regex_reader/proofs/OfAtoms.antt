@@ -1,13 +1,12 @@
 -- Atoms that are no groups, and repeats, one level of the definition at a time. Assumes nothing.
 use Rattle.std.specs.Prelude.{Option as Answer, Some}
 use mathlib.Core.Path.{◌≡◌, refl, sym, ◌∙◌}
-use mathlib.Core.Bool.{Bool, true, false, ◌||◌}
+use mathlib.Core.Bool.{Bool, true, false}
 use mathlib.Core.List.{List, [], ◌∷◌}
 use mathlib.Core.Option.{Option, some}
 use Prim.Native.Nat.{ℕ, ◌+◌, ◌≤◌, ◌<◌}
 use native.Mathlib.Omega.{arith}
-use lib.Dec.{eqb}
-use lib.ListN.{length, drop, get_or, drop_of_length-le}
+use lib.ListN.{length, drop, drop_of_length-le}
 use Rattle.basics.specs.Reads.{Wrote}
 use Rattle.regex_definition.specs.Chars.{is_normal}
 use Rattle.regex_definition.specs.Regexp.{Regexp}
@@ -23,21 +22,11 @@ use Rattle.regex_reader.specs.Reads.PutChar.{next as put_next, stop as put-stop}
 use Rattle.regex_reader.specs.Reads.Repeats.{endless, bounded}
 use Rattle.regex_reader.specs.declared.steps.Cursor.{Cursor}
 use Rattle.regex_reader.proofs.Parts.{same_post}
-use Rattle.basics.specs.Lists.{drop_at}
 
 -- ---- where no piece begins
 
 pub stops_end : (s : List ℕ) (at : ℕ) → length s ≤ at → stops (drop at s) ≡ true
 stops_end s at h = rw (drop_of_length-le s h)
-
-pub stops_at : (s : List ℕ) (at : ℕ) → at < length s → stops (drop at s) ≡ (eqb (get_or s at 0) 0x7C || eqb (get_or s at 0) 0x29)
-stops_at s at h = rw (drop_at s at h)
-
-pub stops_bar : (s : List ℕ) (at : ℕ) → at < length s → eqb (get_or s at 0) 0x7C ≡ true → true ≡ stops (drop at s)
-stops_bar s at h e = sym (stops_at s at h ∙ rw e)
-
-pub stops_other : (s : List ℕ) (at : ℕ) → at < length s → eqb (get_or s at 0) 0x7C ≡ false → {r : Bool} → r ≡ eqb (get_or s at 0) 0x29 → r ≡ stops (drop at s)
-stops_other s at h e q = q ∙ sym (stops_at s at h ∙ rw e)
 
 -- ---- characters
 

@@ -1,7 +1,7 @@
 -- A class, one level of the definition at a time. Assumes nothing.
 use Rattle.std.specs.Prelude.{Option as Answer, Some, None}
 use mathlib.Core.Path.{◌≡◌, refl, ap, sym, ◌∙◌}
-use mathlib.Core.Bool.{Bool, true, false, false≢true}
+use mathlib.Core.Bool.{Bool, true, false}
 use mathlib.Core.List.{List, [], ◌∷◌, ◌++◌, append_assoc, append-nil}
 use mathlib.Core.Option.{Option, none, some}
 use Prim.Native.Nat.{ℕ, zero, suc, ◌+◌, ◌-◌, ◌*◌, ◌≤◌, ◌<◌}
@@ -31,9 +31,6 @@ pub item_none : {out : Option (Range × List ℕ)} {s : List ℕ} {from : ℕ} �
 item_none (item-stop o) = o
 
 -- ---- "-]"
-
-pub end_none : (s : List ℕ) (at : ℕ) → begins 0x2D (drop at s) ≡ false → IsEnd s at false
-end_none s at e = record { told = rw e refl; inside = λ f. absurd (false≢true f) }
 
 pub end_some : (s : List ℕ) (at : ℕ) → begins 0x2D (drop at s) ≡ true → {r : Bool} → Is s (at + 1) 0x5D r → IsEnd s at r
 end_some s at e {r} i = record { told = rw (behind s at 0x2D e, e) i.told; inside = i.inside }

@@ -42,6 +42,7 @@ fn items(s: &[u32], code: &mut [u32], at: usize, len: usize) -> Option<(usize, u
 {
     let mut i = at;
     let mut n: usize = 0;
+    // A loop over i: a step is as long as an item.
     loop {
         if is(s, i, 0x5D) {
             return Some((i + 1, n));

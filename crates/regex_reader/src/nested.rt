@@ -48,6 +48,7 @@ fn branch(s: &[u32], code: &mut [u32], st: Cursor) -> Option<Cursor>
 {
     let mut at = st.at;
     let mut len = st.len;
+    // A loop over two places: a step is as long as a piece, and as its code.
     loop {
         if stop_at(s, at) {
             code[len] = 0;
@@ -67,6 +68,7 @@ fn alts(s: &[u32], code: &mut [u32], st: Cursor) -> Option<Cursor>
 {
     let mut at = st.at;
     let mut len = st.len;
+    // A loop over two places: a step is as long as a branch, and as its code.
     loop {
         let n = branch(s, code, Cursor { at, len })?;
         if !is(s, n.at, 0x7C) {

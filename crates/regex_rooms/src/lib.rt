@@ -44,6 +44,7 @@ fn asked(kind: u8, text: &[u8], e: &[u8], chars: &mut [u32], code: &mut [u32]) -
 
 // The rooms of an expression stand in frames of their own. LLVM would join these functions into the evaluation of a filter, which calls itself, and every call of
 // that would have the rooms; a function that calls itself it leaves alone. `again` says how often this one does, which changes nothing of the answer.
+// Three functions, and not one with the sizes as const parameters: bin/archive keeps each of them out of its callers by its name.
 fn short(kind: u8, text: &[u8], e: &[u8], again: u8) -> bool
     requires { (is_utf8 text.now ≡ true) × (is_utf8 e.now ≡ true) × (length e.now ≤ 32) }
     ensures { result ≡ regex_test (scope_for kind) text.now e.now }

@@ -20,7 +20,7 @@ const WORDS: usize = 8207;
 // A byte that is no kind of a plan's item.
 const NO_KIND: u8 = 255;
 
-// These call themselves for the reason that stands at `short` of the crate.
+// These call themselves for the reason that stands at `short` of the crate, and are five for the reason that stands there too.
 fn with_few(code: &[u32], text: &[u8], again: u8) -> bool
     ensures { Tested code.now text.now result }
 {

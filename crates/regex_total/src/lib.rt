@@ -8,7 +8,7 @@ ghost use Rattle.std.specs.Prelude.{◌≡◌, ◌+◌, ◌≤◌, ◌<◌, true
 ghost use Rattle.regex_total.specs.Answers.{no_width, Inside, Matched, Repeated, Paired, Joined, Some, Enough, Widths, Capped, Apart, Reaches};
 
 use regex_chars::{char_at, class_has};
-use regex_code::{skip, skip_class, small, wide};
+use regex_code::{skip, skip_class, wide};
 
 // One character of the class at `at`.
 fn one(code: &[u32], at: usize, text: &[u8], from: usize, to: usize) -> bool
@@ -171,8 +171,8 @@ fn copied(code: &[u32], at: usize) -> Width
     if code.len() - at < 3 {
         return no_width(at);
     }
-    let lo = small(code[at + 1]);
-    let hi = small(code[at + 2]);
+    let lo = wide(code[at + 1]);
+    let hi = wide(code[at + 2]);
     let a = measure(code, at + 3);
     if a.most < 2147483648 {
         return Width {
@@ -196,7 +196,7 @@ fn looped(code: &[u32], at: usize) -> Width
     if code.len() - at < 3 {
         return no_width(at);
     }
-    let lo = small(code[at + 1]);
+    let lo = wide(code[at + 1]);
     let a = measure(code, at + 2);
     Width {
         next: a.next,

@@ -6,4 +6,4 @@ pub returns-then-code-at-lt3 : goal.returns-then-code-at-lt3
 returns-then-code-at-lt3 c = class_short _ _ _ c.if-code-at-lt3.true
 
 pub returns : goal.returns
-returns c = class_hit _ _ _ c.wide-n.ensures c.ranges_have-hit.ensures c.flip.ensures
+returns c = class_hit _ _ _ c.wide-n.ensures.0 c.ranges_have-hit.ensures c.flip.ensures

@@ -8,4 +8,4 @@ returns-then-code-at-le2 c = class_short _ _ c.requires c.if-code-at-le2.true
 
 -- src/lib.rt:22:1
 pub returns : goal.returns
-returns c = rw c.small-n.ensures.0 (class_behind _ _ c.requires)
+returns c = rw c.wide-n.ensures.0 (class_behind _ _ c.requires)

@@ -99,7 +99,7 @@ counted-pack-requires-then-hi-eq0 t c = rw c.unmarked-s.ensures (omega (arith, c
 
 -- counted
 pub counted-returns-then-hi-eq0 : goal.counted-returns-then-hi-eq0
-counted-returns-then-hi-eq0 t c = let k = clip_skip (omega (arith, c.if-code-at-lt3.false)) c.skip-n.ensures c.min.ensures in shifted_by (c.pack-then-hi-eq0.ensures ∙ c.unmarked-s.ensures) (shift_none _ _ _ _ _ c.requires.0.room _ c.requires.1.here c.requires.1.is c.wide-lo.ensures c.wide-hi.ensures c.if-hi-eq0.true k.0 k.1)
+counted-returns-then-hi-eq0 t c = let k = clip_skip (omega (arith, c.if-code-at-lt3.false)) c.skip-n.ensures c.min.ensures in shifted_by (c.pack-then-hi-eq0.ensures ∙ c.unmarked-s.ensures) (shift_none _ _ _ _ _ c.requires.0.room _ c.requires.1.here c.requires.1.is c.wide-lo.ensures.0 c.wide-hi.ensures.0 c.if-hi-eq0.true k.0 k.1)
 
 -- counted
 pub counted-overflow_add-at-3 : goal.counted-overflow_add-at-3
@@ -111,7 +111,7 @@ counted-copies-requires t c = (omega (arith, c.decreases, c.requires.1.here, c.i
 
 -- counted
 pub counted-returns : goal.counted-returns
-counted-returns t c = shift_upto _ _ _ _ _ c.requires.0.room _ c.requires.1.here c.requires.1.is c.wide-lo.ensures c.wide-hi.ensures c.copies.ensures
+counted-returns t c = shift_upto _ _ _ _ _ c.requires.0.room _ c.requires.1.here c.requires.1.is c.wide-lo.ensures.0 c.wide-hi.ensures.0 c.copies.ensures
 
 -- endless
 pub endless-pack-requires : goal.endless-pack-requires
@@ -215,7 +215,7 @@ least-endless-requires t c = (omega (arith, c.decreases, c.requires.1.here, c.if
 
 -- least
 pub least-returns : goal.least-returns
-least-returns t c = shift_any _ _ _ _ _ c.requires.0.room _ c.requires.1.here c.requires.1.is c.wide-lo.ensures c.endless.ensures
+least-returns t c = shift_any _ _ _ _ _ c.requires.0.room _ c.requires.1.here c.requires.1.is c.wide-lo.ensures.0 c.endless.ensures
 
 -- shift
 pub shift-pack-requires : goal.shift-pack-requires

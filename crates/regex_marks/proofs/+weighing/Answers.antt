@@ -91,7 +91,7 @@ weigh_counted-returns-then-cap-a t c = weigh_upto_much _ _ _ c.requires.1.here c
 
 -- weigh_counted
 pub weigh_counted-overflow_mul-a : goal.weigh_counted-overflow_mul-a
-weigh_counted-overflow_mul-a t c = record { fits = omega (arith, product c.weigh-a.result.size c.small-hi.result (omega (arith, c.if-cap-a.false, c.requires.0)) c.small-hi.ensures.1) }
+weigh_counted-overflow_mul-a t c = record { fits = omega (arith, product c.weigh-a.result.size c.wide-hi.result (omega (arith, c.if-cap-a.false, c.requires.0)) c.wide-hi.ensures.1) }
 
 -- weigh_counted
 pub weigh_counted-capped-requires : goal.weigh_counted-capped-requires
@@ -99,7 +99,7 @@ weigh_counted-capped-requires t c = c.requires.0
 
 -- weigh_counted
 pub weigh_counted-returns : goal.weigh_counted-returns
-weigh_counted-returns t c = weigh_upto _ _ _ c.requires.1.here c.requires.1.is c.weigh-a.ensures _ _ c.small-hi.ensures.0 c.if-cap-a.false c.capped.ensures
+weigh_counted-returns t c = weigh_upto _ _ _ c.requires.1.here c.requires.1.is c.weigh-a.ensures _ _ c.wide-hi.ensures.0 c.if-cap-a.false c.capped.ensures
 
 -- weigh_least
 pub weigh_least-overflow_sub-code : goal.weigh_least-overflow_sub-code
@@ -139,15 +139,15 @@ weigh_least-returns-then-cap-a t c = weigh_any_much _ _ _ c.requires.1.here c.re
 
 -- weigh_least
 pub weigh_least-overflow_mul-a : goal.weigh_least-overflow_mul-a
-weigh_least-overflow_mul-a t c = record { fits = omega (arith, product c.weigh-a.result.size c.less-l.result (omega (arith, c.if-cap-a.false, c.requires.0)) (omega (arith, c.less-l.ensures, c.small-lo.ensures.1))) }
+weigh_least-overflow_mul-a t c = record { fits = omega (arith, product c.weigh-a.result.size c.less-l.result (omega (arith, c.if-cap-a.false, c.requires.0)) (omega (arith, c.less-l.ensures, c.wide-lo.ensures.1))) }
 
 -- weigh_least
 pub weigh_least-overflow_add-a : goal.weigh_least-overflow_add-a
-weigh_least-overflow_add-a t c = record { fits = omega (arith, product c.weigh-a.result.size c.less-l.result (omega (arith, c.if-cap-a.false, c.requires.0)) (omega (arith, c.less-l.ensures, c.small-lo.ensures.1))) }
+weigh_least-overflow_add-a t c = record { fits = omega (arith, product c.weigh-a.result.size c.less-l.result (omega (arith, c.if-cap-a.false, c.requires.0)) (omega (arith, c.less-l.ensures, c.wide-lo.ensures.1))) }
 
 -- weigh_least
 pub weigh_least-overflow_add-a-2 : goal.weigh_least-overflow_add-a-2
-weigh_least-overflow_add-a-2 t c = record { fits = omega (arith, c.if-cap-a.false, c.requires.0, product c.weigh-a.result.size c.less-l.result (omega (arith, c.if-cap-a.false, c.requires.0)) (omega (arith, c.less-l.ensures, c.small-lo.ensures.1))) }
+weigh_least-overflow_add-a-2 t c = record { fits = omega (arith, c.if-cap-a.false, c.requires.0, product c.weigh-a.result.size c.less-l.result (omega (arith, c.if-cap-a.false, c.requires.0)) (omega (arith, c.less-l.ensures, c.wide-lo.ensures.1))) }
 
 -- weigh_least
 pub weigh_least-capped-requires : goal.weigh_least-capped-requires
@@ -155,7 +155,7 @@ weigh_least-capped-requires t c = c.requires.0
 
 -- weigh_least
 pub weigh_least-returns : goal.weigh_least-returns
-weigh_least-returns t c = weigh_any _ _ _ c.requires.1.here c.requires.1.is c.weigh-a.ensures _ _ _ c.small-lo.ensures.0 c.less-l.ensures c.if-cap-a.false c.capped.ensures
+weigh_least-returns t c = weigh_any _ _ _ c.requires.1.here c.requires.1.is c.weigh-a.ensures _ _ _ c.wide-lo.ensures.0 c.less-l.ensures c.if-cap-a.false c.capped.ensures
 
 -- weigh_two
 pub weigh_two-overflow_add-at : goal.weigh_two-overflow_add-at

@@ -81,7 +81,7 @@ counted-shape_of-set-then-hi-lo t c = c.clear.ensures.0
 
 -- counted
 pub counted-returns-then-hi-lo : goal.counted-returns-then-hi-lo
-counted-returns-then-hi-lo t c = by_none c.requires.0 c.wide-lo.ensures c.wide-hi.ensures c.if-hi-lo.true c.clear.ensures.0 c.clear.ensures.1
+counted-returns-then-hi-lo t c = by_none c.requires.0 c.wide-lo.ensures.0 c.wide-hi.ensures.0 c.if-hi-lo.true c.clear.ensures.0 c.clear.ensures.1
 
 -- counted
 pub counted-overflow_add-at-3 : goal.counted-overflow_add-at-3
@@ -105,7 +105,7 @@ counted-shape_of-set t c = c.grow.ensures.long ∙ c.again.ensures.long
 
 -- counted
 pub counted-returns : goal.counted-returns
-counted-returns t c = by_counts c.requires.0 c.wide-lo.ensures c.wide-hi.ensures c.if-hi-lo.false refl c.again.ensures c.grow.ensures
+counted-returns t c = by_counts c.requires.0 c.wide-lo.ensures.0 c.wide-hi.ensures.0 c.if-hi-lo.false refl c.again.ensures c.grow.ensures
 
 -- either
 pub either-overflow_add-n : goal.either-overflow_add-n
@@ -213,7 +213,7 @@ least-shape_of-set t c = c.grow.ensures.long ∙ c.again.ensures.long
 
 -- least
 pub least-returns : goal.least-returns
-least-returns t c = by_least_lem c.requires.0 c.wide-lo.ensures refl c.again.ensures c.grow.ensures
+least-returns t c = by_least_lem c.requires.0 c.wide-lo.ensures.0 refl c.again.ensures c.grow.ensures
 
 -- part
 pub part-returns-then-code-at : goal.part-returns-then-code-at

@@ -104,11 +104,11 @@ matches-times-requires t c = (omega (arith, c.decreases, c.if-code-at.false, c.w
 
 -- matches
 pub matches-returns-then-k-eq4 : goal.matches-returns-then-k-eq4
-matches-returns-then-k-eq4 t c = match_upto _ _ _ _ c.requires _ c.if-code-at.false c.if-k-eq4.true c.wide-lo.ensures c.wide-hi.ensures c.times.ensures
+matches-returns-then-k-eq4 t c = match_upto _ _ _ _ c.requires _ c.if-code-at.false c.if-k-eq4.true c.wide-lo.ensures.0 c.wide-hi.ensures.0 c.times.ensures
 
 -- matches
 pub matches-overflow_add-lo : goal.matches-overflow_add-lo
-matches-overflow_add-lo t c = omega (arith, c.wide-lo-then-k-eq5.ensures, c.type_inv.code (c.args.at + 1), c.well_formed.1.1.0.1, c.requires.end)
+matches-overflow_add-lo t c = omega (arith, c.wide-lo-then-k-eq5.ensures.0, c.type_inv.code (c.args.at + 1), c.well_formed.1.1.0.1, c.requires.end)
 
 -- matches
 pub matches-times-requires-then-k-eq5 : goal.matches-times-requires-then-k-eq5
@@ -116,7 +116,7 @@ matches-times-requires-then-k-eq5 t c = (omega (arith, c.decreases, c.if-code-at
 
 -- matches
 pub matches-returns-then-k-eq5 : goal.matches-returns-then-k-eq5
-matches-returns-then-k-eq5 t c = match_any _ _ _ _ c.requires _ c.if-code-at.false c.if-k-eq5.true c.wide-lo-then-k-eq5.ensures refl c.times-then-k-eq5.ensures
+matches-returns-then-k-eq5 t c = match_any _ _ _ _ c.requires _ c.if-code-at.false c.if-k-eq5.true c.wide-lo-then-k-eq5.ensures.0 refl c.times-then-k-eq5.ensures
 
 -- matches
 pub matches-returns : goal.matches-returns

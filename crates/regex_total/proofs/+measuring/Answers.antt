@@ -17,23 +17,23 @@ copied-measure-a-requires t c = (omega (arith, c.decreases, c.requires.0, c.if-c
 
 -- copied
 pub copied-overflow_mul-a : goal.copied-overflow_mul-a
-copied-overflow_mul-a t c = record { fits = omega (arith, product c.measure-a.result.least c.small-lo.result c.measure-a.ensures.lo_fits c.small-lo.ensures.1) }
+copied-overflow_mul-a t c = record { fits = omega (arith, product c.measure-a.result.least c.wide-lo.result c.measure-a.ensures.lo_fits c.wide-lo.ensures.1) }
 
 -- copied
 pub copied-overflow_mul-a-then-a-lt2147483648 : goal.copied-overflow_mul-a-then-a-lt2147483648
-copied-overflow_mul-a-then-a-lt2147483648 t c = record { fits = omega (arith, product c.measure-a.result.most c.small-hi.result c.measure-a.ensures.hi_fits c.small-hi.ensures.1) }
+copied-overflow_mul-a-then-a-lt2147483648 t c = record { fits = omega (arith, product c.measure-a.result.most c.wide-hi.result c.measure-a.ensures.hi_fits c.wide-hi.ensures.1) }
 
 -- copied
 pub copied-returns-then-a-lt2147483648 : goal.copied-returns-then-a-lt2147483648
-copied-returns-then-a-lt2147483648 t c = span_upto _ _ c.requires.0 c.requires.1 c.measure-a.ensures c.small-lo.ensures.0 c.small-hi.ensures.0 c.capped.ensures c.capped-then-a-lt2147483648.ensures.fits (capped_both _ c.if-a-lt2147483648.true c.capped-then-a-lt2147483648.ensures)
+copied-returns-then-a-lt2147483648 t c = span_upto _ _ c.requires.0 c.requires.1 c.measure-a.ensures c.wide-lo.ensures.0 c.wide-hi.ensures.0 c.capped.ensures c.capped-then-a-lt2147483648.ensures.fits (capped_both _ c.if-a-lt2147483648.true c.capped-then-a-lt2147483648.ensures)
 
 -- copied
 pub copied-overflow_mul-a-2 : goal.copied-overflow_mul-a-2
-copied-overflow_mul-a-2 t c = record { fits = omega (arith, product c.measure-a.result.least c.small-lo.result c.measure-a.ensures.lo_fits c.small-lo.ensures.1) }
+copied-overflow_mul-a-2 t c = record { fits = omega (arith, product c.measure-a.result.least c.wide-lo.result c.measure-a.ensures.lo_fits c.wide-lo.ensures.1) }
 
 -- copied
 pub copied-returns : goal.copied-returns
-copied-returns t c = span_upto _ _ c.requires.0 c.requires.1 c.measure-a.ensures c.small-lo.ensures.0 c.small-hi.ensures.0 c.capped-2.ensures (omega arith) (λ h. absurd (omega arith))
+copied-returns t c = span_upto _ _ c.requires.0 c.requires.1 c.measure-a.ensures c.wide-lo.ensures.0 c.wide-hi.ensures.0 c.capped-2.ensures (omega arith) (λ h. absurd (omega arith))
 
 -- in_a_row
 pub in_a_row-measure-a-requires : goal.in_a_row-measure-a-requires
@@ -69,11 +69,11 @@ looped-measure-a-requires t c = (omega (arith, c.decreases, c.requires.0, c.if-c
 
 -- looped
 pub looped-overflow_mul-a : goal.looped-overflow_mul-a
-looped-overflow_mul-a t c = record { fits = omega (arith, product c.measure-a.result.least c.small-lo.result c.measure-a.ensures.lo_fits c.small-lo.ensures.1) }
+looped-overflow_mul-a t c = record { fits = omega (arith, product c.measure-a.result.least c.wide-lo.result c.measure-a.ensures.lo_fits c.wide-lo.ensures.1) }
 
 -- looped
 pub looped-returns : goal.looped-returns
-looped-returns t c = span_any _ _ c.requires.0 c.requires.1 c.measure-a.ensures c.small-lo.ensures.0 c.capped.ensures
+looped-returns t c = span_any _ _ c.requires.0 c.requires.1 c.measure-a.ensures c.wide-lo.ensures.0 c.capped.ensures
 
 -- measure
 pub measure-returns-then-code-at : goal.measure-returns-then-code-at

@@ -1,1 +1,0 @@
--- The answers of the cycle of calls {with_more}.
