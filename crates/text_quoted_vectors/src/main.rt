@@ -71,28 +71,10 @@ fn show_line(rt: &impl Print, line: &[u8], out: &mut [u8]) -> io::Result<()> {
     output::text(rt, b"no quote\n")
 }
 
-// Where the line from a place on ends.
-fn line_end(s: &[u8], at: usize) -> usize
-    requires { at ≤ length s.now }
-    ensures { (at ≤ result) × (result ≤ length s.now) }
-{
-    let mut i = at;
-    while i < s.len() {
-        if s[i] == b'\n' {
-            return i;
-        }
-        i += 1;
-    }
-    i
-}
-
 // Every line of the input.
 fn show_lines(rt: &impl Print, s: &[u8], out: &mut [u8]) -> io::Result<()> {
-    let mut at = 0;
-    while at < s.len() {
-        let end = line_end(s, at);
-        show_line(rt, &s[at..end], out)?;
-        at = end + 1;
+    for line in s.split_inclusive(|b| *b == b'\n') {
+        show_line(rt, line.strip_suffix(b"\n".as_slice()).unwrap_or(line), out)?;
     }
     Ok(())
 }

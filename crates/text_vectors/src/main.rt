@@ -30,10 +30,8 @@ const PER_LINE: usize = 256;
 fn put_all(d: &mut [u8])
     requires { length d.old ≤ 256 }
 {
-    let mut i = 0;
-    while i < d.len() {
-        d[i] = i as u8;
-        i += 1;
+    for (i, x) in d.iter_mut().enumerate() {
+        *x = i as u8;
     }
 }
 
@@ -42,12 +40,10 @@ fn put_text(word: &mut [u8], k: usize, alphabet: &[u8], v: usize)
     requires { (k ≤ length word.old) × (0 < length alphabet.now) }
 {
     let m = alphabet.len();
-    let mut i = k;
     let mut n = v;
-    while 0 < i {
-        i -= 1;
+    for i in (0..k).rev() {
         word[i] = alphabet[n % m];
-        n = n / m;
+        n /= m;
     }
 }
 
@@ -58,11 +54,7 @@ fn bit(alphabet: &[u8], k: usize, v: usize) -> u8
 {
     let mut word = [0u8; 4];
     put_text(&mut word, k, alphabet, v);
-    if text::encoding::is_utf8_part(&word, 0, k) {
-        1
-    } else {
-        0
-    }
+    u8::from(text::encoding::is_utf8_part(&word, 0, k))
 }
 
 // The hexadecimal digit of the four texts from number v on.
@@ -82,10 +74,8 @@ fn put_digits(out: &mut [u8], alphabet: &[u8], k: usize, v: usize)
     requires out_nonzero { (0 < length out.old) × (length out.old ≤ 65) }
     requires k_bound { (k ≤ 4) × (0 < length alphabet.now) × (v < 2 ^ 31) }
 {
-    let mut i = 0;
-    while i < out.len() - 1 {
+    for i in 0..out.len() - 1 {
         out[i] = digit(alphabet, k, v + i * 4);
-        i += 1;
     }
 }
 
@@ -102,10 +92,8 @@ fn line(rt: &impl Print, alphabet: &[u8], k: usize, v: usize) -> io::Result<()>
 fn sweep(rt: &impl Print, alphabet: &[u8], k: usize, lines: usize) -> io::Result<()>
     requires { (k ≤ 4) × (0 < length alphabet.now) × (lines ≤ 256) }
 {
-    let mut i = 0;
-    while i < lines {
+    for i in 0..lines {
         line(rt, alphabet, k, i * PER_LINE)?;
-        i += 1;
     }
     Ok(())
 }
@@ -121,28 +109,10 @@ fn verdict(rt: &impl Print, query: &[u8]) -> io::Result<()> {
     output::text(rt, b"passed\n")
 }
 
-// The end of the line that begins at `at`: the place of its line feed, or the end of the input.
-fn line_end(s: &[u8], at: usize) -> usize
-    requires { at ≤ length s.now }
-    ensures { (at ≤ result) × (result ≤ length s.now) }
-{
-    let mut i = at;
-    while i < s.len() {
-        if s[i] == b'\n' {
-            return i;
-        }
-        i += 1;
-    }
-    i
-}
-
 // The verdict on each line of the input.
 fn verdicts(rt: &impl Print, s: &[u8]) -> io::Result<()> {
-    let mut at = 0;
-    while at < s.len() {
-        let e = line_end(s, at);
-        verdict(rt, &s[at..e])?;
-        at = e + 1;
+    for line in s.split_inclusive(|b| *b == b'\n') {
+        verdict(rt, line.strip_suffix(b"\n".as_slice()).unwrap_or(line))?;
     }
     Ok(())
 }

@@ -1,9 +1,0 @@
--- Each turn goes behind the next line feed, or behind the end.
-use Rattle.std.proofs.Common.{length, ◌≤◌, ◌-◌, ◌+◌}
-use Rattle.text_vectors.proofs.verdicts.Given as goal
-
-abbrev pub invariant-loop-at : goal.invariant-loop-at
-invariant-loop-at g l = l.at ≤ length l.s + 1
-
-abbrev pub decreases-loop-at : goal.decreases-loop-at
-decreases-loop-at g l = length l.s + 1 - l.at
