@@ -1,5 +1,5 @@
 -- What the contracts of this crate say: a text that is written before a place, and a node with its table. Assumes nothing: these are definitions.
-use Rattle.std.specs.Prelude.{ℕ, ◌+◌, ◌≤◌, ◌<◌, ◌≡◌, List, [], ◌++◌, cond, eqb, length, drop}
+use Rattle.std.specs.Prelude.{ℕ, ◌+◌, ◌≤◌, ◌<◌, ◌≡◌, List, [], ◌++◌, cond, eqb, length, drop, Option, Some, None}
 use Rattle.definition.specs.Tables.{node_count, parent_at}
 use Rattle.definition.specs.Paths.{step_at, spell_step}
 use Rattle.table_laws.specs.Accepted.{Accepted}
@@ -30,13 +30,13 @@ pub record ChildOf (T X : List ℕ) (i : ℕ) : Type 0 where
 abbrev pub step_of : List ℕ → List ℕ → ℕ → List ℕ
 step_of T X i = spell_step (step_at T X (parent_at T i) i) []
 
--- the letter that stands for a byte behind a backslash, 0 where there is none
-unfoldable pub letter_of : ℕ → ℕ
+-- the letter that stands for a byte behind a backslash, if there is one
+unfoldable pub letter_of : ℕ → Option ℕ
 letter_of b =
-    cond (eqb b 0x08) 0x62
-    (cond (eqb b 0x09) 0x74
-    (cond (eqb b 0x0A) 0x6E
-    (cond (eqb b 0x0C) 0x66
-    (cond (eqb b 0x0D) 0x72
-    (cond (eqb b 0x27) 0x27
-    (cond (eqb b 0x5C) 0x5C 0))))))
+    cond (eqb b 0x08) (Some 0x62)
+    (cond (eqb b 0x09) (Some 0x74)
+    (cond (eqb b 0x0A) (Some 0x6E)
+    (cond (eqb b 0x0C) (Some 0x66)
+    (cond (eqb b 0x0D) (Some 0x72)
+    (cond (eqb b 0x27) (Some 0x27)
+    (cond (eqb b 0x5C) (Some 0x5C) None))))))

@@ -42,8 +42,7 @@ fn put_escaped(room: &mut [u8], end: usize, b: u8) -> usize
     requires { Room room.old end (length (escaped b)) }
     ensures { Put room.old end (escaped b) room.new result }
 {
-    let letter = escapes::letter_of(b);
-    if letter != 0 {
+    if let Some(letter) = escapes::letter_of(b) {
         return put_two(room, end, 0x5C, letter);
     }
     if 0x20 <= b {

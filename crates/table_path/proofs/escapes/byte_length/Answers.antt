@@ -1,15 +1,15 @@
 -- A letter, the byte itself, or four digits.
-use mathlib.Core.Path.{ap}
+use mathlib.Core.Path.{sym, ap}
 use lib.ListN.{length}
-use Rattle.table_path.proofs.Letters.{letter_spelled, self_spelled, digits_spelled}
+use Rattle.table_path.proofs.Letters.{some_spelled, none_is, self_spelled, digits_spelled}
 use borrow.Author.Rules.{rules}
 use Rattle.table_path.proofs.escapes.byte_length.Goals as goal
 
-pub returns-then-letter_of-ne0 : goal.returns-then-letter_of-ne0
-returns-then-letter_of-ne0 c = ap length (letter_spelled _ _ c.letter_of.ensures c.if-letter_of-ne0.true)
+pub returns-then-is_some : goal.returns-then-is_some
+returns-then-is_some c = some_spelled _ c.letter_of.result c.letter_of.ensures (sym c.if-is_some.ensures)
 
 pub returns-then-b-ge32 : goal.returns-then-b-ge32
-returns-then-b-ge32 c = ap length (self_spelled _ _ c.letter_of.ensures c.if-letter_of-ne0.false c.if-b-ge32.true)
+returns-then-b-ge32 c = ap length (self_spelled _ (none_is _ c.letter_of.result c.letter_of.ensures (sym c.if-is_some.ensures)) c.if-b-ge32.true)
 
 pub returns : goal.returns
-returns c = ap length (digits_spelled _ _ c.letter_of.ensures c.if-letter_of-ne0.false c.if-b-ge32.false)
+returns c = ap length (digits_spelled _ (none_is _ c.letter_of.result c.letter_of.ensures (sym c.if-is_some.ensures)) c.if-b-ge32.false)
