@@ -10,7 +10,7 @@ ghost use Rattle.table.specs.Words.{KeysInside, Joins};
 ghost use Rattle.table.specs.Buckets.{bucket_at};
 ghost use Rattle.table.specs.Chains.{Chain, Chained};
 
-use crate::{buckets, records};
+use crate::{buckets, named, records};
 use text::parts;
 
 // Whether the key of a node, which lies inside the text, has these bytes.
@@ -22,9 +22,7 @@ fn same_key(table: &[u8], text: &[u8], node: usize, key: &[u8]) -> bool
     if size != key.len() {
         return false;
     }
-    let start = records::key_start(table, node) as usize;
-    let end = start + size;
-    parts::same_bytes(&text[start..end], key)
+    parts::same_bytes(named::key_part(table, text, node), key)
 }
 
 // Whether the key of a node is unlike those of the nodes from a place up to it.
@@ -33,9 +31,7 @@ pub fn key_differs(table: &[u8], text: &[u8], node: usize, from: usize) -> bool
     requires keys_inside { KeysInside table.now text.now from (node + 1) }
     ensures { result ≡ key_differs table.now text.now node from (node - from) }
 {
-    let start = records::key_start(table, node) as usize;
-    let end = start + records::key_length(table, node) as usize;
-    let key = &text[start..end];
+    let key = named::key_part(table, text, node);
     for j in from..node {
         if same_key(table, text, j, key) {
             return false;
@@ -59,6 +55,7 @@ fn chain_differs(
     requires chain { Chain table.now text.now from node head links.now }
     ensures { is_some result ≡ key_differs table.now text.now node from (node - from) }
 {
+    // A loop over j: the nodes of a chain lie at uneven distances, and the count of them is asked for, so no iterator is plainer.
     let mut steps = 1;
     let mut j = head;
     while from <= j {
@@ -87,9 +84,7 @@ pub fn joins_chain(
     ensures chained_2 { OnSome result (Chained (bucket_at (length heads.new) table.now text.now) from (node + 1) heads.new links.new) }
     ensures links_len_unchanged { length links.new ≡ length links.old }
 {
-    let start = records::key_start(table, node) as usize;
-    let end = start + records::key_length(table, node) as usize;
-    let key = &text[start..end];
+    let key = named::key_part(table, text, node);
     let bucket = buckets::bucket(key, heads.len());
     let last = heads[bucket];
     let steps = chain_differs(table, text, node, from, key, last as usize, links)?;

@@ -13,7 +13,7 @@ pub const RECORD: usize = 24;
 
 pub const PAYLOAD: usize = 16;
 
-// The kinds of values.
+// The kinds of values: bytes and no enum, since `kind` answers the byte of a record that may be wrong (`kind_at`), and rules and evaluation compare it by its order.
 pub const KIND_NULL: u8 = 0;
 
 pub const KIND_FALSE: u8 = 1;

@@ -20,7 +20,7 @@ const DEPTH_UNIT: usize = 256;
 // Bytes 0-3 of a text under the root.
 const TEXT_UNDER_ROOT: usize = 261;
 
-const MAX_MEMBERS: u32 = 1024;
+pub const MAX_MEMBERS: u32 = 1024;
 
 // A key in a map of so many members is compared with each earlier one.
 const FEW_MEMBERS: usize = 8;

@@ -48,6 +48,7 @@ fn to_parent(table: &[u8], node: usize, cursor: Cursor) -> Cursor
     if node < cursor.end {
         return cursor;
     }
+    // A loop over parent: it goes on with the cursor's range to the first one behind the node, and a range of numbers knows no such end.
     let mut parent = cursor.parent;
     let mut from = cursor.from;
     let mut end = cursor.end;
@@ -221,6 +222,7 @@ fn rest(
     ensures { found result ≡ least_wrong table.now text.now 0 (node_count table.now) }
 {
     let count = table.len() / RECORD;
+    // A loop over node: each turn passes as many nodes as `children` says.
     let mut cursor = root;
     let mut first = start;
     let mut node = from;

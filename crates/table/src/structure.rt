@@ -10,9 +10,8 @@ ghost use Rattle.table_laws.specs.Records.{RecordsBelow};
 ghost use Rattle.table.specs.Outcomes.{found};
 
 use crate::records::{KIND_FLOAT, KIND_INTEGER, KIND_LIST, KIND_MAP, RECORD};
+use crate::rules::MAX_MEMBERS;
 use crate::{records, rules};
-
-const MAX_MEMBERS: u32 = 1024;
 
 // Bytes 16-23, as the kind asks, without the text that they name; first is where the range of a container's children must begin.
 fn payload_right(table: &[u8], node: usize, first: usize) -> bool

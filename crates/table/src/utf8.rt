@@ -41,6 +41,7 @@ fn to_parent(table: &[u8], node: usize, cursor: Cursor) -> Cursor
     if node < cursor.end {
         return cursor;
     }
+    // A loop over parent, as in `scan::to_parent`.
     let mut parent = cursor.parent;
     let mut from = cursor.from;
     let mut end = cursor.end;
@@ -186,6 +187,7 @@ fn rest(
     ensures { found result ≡ least_wrong table.now text.now 0 (node_count table.now) }
 {
     let count = table.len() / RECORD;
+    // A loop over node: each turn passes as many nodes as `children` says.
     let mut cursor = root;
     let mut first = start;
     let mut node = from;
