@@ -10,7 +10,7 @@ ghost use Rattle.table.specs.Words.{KeysInside, Joins};
 ghost use Rattle.table.specs.Buckets.{bucket_at};
 ghost use Rattle.table.specs.Chains.{Chain, Chained};
 
-use crate::{buckets, named, records};
+use crate::{buckets, records};
 use text::parts;
 
 // Whether the key of a node, which lies inside the text, has these bytes.
@@ -22,7 +22,9 @@ fn same_key(table: &[u8], text: &[u8], node: usize, key: &[u8]) -> bool
     if size != key.len() {
         return false;
     }
-    parts::same_bytes(named::key_part(table, text, node), key)
+    let start = records::key_start(table, node) as usize;
+    let end = start + size;
+    parts::same_bytes(&text[start..end], key)
 }
 
 // Whether the key of a node is unlike those of the nodes from a place up to it.
@@ -31,7 +33,9 @@ pub fn key_differs(table: &[u8], text: &[u8], node: usize, from: usize) -> bool
     requires keys_inside { KeysInside table.now text.now from (node + 1) }
     ensures { result ≡ key_differs table.now text.now node from (node - from) }
 {
-    let key = named::key_part(table, text, node);
+    let start = records::key_start(table, node) as usize;
+    let end = start + records::key_length(table, node) as usize;
+    let key = &text[start..end];
     for j in from..node {
         if same_key(table, text, j, key) {
             return false;
@@ -84,7 +88,9 @@ pub fn joins_chain(
     ensures chained_2 { OnSome result (Chained (bucket_at (length heads.new) table.now text.now) from (node + 1) heads.new links.new) }
     ensures links_len_unchanged { length links.new ≡ length links.old }
 {
-    let key = named::key_part(table, text, node);
+    let start = records::key_start(table, node) as usize;
+    let end = start + records::key_length(table, node) as usize;
+    let key = &text[start..end];
     let bucket = buckets::bucket(key, heads.len());
     let last = heads[bucket];
     let steps = chain_differs(table, text, node, from, key, last as usize, links)?;

@@ -12,9 +12,6 @@ loop-at-init c =
     let e : length c.args.s.now - 0 ≡ length c.args.s.now = omega arith in
     (omega arith, omega arith, ap (λ (n : ℕ). folded 1 c.args.s.now n 0 0) e)
 
-pub word8-requires : goal.word8-requires
-word8-requires c = omega arith
-
 pub mix-hash-requires : goal.mix-hash-requires
 mix-hash-requires c = (c.loop-at.invariant.1, omega arith)
 

@@ -13,9 +13,6 @@ loop-i-init c =
     let e : length c.args.s.now / 4 - 0 ≡ length c.args.s.now / 4 = omega arith in
     (omega arith, ap (λ (n : ℕ). folded 4 c.args.s.now n 0 0) e)
 
-pub word32-requires : goal.word32-requires
-word32-requires c = omega arith
-
 pub mix-hash-requires : goal.mix-hash-requires
 mix-hash-requires c = (c.loop-i.invariant.0, c.word32.ensures.fits)
 

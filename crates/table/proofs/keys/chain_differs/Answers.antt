@@ -21,18 +21,6 @@ returns-then-same_key c =
     let e = ap (same_bytes (key_bytes c.args.table.now c.args.text.now c.loop-j.j)) (sym c.requires.key_value) ∙ sym c.same_key.ensures ∙ c.if-same_key.true in
     sym (differs_not c.args.table.now c.args.text.now c.args.node c.args.from c.loop-j.j (omega arith) c.loop-j.invariant.0.below e)
 
-pub offset_bounds-links-j : goal.offset_bounds-links-j
-offset_bounds-links-j c = omega arith
-
-pub bounds-links-j : goal.bounds-links-j
-bounds-links-j c = omega arith
-
-pub overflow_cast-j : goal.overflow_cast-j
-overflow_cast-j c = omega (arith, c.type_inv.links (c.loop-j.j - c.args.from))
-
-pub overflow_add-steps : goal.overflow_add-steps
-overflow_add-steps c = omega arith
-
 pub loop-j-smaller : goal.loop-j-smaller
 loop-j-smaller c = (c.loop-j.invariant.0.linked.before c.loop-j.j (omega arith) c.loop-j.invariant.0.below).earlier
 

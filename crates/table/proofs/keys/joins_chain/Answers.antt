@@ -11,15 +11,9 @@ use Rattle.table.proofs.Chains.{chain_joined}
 use borrow.Author.Rules.{rules}
 use Rattle.table.proofs.keys.joins_chain.Goals as goal
 
-pub key_part-key-requires : goal.key_part-key-requires
-key_part-key-requires c = (omega (arith, c.requires.joins.inside.nodes), c.requires.joins.inside.keys c.args.node c.requires.joins.from_le (omega arith))
-
-pub overflow_cast-last : goal.overflow_cast-last
-overflow_cast-last c = omega (arith, c.type_inv.heads c.bucket-bucket.result)
-
 pub chain_differs-requires : goal.chain_differs-requires
 chain_differs-requires c =
-    let k = c.key_part-key.ensures.bytes in
+    let k = key_span c.args.table.now c.args.text.now c.args.node c.key_start-start.result (c.key_start-start.result + c.key_length.result) (omega arith) (omega arith) in
     let n = length c.args.heads.now in
     let e = c.bucket-bucket.ensures.0 ∙ ap (bucket_of n) k in
     record { joins = c.requires.joins; key_value = k; chain = record { count = n; latest = subst (λ (x : ℕ). Latest (bucket_at n c.args.table.now c.args.text.now) x c.args.from c.args.node (get_or c.args.heads.now c.bucket-bucket.result 0)) e (c.requires.chained.last c.bucket-bucket.result c.bucket-bucket.ensures.1); linked = c.requires.chained.linked } }
@@ -29,7 +23,7 @@ returns-in_err-steps c = rw c.from_residual.ensures (record { result_value = c.i
 
 pub returns : goal.returns
 returns c =
-    let k = c.key_part-key.ensures.bytes in
+    let k = key_span c.args.table.now c.args.text.now c.args.node c.key_start-start.result (c.key_start-start.result + c.key_length.result) (omega arith) (omega arith) in
     let n = length c.args.heads.now in
     let e = c.bucket-bucket.ensures.0 ∙ ap (bucket_of n) k in
     let h = bucket_at n c.args.table.now c.args.text.now in

@@ -9,11 +9,8 @@ use Rattle.table_laws.specs.Keys.{key_span, differs_same, differs_step, differs_
 use Rattle.table.proofs.Inside.{one_key}
 use Rattle.table.proofs.keys.key_differs.Goals as goal
 
-pub key_part-key-requires : goal.key_part-key-requires
-key_part-key-requires c = (omega (arith, c.requires.keys_inside.nodes), c.requires.keys_inside.keys c.args.node c.requires.from_le_node (omega arith))
-
 pub loop-j-init : goal.loop-j-init
-loop-j-init c = (omega arith, c.key_part-key.ensures.bytes, refl)
+loop-j-init c = (omega arith, key_span c.args.table.now c.args.text.now c.args.node c.key_start-start.result (c.key_start-start.result + c.key_length.result) (omega arith) (omega arith), refl)
 
 pub same_key-requires : goal.same_key-requires
 same_key-requires c = one_key c.args.table.now c.args.text.now c.args.from (c.args.node + 1) c.requires.keys_inside c.loop-j.j c.loop-j.invariant.0 (omega arith)

@@ -11,8 +11,7 @@ use Rattle.table.proofs.keys.same_key.Goals as goal
 pub returns-then-size-key : goal.returns-then-size-key
 returns-then-size-key c = sym (key_unlike c.args.table.now c.args.text.now c.args.node c.args.key.now (c.requires.keys c.args.node (omega arith) (omega arith)) (omega arith))
 
-pub key_part-requires : goal.key_part-requires
-key_part-requires c = (omega (arith, c.requires.nodes), c.requires.keys c.args.node (omega arith) (omega arith))
-
 pub returns : goal.returns
-returns c = c.same_bytes.ensures ∙ ap (λ (l : List ℕ). same_bytes l c.args.key.now) c.key_part.ensures.bytes
+returns c =
+    c.same_bytes.ensures
+    ∙ ap (λ (l : List ℕ). same_bytes l c.args.key.now) (key_span c.args.table.now c.args.text.now c.args.node c.key_start-start.result (c.key_start-start.result + c.key_length-size.result) (omega arith) (omega arith))

@@ -7,29 +7,11 @@ use Rattle.table.proofs.Front.{text_childless, text_right_lem}
 use borrow.Author.Rules.{rules}
 use Rattle.table.proofs.rules.root_text_right.Goals as goal
 
-pub head-requires : goal.head-requires
-head-requires c = omega (arith, c.requires.root_list.0.inside, c.requires.root_list.2)
-
 pub returns-then-head-ne-TEXT_UNDER_ROOT : goal.returns-then-head-ne-TEXT_UNDER_ROOT
 returns-then-head-ne-TEXT_UNDER_ROOT c = record { node_value = λ z. absurd (false≢true z); node_value_2 = λ z. absurd (false≢true z) }
 
-pub key_start-start-requires : goal.key_start-start-requires
-key_start-start-requires c = omega (arith, c.requires.root_list.0.inside, c.requires.root_list.2)
-
-pub key_length-size-requires : goal.key_length-size-requires
-key_length-size-requires c = omega (arith, c.requires.root_list.0.inside, c.requires.root_list.2)
-
-pub parent-parent-requires : goal.parent-parent-requires
-parent-parent-requires c = omega (arith, c.requires.root_list.0.inside, c.requires.root_list.2)
-
 pub returns-then-start-size-ne0 : goal.returns-then-start-size-ne0
 returns-then-start-size-ne0 c = record { node_value = λ z. absurd (false≢true z); node_value_2 = λ z. absurd (false≢true z) }
-
-pub low_word-requires : goal.low_word-requires
-low_word-requires c = omega (arith, c.requires.root_list.0.inside, c.requires.root_list.2)
-
-pub high_word-requires : goal.high_word-requires
-high_word-requires c = omega (arith, c.requires.root_list.0.inside, c.requires.root_list.2)
 
 pub returns : goal.returns
 returns c =

@@ -13,17 +13,8 @@ returns-then-node-cursor c = let all = parent_stays c.requires.1 c.if-node-curso
 pub loop-end-init : goal.loop-end-init
 loop-end-init c = cursor_ranged c.requires.1
 
-pub overflow_add-parent : goal.overflow_add-parent
-overflow_add-parent c = omega (arith, next_earlier c.requires.0 c.loop-end.invariant c.loop-end-test.true)
-
 pub child_count-requires : goal.child_count-requires
 child_count-requires c = next_node c.requires.0 c.loop-end.invariant c.loop-end-test.true
-
-pub overflow_add-end : goal.overflow_add-end
-overflow_add-end c = omega (arith, next_inside c.requires.0 c.loop-end.invariant c.loop-end-test.true, c.requires.0.first_in)
-
-pub loop-end-smaller : goal.loop-end-smaller
-loop-end-smaller c = omega (arith, next_earlier c.requires.0 c.loop-end.invariant c.loop-end-test.true)
 
 pub loop-end-preserved : goal.loop-end-preserved
 loop-end-preserved c = next_cursor c.requires.0 c.loop-end.invariant c.loop-end-test.true c.child_count.ensures

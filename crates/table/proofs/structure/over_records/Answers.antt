@@ -24,9 +24,6 @@ pub returns-then-not-record_right : goal.returns-then-not-record_right
 unfolding found
 returns-then-not-record_right c = sym (least_found (record_right c.args.table.now) c.loop-node.node (node_count c.args.table.now) c.loop-node.invariant.2 (sym c.record_right.ensures ∙ not-true _ (ap not c.if-not-record_right.true)) (omega arith))
 
-pub child_count-requires : goal.child_count-requires
-child_count-requires c = omega arith
-
 pub overflow_add-first : goal.overflow_add-first
 overflow_add-first c =
     let w = record_next c.args.table.now c.loop-node.node c.loop-node.first c.child_count.result c.loop-node.invariant.0 c.child_count.ensures c.loop-node.invariant.1 c.loop-node.invariant.2 (sym c.record_right.ensures ∙ not-false _ (ap not c.if-not-record_right.false)) in

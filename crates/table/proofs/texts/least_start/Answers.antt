@@ -7,9 +7,6 @@ use Rattle.table.proofs.Checks.{start_none}
 use borrow.Author.Rules.{rules}
 use Rattle.table.proofs.texts.least_start.Goals as goal
 
-pub overflow_add-least : goal.overflow_add-least
-overflow_add-least c = omega arith
-
 pub loop-map-init : goal.loop-map-init
 loop-map-init c = (start_none c.args.table.now c.args.node, omega arith)
 

@@ -13,9 +13,6 @@ use borrow.Author.Rules.{rules}
 use mathlib.Core.Bool.{not}
 use Rattle.table.proofs.texts.over_texts.Goals as goal
 
-pub loop-node-init : goal.loop-node-init
-loop-node-init c = λ k l. absurd (omega arith)
-
 pub text_right-requires : goal.text_right-requires
 text_right-requires c = (omega arith, c.loop-node.invariant)
 

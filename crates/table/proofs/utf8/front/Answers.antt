@@ -4,9 +4,6 @@ use Rattle.table.proofs.Next.{listed_from, behind_none}
 use borrow.Author.Rules.{rules}
 use Rattle.table.proofs.utf8.front.Goals as goal
 
-pub overflow_sub-size : goal.overflow_sub-size
-overflow_sub-size c = omega arith
-
 pub returns-then-size-lt-SOME : goal.returns-then-size-lt-SOME
 returns-then-size-lt-SOME c = behind_none c.args.table.now c.args.text.now c.args.start c.args.above.end (omega arith) c.requires.begun.right
 
