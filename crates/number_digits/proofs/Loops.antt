@@ -5,8 +5,6 @@ use mathlib.Core.List.{List, [], ◌∷◌, ◌++◌, append_assoc}
 use Prim.Native.Nat.{ℕ, ◌+◌, ◌-◌, ◌*◌, ◌≤◌, ◌<◌, min}
 use native.Mathlib.Nat.{add-zero}
 use native.Mathlib.Omega.{arith}
-use borrow.Author.Tests.{le-leb, lt-leb}
-use lib.Dec.{leb}
 use lib.ListN.{length, drop, get_or, length-append, drop_of_length-le}
 use Rattle.definition.specs.Bytes.{every}
 use Rattle.definition.specs.Lexical.{is_digit_lem}
@@ -14,18 +12,6 @@ use Rattle.definition.specs.Literals.{decimal_from}
 use Rattle.basics.specs.Lists.{drop_at}
 use Rattle.basics.specs.Reads.{StartsNot}
 use Rattle.number_digits.specs.Runs.{limit, DigitRun}
-
--- ---- bytes
-
--- What the two tests of a byte say.
-pub is_digit : (c : ℕ) → 48 ≤ c → c ≤ 57 → is_digit_lem c ≡ true
-is_digit c l h = rw (le-leb 48 c l, le-leb c 57 h) refl
-
-pub below_digits : (c : ℕ) → c < 48 → is_digit_lem c ≡ false
-below_digits c l = ap (λ (t : Bool). t && leb c 57) (lt-leb 48 c l)
-
-pub above_digits : (c : ℕ) → 57 < c → is_digit_lem c ≡ false
-above_digits c l = rw (lt-leb c 57 l, le-leb 48 c (omega arith)) refl
 
 -- ---- one digit more at the end
 

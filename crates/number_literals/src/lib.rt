@@ -13,6 +13,7 @@ use number_digits::LIMIT;
 use number_fives::LEAST;
 
 // An integer, a float by its bits, or a float beyond the range of literals.
+// Three cases as in the definition's numeral: no reader fails at one beyond the range, so a Result would say less.
 #[derive(Clone, Copy)]
 pub enum Literal {
     Int(i64),

@@ -4,35 +4,17 @@ use mathlib.Core.Bool.{Bool, true, false, not, ◌||◌, true≢false}
 use mathlib.Core.List.{List, [], ◌∷◌}
 use mathlib.Core.Logic.{⊎_elim}
 use Prim.Native.Nat.{ℕ, ◌≤◌, ◌<◌}
-use native.Mathlib.Omega.{arith}
 use borrow.Author.Tests.{ne_eqb, eqb-true}
 use lib.Dec.{eqb}
 use lib.ListN.{length, drop, get_or, drop_of_length-le}
-use Rattle.number_integers.specs.Tests.{neither, or_false}
+use Rattle.number_integers.specs.Tests.{neither}
 use Rattle.definition.specs.Lexical.{is_digit_lem, is_e}
 use Rattle.basics.specs.Lists.{drop_at}
 use Rattle.basics.specs.Bools.{or_cases as either}
 use Rattle.basics.specs.Reads.{StartsNot}
 use Rattle.number_digits.specs.Runs.{Is}
-use Rattle.number_digits.proofs.Loops.{is_digit, below_digits, above_digits}
 use Rattle.number_parse.specs.Parts.{is_point, IsLetter}
 use Rattle.number_parse.specs.Numbers.{is_number_char, Ends}
-
--- ---- a byte
-
--- Below the digits only the point counts.
-pub low_char : (c : ℕ) → c < 48 → eqb c 46 ≡ is_number_char c
-low_char c h = rw (below_digits c h, ne_eqb c 101 (omega arith), ne_eqb c 69 (omega arith)) (sym (or_false (eqb c 46)))
-
-pub digit_char : (c : ℕ) → 48 ≤ c → c ≤ 57 → true ≡ is_number_char c
-digit_char c l h = rw (is_digit c l h) refl
-
-pub small_char : (c : ℕ) → c ≡ 101 → true ≡ is_number_char c
-small_char c e = rw e refl
-
--- Above the digits only the two letters count.
-pub high_char : (c : ℕ) → 57 < c → (c ≡ 101 → ⊥) → eqb c 69 ≡ is_number_char c
-high_char c h n = rw (above_digits c h, ne_eqb c 46 (omega arith), ne_eqb c 101 n) refl
 
 -- ---- what a text does not begin with
 

@@ -174,16 +174,7 @@ fn read_exponent(s: &[u8], at: usize) -> Result<ExponentRead, usize>
 fn is_number_char(c: u8) -> bool
     ensures { result ≡ is_number_char c }
 {
-    if c < b'0' {
-        return c == b'.';
-    }
-    if c <= b'9' {
-        return true;
-    }
-    if c == b'e' {
-        return true;
-    }
-    c == b'E'
+    matches!(c, b'.' | b'0'..=b'9' | b'e' | b'E')
 }
 
 // Whether no character that could go on with a number stands at a place.

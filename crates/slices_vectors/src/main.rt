@@ -74,6 +74,7 @@ fn print_place(rt: &impl Print, at: usize) -> io::Result<()> {
 fn print_walk(rt: &impl Print, n: usize, walk: Walk) -> io::Result<()>
     requires { (n ≤ max_nodes) × Inside n walk }
 {
+    // A loop over the walk, which is no iterator: its next place is asked of `slices`.
     let mut w = walk;
     while 0 < w.left {
         print_place(rt, w.at)?;
