@@ -79,9 +79,6 @@ module _ {k : ℕ} {s P P' L L' : List ℕ} {a b : Cursor} {f : ℕ} where
   pub known_paren : Read spell_paren write_paren (λ t. sort_number (sort_paren t)) k s P P' L L' a b f → Known f
   known_paren h = known_read (λ t. omega (arith, sort_small (sort_paren t))) h
 
-  pub known_behind : {n : ℕ} → Read (spell_behind_of n) (write_behind_of n) (behind_of_sort n) k s P P' L L' a b f → Known f
-  known_behind {n} h = known_read (λ t. omega (arith, behind_small n t.tree t refl)) h
-
   pub told_behind : {n : ℕ} → Read (spell_behind_of n) (write_behind_of n) (behind_of_sort n) k s P P' L L' a b f → f ≤ 4
   told_behind {n} h = omega (arith, h.flag, behind_small n h.tree.tree h.tree refl)
 

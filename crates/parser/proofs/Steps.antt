@@ -22,7 +22,6 @@ use Rattle.parser_items.specs.Reads.{Step}
 use Rattle.parser_laws.specs.So.{So, so_reads, so_none}
 use Rattle.parser_laws.specs.Rep.{Rep, behind, rep_more, rep_end, rep_none}
 use Rattle.parser_laws.specs.Joins.{plain, marked, within}
-use Rattle.parser_laws.specs.Loose.{Loosely}
 
 -- ---- room
 
@@ -80,11 +79,6 @@ module _ {T : Type 0} {sp : T → List ℕ → List ℕ} {w : T → Writer} {fl 
   pub loose_spent : {n k : ℕ} {s P P' L L' : List ℕ} {a b : Cursor} {f : ℕ} (h : LooseRead sp w fl n k s P P' L L' a b f) → Spent over a b (w h.tree a.pool) spare
   loose_spent {s = s} {a = a} {b = b} h = spent a.pool s a b (subst (Sized spare over (w h.tree) (drop b.at s)) (sym h.eq) (z h.tree (drop b.at s))) h.from h.to
 
-  pub asks_loose : {x y n k : ℕ} {s P P' L L' : List ℕ} {a b : Cursor} {f : ℕ} → Asks x s P L a → LooseRead sp w fl n k s P P' L L' a b f → over + y ≤ spare + x → Asks y s P' L' b
-  asks_loose st h n =
-      let v = loose_spent h in
-      asks_go st h.done h.from h.to h.utf8 (omega (arith, v.plan, h.from)) (omega (arith, v.pool))
-
 -- ---- the effect of a tree, from the effects of its parts
 
 pub done_is : {P P' L L' : List ℕ} {a b : Cursor} {e e' : Effect} → e' ≡ e → Done P P' L L' a b e → Done P P' L L' a b e'
@@ -123,10 +117,6 @@ pub stay : (a : Cursor) → Moved a a a.at
 stay a = (refl, ((refl, refl), refl))
 
 -- ---- what is read up to blanks
-
-pub loosely_of : {T : Type 0} {sp : T → List ℕ → List ℕ} {w : T → Writer} {fl : T → ℕ} {n k : ℕ} {s P P' L L' : List ℕ} {a b : Cursor} {f : ℕ} (h : LooseRead sp w fl n k s P P' L L' a b f)
-    → Loosely {M = Effect × ℕ} sp (λ t. (w t a.pool, fl t)) (After k) (drop a.at s) h.tree (drop b.at s)
-loosely_of h = record { eq = h.eq; same = h.same; rest = h.rest }
 
 -- ---- *( S sep S item ): what is known at the head of the loop
 

@@ -15,7 +15,7 @@ use Rattle.compile_writes.specs.Effects.{Marks, join_marks, first}
 use Rattle.compile_writes.specs.Sorts.{Sort, value_verdict, nodes_verdict, one_verdict, two_verdict, call_verdict}
 use Rattle.compile_writes.specs.Sorts.Sort.{literal_sort, singular_sort, nodes_sort, value_sort, logical_sort}
 use Rattle.compile_writes.specs.Writes.{call_bytes}
-use Rattle.parser_items.specs.Reads.{sort_of, sort_number, name_of, sorts_from, call_marks, Put, PutMarked}
+use Rattle.parser_items.specs.Reads.{sort_of, name_of, sorts_from, call_marks, Put, PutMarked}
 use Rattle.parser_items.specs.Laws.{Marked, marked_put, marked_then, put_none}
 use Rattle.parser_items.specs.declared.Cursor.{Cursor}
 
@@ -156,10 +156,6 @@ pub judged_put : {P P' : List ℕ} {a b c : Cursor} {v w : ℕ} {x y : List ℕ}
 judged_put e f k p = put_as f (marks_as e) (marked_put k p)
 
 -- ---- flags
-
--- a sort's number is the number of the sort that it stands for
-pub sort_number_lem : (n : ℕ) → n ≤ 4 → n ≡ sort_number (sort_of n)
-sort_number_lem n h = sort_by sort_number n n (λ e. e) (λ e. e) (λ e. e) (λ e. e) (λ e. e) (λ e. absurd (omega arith))
 
 pub not_cond : (b : Bool) → not b ≡ cond b false true
 not_cond true = refl

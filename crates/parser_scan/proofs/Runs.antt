@@ -6,7 +6,7 @@ use mathlib.Core.List.{List, [], ◌∷◌, ◌++◌, append_assoc, append-nil}
 use Prim.Native.Nat.{ℕ, suc, ◌+◌, ◌-◌, ◌≤◌, ◌<◌}
 use native.Mathlib.Nat.{sub_self}
 use native.Mathlib.Omega.{arith}
-use borrow.Author.Tests.{eqb-true, eqb-false}
+use borrow.Author.Tests.{eqb-true}
 use lib.Dec.{eqb}
 use lib.ListN.{length, drop, get_or, length-drop, drop_of_length-le}
 use lib.Seq.{take-suc, get_or-drop}
@@ -21,17 +21,6 @@ use Rattle.utf8_laws.specs.Scan.{front, behind}
 use Rattle.parser_scan.specs.Text.{unblank, Is, Both, Skipped, Run}
 
 -- ---- a byte at a place
-
--- the test of the byte at a place says whether it stands there
-pub is_holds : (s : List ℕ) (a x : ℕ) → a < length s → Is s a x (eqb (get_or s a 0) x)
-is_holds s a x h = go (eqb (get_or s a 0) x) refl
-  where
-    go : (b : Bool) → eqb (get_or s a 0) x ≡ b → Is s a x b
-    go true e = (omega arith, drop_at s a h ∙ ap (λ (c : ℕ). c ∷ drop (a + 1) s) (eqb-true (get_or s a 0) x e))
-    go false e = λ l f.
-        let d = drop_at s a h in
-        let g : get_or s a 0 ≡ x = cc in
-        eqb-false (get_or s a 0) x e g
 
 -- no byte begins the empty text
 pub empty_not : (s : List ℕ) (a : ℕ) {x : ℕ} {l : List ℕ} → length s ≤ a → drop a s ≡ x ∷ l → ⊥
@@ -49,9 +38,6 @@ both_holds s a x y false p q = λ l f.
     let e = p.1 in
     let g : drop (a + 1) s ≡ y ∷ l = cc in
     q l g
-
-pub both_not : (s : List ℕ) (a x y : ℕ) → Is s a x false → Both s a x y false
-both_not s a x y n = λ l f. n (y ∷ l) f
 
 -- ---- runs
 

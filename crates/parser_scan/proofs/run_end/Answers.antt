@@ -1,9 +1,7 @@
 -- `parser_scan::run_end` meets its contract: the loop passes the bytes one by one.
 use mathlib.Core.Path.{sym}
 use native.Mathlib.Omega.{arith}
-use mathlib.Core.Bool.{not}
-use borrow.Author.Tests.{not-true, not-false}
-use Rattle.parser_scan.proofs.Runs.{passing_start, passing_step, passing_stop, passing_end}
+use Rattle.parser_scan.proofs.Runs.{passing_start, passing_step}
 use Rattle.parser_scan.proofs.run_end.Goals as goal
 
 pub loop-i-init : goal.loop-i-init
