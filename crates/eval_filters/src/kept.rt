@@ -278,7 +278,7 @@ fn read_joined(plan: &[u8], left: Atom, q: usize, z: usize) -> Option<Pair>
     Some(Pair { left, join, right })
 }
 
-// Whether a byte is that of `&&` or `||`.
+// Whether a byte is that of `&&` or `||`. Two tests and no range: over `matches!` the check left each case of the clause open.
 fn is_join(k: u8) -> bool
     ensures { result ≡ join_kind k }
 {

@@ -160,6 +160,7 @@ fn not_same(table: &[u8], text: &[u8], pool: &[u8], x: Operand, y: Operand) -> b
 }
 
 // Two values by an operator, given as in the plan: 0-5 for == != < <= > >=.
+// The operator stays a byte: the clause `Compares` says it by `operator_byte`, and an enum would be read from the byte anew for each comparison.
 pub fn compare_values(
     table: &[u8],
     text: &[u8],
