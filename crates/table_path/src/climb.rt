@@ -47,6 +47,7 @@ pub fn path_length(table: &[u8], text: &[u8], node: usize) -> usize
     requires { NodeOf table.now text.now node }
     ensures { result ≡ length (path_of table.now text.now node) }
 {
+    // A loop over n: it climbs from parent to parent, and an iterator of its own would be longer.
     let mut size = 1;
     let mut n = node;
     while 0 < n {
@@ -62,6 +63,7 @@ pub fn write_path(table: &[u8], text: &[u8], node: usize, room: &mut [u8], size:
     requires size_value { (size ≡ length (path_of table.now text.now node)) × (size ≤ length room.old) }
     ensures { room.new ≡ path_of table.now text.now node ++ drop size room.old }
 {
+    // A loop over n, as in `path_length`.
     let mut end = size;
     let mut n = node;
     while 0 < n {

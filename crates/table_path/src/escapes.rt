@@ -74,6 +74,7 @@ pub fn digit_count(index: usize) -> usize
     requires { index < max_nodes }
     ensures { result ≡ length (written index) }
 {
+    // A loop over m: it goes through the digits, which no range counts.
     let mut count = 1;
     let mut m = index;
     while 10 <= m {

@@ -68,6 +68,7 @@ pub fn put_index(room: &mut [u8], end: usize, index: usize) -> usize
     requires { Room room.old end (length (written index)) }
     ensures { Put room.old end (written index) room.new result }
 {
+    // A loop over m: it goes through the digits, which no range counts.
     let mut at = end;
     let mut m = index;
     while 10 <= m {
