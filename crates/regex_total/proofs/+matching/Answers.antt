@@ -1,5 +1,5 @@
 -- The answers of the cycle of calls {both, cuts, matches, pair, row, times}.
-use Prim.Native.Nat.{◌+◌, ◌≤◌}
+use Prim.Native.Nat.{◌≤◌}
 use Rattle.regex_total.proofs.Steps.{pair_both, pair_none, once, tried_start, tried_more, tried_found, tried_last, match_nothing, match_empty, match_then, match_left, match_right, match_short, match_other, match_upto, match_any, times_none, times_enough, times_zero, times_skip, times_empty, times_single, times_halves}
 use native.Mathlib.Omega.{arith}
 use mathlib.Core.Path.{refl}
@@ -105,10 +105,6 @@ matches-times-requires t c = (omega (arith, c.decreases, c.if-code-at.false, c.w
 -- matches
 pub matches-returns-then-k-eq4 : goal.matches-returns-then-k-eq4
 matches-returns-then-k-eq4 t c = match_upto _ _ _ _ c.requires _ c.if-code-at.false c.if-k-eq4.true c.wide-lo.ensures.0 c.wide-hi.ensures.0 c.times.ensures
-
--- matches
-pub matches-overflow_add-lo : goal.matches-overflow_add-lo
-matches-overflow_add-lo t c = omega (arith, c.wide-lo-then-k-eq5.ensures.0, c.type_inv.code (c.args.at + 1), c.well_formed.1.1.0.1, c.requires.end)
 
 -- matches
 pub matches-times-requires-then-k-eq5 : goal.matches-times-requires-then-k-eq5

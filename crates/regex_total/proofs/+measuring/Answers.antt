@@ -1,11 +1,7 @@
 -- The answers of the cycle of calls {copied, in_a_row, looped, measure, one_of}.
-use Rattle.regex_total.proofs.Lengths.{span_short, span_upto, product, capped_both, span_then, span_any, span_nothing, span_empty, span_class, span_other, span_or}
+use Rattle.regex_total.proofs.Lengths.{span_short, span_upto, capped_both, span_then, span_any, span_nothing, span_empty, span_class, span_other, span_or}
 use native.Mathlib.Omega.{arith}
 use Rattle.regex_total.proofs.+measuring.Goals as goal
-
--- copied
-pub copied-overflow_sub-code : goal.copied-overflow_sub-code
-copied-overflow_sub-code t c = omega (arith, c.requires.0)
 
 -- copied
 pub copied-returns-then-code-at-lt3 : goal.copied-returns-then-code-at-lt3
@@ -16,20 +12,8 @@ pub copied-measure-a-requires : goal.copied-measure-a-requires
 copied-measure-a-requires t c = (omega (arith, c.decreases, c.requires.0, c.if-code-at-lt3.false), tt)
 
 -- copied
-pub copied-overflow_mul-a : goal.copied-overflow_mul-a
-copied-overflow_mul-a t c = record { fits = omega (arith, product c.measure-a.result.least c.wide-lo.result c.measure-a.ensures.lo_fits c.wide-lo.ensures.1) }
-
--- copied
-pub copied-overflow_mul-a-then-a-lt2147483648 : goal.copied-overflow_mul-a-then-a-lt2147483648
-copied-overflow_mul-a-then-a-lt2147483648 t c = record { fits = omega (arith, product c.measure-a.result.most c.wide-hi.result c.measure-a.ensures.hi_fits c.wide-hi.ensures.1) }
-
--- copied
 pub copied-returns-then-a-lt2147483648 : goal.copied-returns-then-a-lt2147483648
 copied-returns-then-a-lt2147483648 t c = span_upto _ _ c.requires.0 c.requires.1 c.measure-a.ensures c.wide-lo.ensures.0 c.wide-hi.ensures.0 c.capped.ensures c.capped-then-a-lt2147483648.ensures.fits (capped_both _ c.if-a-lt2147483648.true c.capped-then-a-lt2147483648.ensures)
-
--- copied
-pub copied-overflow_mul-a-2 : goal.copied-overflow_mul-a-2
-copied-overflow_mul-a-2 t c = record { fits = omega (arith, product c.measure-a.result.least c.wide-lo.result c.measure-a.ensures.lo_fits c.wide-lo.ensures.1) }
 
 -- copied
 pub copied-returns : goal.copied-returns
@@ -44,20 +28,8 @@ pub in_a_row-measure-b-requires : goal.in_a_row-measure-b-requires
 in_a_row-measure-b-requires t c = (omega (arith, c.decreases, c.requires.0, c.measure-a.ensures.from), tt)
 
 -- in_a_row
-pub in_a_row-overflow_add-a : goal.in_a_row-overflow_add-a
-in_a_row-overflow_add-a t c = omega (arith, c.measure-a.ensures.lo_fits, c.measure-b.ensures.lo_fits)
-
--- in_a_row
-pub in_a_row-overflow_add-a-2 : goal.in_a_row-overflow_add-a-2
-in_a_row-overflow_add-a-2 t c = omega (arith, c.measure-a.ensures.hi_fits, c.measure-b.ensures.hi_fits)
-
--- in_a_row
 pub in_a_row-returns : goal.in_a_row-returns
 in_a_row-returns t c = span_then _ _ c.requires.0 c.measure-a.ensures c.measure-b.ensures c.requires.1 c.capped.ensures c.capped-2.ensures
-
--- looped
-pub looped-overflow_sub-code : goal.looped-overflow_sub-code
-looped-overflow_sub-code t c = omega (arith, c.requires.0)
 
 -- looped
 pub looped-returns-then-code-at-lt3 : goal.looped-returns-then-code-at-lt3
@@ -66,10 +38,6 @@ looped-returns-then-code-at-lt3 t c = rw c.no_width.ensures (span_short _ _ c.re
 -- looped
 pub looped-measure-a-requires : goal.looped-measure-a-requires
 looped-measure-a-requires t c = (omega (arith, c.decreases, c.requires.0, c.if-code-at-lt3.false), tt)
-
--- looped
-pub looped-overflow_mul-a : goal.looped-overflow_mul-a
-looped-overflow_mul-a t c = record { fits = omega (arith, product c.measure-a.result.least c.wide-lo.result c.measure-a.ensures.lo_fits c.wide-lo.ensures.1) }
 
 -- looped
 pub looped-returns : goal.looped-returns
