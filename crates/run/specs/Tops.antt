@@ -17,7 +17,7 @@ use Rattle.definition.specs.Plans.{start_kind, plan_of, pool_of, code_query, poo
 use Rattle.definition.specs.Tables.{Checked, check_table, node_at, tree}
 use Rattle.definition.specs.Tables.Checked.{accepted, sized, wrong_at, text_at}
 use Rattle.definition.specs.Evaluation.{eval_query, eval_segments, selected}
-use Rattle.definition.specs.TableOutcomes.{TableOutcome, report_table, table_outcome}
+use Rattle.definition.specs.TableOutcomes.{TableOutcome, table_outcome}
 use Rattle.definition.specs.Outcomes.{Translates, spelled, not_spelled, RunOutcome, refuse_run, place, place_from, run_table, run_by, Runs}
 use Rattle.definition.specs.Outcomes.Reading.{form, refused}
 use Rattle.basics.specs.Bools.{and_left, and_right}
