@@ -316,10 +316,7 @@ module _ (n : ℕ) where
   pub refused_late : {x : ℕ} → n % 256 ≡ 0 → x ≡ cond (leb 256 n) 8 0 → x ≡ refusal_of (marks_at n)
   unfolding marks_at
   refused_late e f = rw e f
-
   -- a refusal of the walk is the first
-  pub verdict_first : (w : Refusal) → n % 256 ≢ 0 → (QueryNumber (n % 256) → number_of w ≡ n % 256) → QueryNumber (refusal_of (marks_at n)) → number_of w ≡ refusal_of (marks_at n)
-  verdict_first w h f q = let e = refused_first h in f (subst QueryNumber (sym e) q) ∙ e
 
 -- ---- rooms
 

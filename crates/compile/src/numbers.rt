@@ -1,23 +1,22 @@
 // Why a query is refused, and the number that document 01 gives it. The reader keeps the number.
-ghost use Rattle.std.specs.Prelude.{◌≡◌, ◌↔◌, IfSome, IsNone};
-ghost use Rattle.compile.specs.Outcomes.{QueryNumber, number_of};
+ghost use Rattle.std.specs.Prelude.{◌≡◌, ◌<◌};
+ghost use Rattle.compile.specs.Outcomes.{number_of};
 
 use crate::Refusal;
 
-// The refusal that has a number; none has 0.
-pub fn refusal_of(number: u8) -> Option<Refusal>
-    ensures none { IsNone result ↔ (number ≡ 0) }
-    ensures number { IfSome result (λ refusal. QueryNumber number → number_of refusal ≡ number) }
+// The refusal that has a number.
+pub fn refusal_of(number: u8) -> Refusal
+    requires { (0 < number) × (number < 9) × (number ≡ 7 → ⊥) }
+    ensures { number_of result ≡ number }
 {
     match number {
-        0 => None,
-        1 => Some(Refusal::TooLong),
-        2 => Some(Refusal::NotUtf8),
-        3 => Some(Refusal::TooDeep),
-        4 => Some(Refusal::Malformed),
-        5 => Some(Refusal::Mistyped),
-        6 => Some(Refusal::UnknownFunction),
-        _ => Some(Refusal::BeyondRange),
+        1 => Refusal::TooLong,
+        2 => Refusal::NotUtf8,
+        3 => Refusal::TooDeep,
+        4 => Refusal::Malformed,
+        5 => Refusal::Mistyped,
+        6 => Refusal::UnknownFunction,
+        _ => Refusal::BeyondRange,
     }
 }
 

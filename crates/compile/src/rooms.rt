@@ -100,19 +100,29 @@ pub fn parse(s: &[u8], plan: &mut [u8], pool: &mut [u8]) -> Result<Cursor, usize
     Ok(n)
 }
 
-// "then the first of 4, 5, 6 in the Rust's walk", then 8.
-pub fn verdict(st: Cursor) -> Result<(), Refusal>
-    ensures { QueryNumber (verdict_of st) → number_or_zero result ≡ verdict_of st }
+// "then the first of 4, 5, 6 in the Rust's walk", then 8; 0 for none.
+// A number, since marks of a cursor can stand for more than a query's refusals: `verdict_of` is said of each.
+pub fn verdict(st: Cursor) -> u8
+    ensures { result ≡ verdict_of st }
 {
     let marks = st.marks;
-    if let Some(first) = refusal_of((marks % BEYOND) as u8) {
-        return Err(first);
+    let first = (marks % BEYOND) as u8;
+    if first != 0 {
+        return first;
     }
-    if marks < BEYOND {
-        Ok(())
-    } else {
-        Err(Refusal::BeyondRange)
+    if marks < BEYOND { 0 } else { 8 }
+}
+
+// The refusal that a verdict is the number of.
+pub fn judge(st: Cursor) -> Result<(), Refusal>
+    requires { QueryNumber (verdict_of st) }
+    ensures { number_or_zero result ≡ verdict_of st }
+{
+    let number = verdict(st);
+    if number == 0 {
+        return Ok(());
     }
+    Err(refusal_of(number))
 }
 
 // The first n bytes of one room and the first m of the other, copied where both fit; otherwise both lengths.
@@ -154,7 +164,7 @@ fn compile_in(
     let Ok(st) = parse(&query[0..], room, texts) else {
         return Err(CompileRefusal::Query(Refusal::Malformed));
     };
-    verdict(st)?;
+    judge(st)?;
     deliver(room, st.len, texts, st.pool, plan, pool)
 }
 

@@ -13,7 +13,7 @@ use compile::Refusal;
 use compile::rooms::{
     BRIEF, BRIEF_PLAN_ROOM, BRIEF_POOL_ROOM, MIDDLE, MIDDLE_PLAN_ROOM, MIDDLE_POOL_ROOM, NO_BYTE,
     PLAN_ROOM, POOL_ROOM, SHORT, SHORT_PLAN_ROOM, SHORT_POOL_ROOM, SMALL, SMALL_PLAN_ROOM,
-    SMALL_POOL_ROOM, TINY, TINY_PLAN_ROOM, TINY_POOL_ROOM, early_refusal, parse, verdict,
+    SMALL_POOL_ROOM, TINY, TINY_PLAN_ROOM, TINY_POOL_ROOM, early_refusal, judge, parse,
 };
 use run::{RunRefusal, run_form};
 
@@ -62,7 +62,7 @@ fn select_in<'a>(
     let Ok(st) = parse(query, room, texts) else {
         return Err(SelectRefusal::Query(Refusal::Malformed));
     };
-    verdict(st)?;
+    judge(st)?;
     let plan = &room[..st.len];
     let pool = &texts[..st.pool];
     let count = run_form(plan, pool, table, text, list, start)?;
