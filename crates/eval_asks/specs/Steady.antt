@@ -33,6 +33,10 @@ steady_wrote s n l l' e t =
       same = t;
     }
 
+-- what was written is what stands there
+pub wrote_at : {v : Lent} {s : Numbers} {l : List ℕ} (a : Asked v s l) (n : ℕ) → at_of (with_at s n) ≡ n
+wrote_at a n = refl
+
 -- what is asked at entry is asked later
 pub asked_later : {v : Lent} {s s' : Numbers} {l l' : MutBor (List ℕ)} → Steady s l s' l' → Asked v s l.now → at_of s' ≤ cap_of s + 1 → Asked v s' l'.now
 asked_later k a r =
@@ -48,6 +52,10 @@ module _ {I : Type 0} where
   pub gives_of : (F : I → ℕ → State → State) (s : Numbers) (l : List ℕ) (s' : Numbers) (l' : List ℕ) → ((x : I) → st (cap_of s) l' (at_of s') ≡ F x (root_of s) (st (cap_of s) l (at_of s))) → Gives I F s l s' l'
   gives_of F s l s' l' d =
       record { emits = λ x R C e c. subst (λ (R : ℕ). st C l' (at_of s') ≡ F x R (st C l (at_of s))) e (subst (λ (C : ℕ). st C l' (at_of s') ≡ F x (root_of s) (st C l (at_of s))) c (d x)) }
+
+  -- the same with the next place that was written
+  pub gives_wrote : {v : Lent} (F : I → ℕ → State → State) (s : Numbers) (l l' : List ℕ) (n : ℕ) → Asked v s l → ((x : I) → st (cap_of s) l' n ≡ F x (root_of s) (st (cap_of s) l (at_of s))) → Gives I F s l (with_at s n) l'
+  gives_wrote F s l l' n a d = gives_of F s l (with_at s n) l' d
 
   -- nothing is emitted, and nothing changes
   pub gives_none : (F : I → ℕ → State → State) (s : Numbers) (l : List ℕ) → ((x : I) (R : ℕ) (σ : State) → σ ≡ F x R σ) → Gives I F s l s l

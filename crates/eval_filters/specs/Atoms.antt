@@ -158,6 +158,9 @@ abbrev pub DoneBehind : List ℕ → ℕ → ℕ → Option Behind → Type 0
 DoneBehind P z e None = Unit {0}
 DoneBehind P z e (Some r) = AgainstAt P z e r.op r.next
 
+pub none_behind : (P : List ℕ) (z e : ℕ) → DoneBehind P z e None
+none_behind P z e = tt
+
 -- ---- the test of one member
 
 -- the form of a comparison with a literal of kind k by an operator

@@ -23,6 +23,9 @@ abbrev pub DoneItself : List ℕ → ℕ → ℕ → Option Itself → Type 0
 DoneItself P p z None = Unit {0}
 DoneItself P p z (Some r) = ItselfAt P p z r.form r.op
 
+pub none_itself : (P : List ℕ) (p z : ℕ) → DoneItself P p z None
+none_itself P p z = tt
+
 pub itself_at : {P : List ℕ} {p z op next form : ℕ} → get_or P p 0 ≡ 2 → get_or P (p + 1) 0 ≡ 0x0A → AgainstAt P (p + 2) z op next → next ≡ z → form ≡ form_of (get_or P (p + 2) 0) op → ItselfAt P p z form op
 itself_at {P} {p} {z} {op} {next} {form} a b d e f =
     record { current = a; end_is = b; against = subst (λ (n : ℕ). AgainstAt P (p + 2) z op n) e d; form_is = (form_says (get_or P (p + 2) 0) op form f).1 }

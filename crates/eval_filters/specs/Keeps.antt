@@ -301,6 +301,9 @@ abbrev pub DoneCounts : List ℕ → ℕ → ℕ → Option ℕ → Type 0
 DoneCounts P p z None = Unit {0}
 DoneCounts P p z (Some op) = CountsAt P p z op
 
+pub none_counts : (P : List ℕ) (p z : ℕ) → DoneCounts P p z None
+none_counts P p z = tt
+
 pub counts_at : {P : List ℕ} {p z op next : ℕ} → get_or P p 0 ≡ 2 → Head P (p + 1) 8 → get_or P (p + 1 + 4) 0 ≡ 0x0A → get_or P (p + 1 + 5) 0 ≡ 0x19 → get_or P (p + 1 + 6) 0 ≡ 0x10 → AgainstAt P (p + 1 + 6) z op next → next ≡ z → p + 1 + 6 < length P → CountsAt P p z op
 counts_at {P} {p} {z} {op} {next} a h b c i d e r =
     record {

@@ -141,6 +141,9 @@ abbrev pub DoneOperand : List ℕ → List ℕ → List ℕ → List ℕ → ℕ
 DoneOperand P L S X root node q e None = Unit {0}
 DoneOperand P L S X root node q e (Some r) = Operates P L S X root node q e r
 
+pub operand_none : (P L S X : List ℕ) (root node q e : ℕ) → DoneOperand P L S X root node q e None
+operand_none P L S X root node q e = tt
+
 module _ {P L S X : List ℕ} {root node q e : ℕ} (a : AskOperand P L S X root node q e) where
   pub operand_in : q < length P
   operand_in = todo_in P L q e _ _ a.acc a.x a.y a.want a.todo a.more

@@ -146,3 +146,6 @@ module _ {P L S X : List ℕ} {root node : ℕ} {acc : Bits} {q z : ℕ} (a : As
           further = λ t. omega (arith, leads_low c.path);
           goes = λ t want l. d acc want (subst (λ (x : ℕ). Left P L x z (node_at S X root) (node_at S X node) acc want) (sym i) l);
         }
+
+pub spelled_utf8 : (L : List ℕ) (g : Call) → Spelled L g → is_utf8 (take (g.start + g.size - g.start) (drop g.start L)) ≡ true
+spelled_utf8 L g s = ap is_utf8 (cut L g.start g.size) ∙ s.1

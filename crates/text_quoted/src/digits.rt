@@ -16,7 +16,7 @@ fn hex_value(b: u8) -> Option<u32>
 
 // The number that four digits write.
 fn joined(a: u32, b: u32, c: u32, d: u32) -> u32
-    requires { (a < 16) × (b < 16) × (c < 16) × (d < 16) }
+    requires { (a ≤ 16) × (b ≤ 16) × (c ≤ 16) × (d ≤ 16) }
     ensures { result ≡ ((a * 16 + b) * 16 + c) * 16 + d }
 {
     ((a * 16 + b) * 16 + c) * 16 + d

@@ -24,10 +24,10 @@ pub joined-requires : goal.joined-requires
 joined-requires c =
     let s = c.args.s.now in
     let at = c.args.at in (
-      digit_small (get_or s at 0) c.in_ok-a.a c.in_ok-a.ensures,
-      digit_small (get_or s (at + 1) 0) c.in_ok-b.b c.in_ok-b.ensures,
-      digit_small (get_or s (at + 2) 0) c.in_ok-c.c c.in_ok-c.ensures,
-      digit_small (get_or s (at + 3) 0) c.in_ok-d.d c.in_ok-d.ensures,
+      omega (arith, digit_small (get_or s at 0) c.in_ok-a.a c.in_ok-a.ensures),
+      omega (arith, digit_small (get_or s (at + 1) 0) c.in_ok-b.b c.in_ok-b.ensures),
+      omega (arith, digit_small (get_or s (at + 2) 0) c.in_ok-c.c c.in_ok-c.ensures),
+      omega (arith, digit_small (get_or s (at + 3) 0) c.in_ok-d.d c.in_ok-d.ensures),
     )
 
 pub returns : goal.returns
