@@ -5,11 +5,11 @@ use Rattle.std.proofs.Math.Bool.{and-eq-true_iff}
 use Rattle.definition.specs.Bytes.{every, within}
 use Rattle.definition.specs.Utf8.{encode}
 use Rattle.definition.specs.Lexical.{Blanks, Name, FunctionName, Natural, Digits, Number, Hex4, Text, Slice, Int, Whole, Fraction, Sign, Exponent, Escape, Char, Quote, Bound, Step}
-use Rattle.definition.specs.Lexical.{is_blank, is_digit_lem, is_lcalpha, is_function_char, is_name_char, is_unescaped, is_hex, is_e, name_bytes, own_byte, other_byte}
+use Rattle.definition.specs.Lexical.{is_blank, is_digit, is_lcalpha, is_function_char, is_name_char, is_unescaped, is_hex, is_e, name_bytes, own_byte, other_byte}
 use Rattle.definition.specs.Lexical.{spell_blanks, spell_name, spell_function_name, spell_natural, spell_digits, spell_int, spell_whole, spell_fraction, spell_sign, spell_exponent, spell_number, spell_hex4, spell_escape, spell_char, spell_chars, spell_text, spell_bound, spell_step, spell_slice}
 use Rattle.definition.specs.Lexical.Int.{zero_int, plain_int, minus_int}
 use Rattle.definition.specs.Lexical.Whole.{int_whole, minus_zero}
-use Rattle.definition.specs.Lexical.Fraction.{no_fraction_lem, fraction}
+use Rattle.definition.specs.Lexical.Fraction.{no_fraction, fraction}
 use Rattle.definition.specs.Lexical.Sign.{no_sign, plus_sign, minus_sign}
 use Rattle.definition.specs.Lexical.Exponent.{no_exponent, exponent}
 use Rattle.definition.specs.Lexical.Escape.{short, unicode, pair}
@@ -64,7 +64,7 @@ quiet_one : (x : ℕ) → is_quiet x ≡ true → Quiet (λ c. eqb c x)
 quiet_one x h c e = rw (eqb-true c x e) h
 
 -- digits, letters, and the ranges beyond ASCII
-quiet_digit : Quiet is_digit_lem
+quiet_digit : Quiet is_digit
 quiet_digit c e = quiet_by c (omega (arith, inside_low 0x30 0x39 c e, inside_high 0x30 0x39 c e))
 
 quiet_lower : Quiet is_lcalpha
@@ -107,11 +107,11 @@ function_name t h = skip_run t.more (only_every is_function_char quiet_word t.mo
 -- numbers
 natural : (t : Natural) {n : ℕ} {r : List ℕ} → Low n (spell_natural t r) → Low n r
 natural t h =
-    skip_run t.more (only_every is_digit_lem quiet_digit t.more t.are_more)
+    skip_run t.more (only_every is_digit quiet_digit t.more t.are_more)
     (skip t.first (quiet_by t.first (omega (arith, inside_low 0x31 0x39 t.first t.is_first, inside_high 0x31 0x39 t.first t.is_first))) h)
 
 digits : (t : Digits) {n : ℕ} {r : List ℕ} → Low n (spell_digits t r) → Low n r
-digits t h = skip_run t.more (only_every is_digit_lem quiet_digit t.more t.are_more) (skip t.first (quiet_digit t.first t.is_first) h)
+digits t h = skip_run t.more (only_every is_digit quiet_digit t.more t.are_more) (skip t.first (quiet_digit t.first t.is_first) h)
 
 pub int : (t : Int) {n : ℕ} {r : List ℕ} → Low n (spell_int t r) → Low n r
 int zero_int h = skip 0x30 refl h
@@ -123,7 +123,7 @@ whole (int_whole i) h = int i h
 whole minus_zero h = skip 0x30 refl (skip 0x2D refl h)
 
 frac : (t : Fraction) {n : ℕ} {r : List ℕ} → Low n (spell_fraction t r) → Low n r
-frac no_fraction_lem h = h
+frac no_fraction h = h
 frac (fraction d) h = digits d (skip 0x2E refl h)
 
 sign : (t : Sign) {n : ℕ} {r : List ℕ} → Low n (spell_sign t r) → Low n r

@@ -8,8 +8,8 @@ use Rattle.std.specs.Float.Ieee.Bits.{to_bits-lt}
 use Rattle.std.specs.Float.Ieee.Fits.{round-fits}
 use Rattle.definition.specs.Bytes.{every, within}
 use Rattle.definition.specs.Utf8.{is_utf8, is_utf8_from, encode_all, is_scalar}
-use Rattle.definition.specs.Lexical.{Name, Hex4, Escape, Char, Quote, Text, Number, Fraction, Exponent, is_hex, is_digit_lem, is_short, is_high, is_low, hex_value, hex4_value, name_bytes, own_byte, other_byte}
-use Rattle.definition.specs.Lexical.Fraction.{no_fraction_lem, fraction}
+use Rattle.definition.specs.Lexical.{Name, Hex4, Escape, Char, Quote, Text, Number, Fraction, Exponent, is_hex, is_digit, is_short, is_high, is_low, hex_value, hex4_value, name_bytes, own_byte, other_byte}
+use Rattle.definition.specs.Lexical.Fraction.{no_fraction, fraction}
 use Rattle.definition.specs.Lexical.Exponent.{no_exponent, exponent}
 use Rattle.definition.specs.Lexical.Escape.{short, unicode, pair}
 use Rattle.definition.specs.Lexical.Char.{plain, other_quote, own_quote, escape}
@@ -38,9 +38,9 @@ name_utf8 n =
 
 -- a hexadecimal digit is below 16
 hex_low : (c : ℕ) → is_hex c ≡ true → hex_value c < 16
-hex_low c e = by_test (is_digit_lem c) digit other
+hex_low c e = by_test (is_digit c) digit other
   where
-    digit : is_digit_lem c ≡ true → hex_value c < 16
+    digit : is_digit c ≡ true → hex_value c < 16
     digit d = rw d (omega (arith, inside_high 0x30 0x39 c d))
 
     letter : (within 0x41 0x46 c ≡ true) ⊎ (within 0x61 0x66 c ≡ true) → cond (leb 0x61 c) (c - 0x57) (c - 0x37) < 16
@@ -48,7 +48,7 @@ hex_low c e = by_test (is_digit_lem c) digit other
     letter (inr h) =
         by_test (leb 0x61 c) (λ y. rw y (omega (arith, inside_high 0x61 0x66 c h))) (λ n. absurd (omega (arith, leb-false 0x61 c n, inside_low 0x61 0x66 c h)))
 
-    other : is_digit_lem c ≡ false → hex_value c < 16
+    other : is_digit c ≡ false → hex_value c < 16
     other d = rw d (letter (or_cases (within 0x41 0x46 c) (within 0x61 0x66 c) (rw d at e)))
 
 -- four of them are below 10000
@@ -161,8 +161,8 @@ whole_numeral_lem true n = by (leb n (2 ^ 63)) refl
 -- every number literal
 numeral_of_lem : (s : Bool) (ds : List ℕ) (f : Fraction) (x : Exponent) → RightNumeral (numeral_of s ds f x)
 unfolding numeral_of
-numeral_of_lem s ds no_fraction_lem no_exponent = whole_numeral_lem s _
-numeral_of_lem s ds no_fraction_lem (exponent e h g d) = float_numeral_lem s _ _
+numeral_of_lem s ds no_fraction no_exponent = whole_numeral_lem s _
+numeral_of_lem s ds no_fraction (exponent e h g d) = float_numeral_lem s _ _
 numeral_of_lem s ds (fraction f) x = float_numeral_lem s _ _
 
 pub numeral_right : (n : Number) → RightNumeral (numeral n)

@@ -7,24 +7,24 @@ use Rattle.definition.specs.Lexical.{name_bytes, function_bytes}
 use Rattle.definition.specs.Literals.{text_bytes}
 use Rattle.definition.specs.Grammar as G
 use Rattle.definition.specs.Grammar.{spell, spell_segments, spell_segment, spell_bracketed, spell_selectors, spell_selector, spell_logical_or, spell_more_or, spell_logical_and, spell_more_and, spell_basic, spell_paren, spell_test, spell_filter_query, spell_comparable, spell_function, spell_arguments, spell_more_arguments, spell_argument}
-use Rattle.definition.specs.Grammar.Segments.{no_segment, more_segments_lem}
+use Rattle.definition.specs.Grammar.Segments.{no_segment, more_segments}
 use Rattle.definition.specs.Grammar.Segment.{child_brackets, child_wild, child_name, descendant_brackets, descendant_wild, descendant_name}
 use Rattle.definition.specs.Grammar.Bracketed.{bracketed}
-use Rattle.definition.specs.Grammar.Selectors.{no_selector, more_selectors_lem}
+use Rattle.definition.specs.Grammar.Selectors.{no_selector, more_selectors}
 use Rattle.definition.specs.Grammar.Selector.{name_selector, wildcard_selector, slice_selector, index_selector, filter_selector}
-use Rattle.definition.specs.Grammar.LogicalOr.{logical_or_lem}
-use Rattle.definition.specs.Grammar.MoreOr.{no_or_lem, more_or_lem}
-use Rattle.definition.specs.Grammar.LogicalAnd.{logical_and_lem}
-use Rattle.definition.specs.Grammar.MoreAnd.{no_and_lem, more_and_lem}
+use Rattle.definition.specs.Grammar.LogicalOr.{logical_or}
+use Rattle.definition.specs.Grammar.MoreOr.{no_or, more_or}
+use Rattle.definition.specs.Grammar.LogicalAnd.{logical_and}
+use Rattle.definition.specs.Grammar.MoreAnd.{no_and, more_and}
 use Rattle.definition.specs.Grammar.Basic.{paren_basic, not_paren, comparison, test_basic, not_test}
 use Rattle.definition.specs.Grammar.Paren.{paren}
 use Rattle.definition.specs.Grammar.Test.{query_test, function_test}
 use Rattle.definition.specs.Grammar.FilterQuery.{rel_query, abs_query}
-use Rattle.definition.specs.Grammar.Comparable.{literal_comparable, singular_comparable, function_comparable_lem}
+use Rattle.definition.specs.Grammar.Comparable.{literal_comparable, singular_comparable, function_comparable}
 use Rattle.definition.specs.Grammar.Function.{function}
 use Rattle.definition.specs.Grammar.Arguments.{no_argument, arguments}
-use Rattle.definition.specs.Grammar.MoreArguments.{no_more, more_arguments_lem}
-use Rattle.definition.specs.Grammar.Argument.{literal_argument_lem, query_argument, logical_argument, function_argument}
+use Rattle.definition.specs.Grammar.MoreArguments.{no_more, more_arguments}
+use Rattle.definition.specs.Grammar.Argument.{literal_argument, query_argument, logical_argument, function_argument}
 use Rattle.definition.specs.Forms as F
 use Rattle.definition.specs.Forms.Test.{both, either}
 use Rattle.definition.specs.QueryForms.{nesting, nesting_segments, nesting_selectors, nesting_selector}
@@ -45,7 +45,7 @@ mutual
 
   pub segments : (t : G.Segments) {n : ℕ} (r : List ℕ) → Low n (spell_segments t r) → Gives (ShallowSegments n) (walk_segments t)
   segments no_segment {n} r h = gives {x = F.Segments.end} (omega (arith, low h))
-  segments (more_segments_lem b x xs) {n} r h =
+  segments (more_segments b x xs) {n} r h =
       let k = blanks b h in
       then (segment x _ k) (λ s hs. then (segments xs _ (P.segment x k)) (λ q hq. gives (hs q hq)))
 
@@ -65,7 +65,7 @@ mutual
 
   pub selectors : (t : G.Selectors) (s : F.Selector) {n : ℕ} (r : List ℕ) → Low n (spell_selectors t r) → ShallowSelector n s → Gives (ShallowSelectors n) (walk_selectors t s)
   selectors no_selector s {n} r h hs = gives hs
-  selectors (more_selectors_lem b c x xs) s {n} r h hs =
+  selectors (more_selectors b c x xs) s {n} r h hs =
       let k = blanks c (skip 0x2C refl (blanks b h)) in
       then (selector x _ k) (λ t ht. then (selectors xs t _ (P.selector x k) ht) (λ ss hss. gives {x = F.Selectors.and s ss} (omega arith)))
 
@@ -77,21 +77,21 @@ mutual
   selector (filter_selector b e) {n} r h = then (or_expr e true _ (blanks b (skip 0x3F refl h))) (λ x hx. gives (shallow_filter n x hx))
 
   pub or_expr : (t : G.LogicalOr) (a : Bool) {n : ℕ} (r : List ℕ) → Low n (spell_logical_or t r) → Gives (Shallow 3 n) (walk_or t a)
-  or_expr (logical_or_lem x xs) a {n} r h = then (and_expr x a _ h) (λ e he. ors xs a e _ (P.and_expr x h) (shallow_more 2 3 n e (omega arith) he))
+  or_expr (logical_or x xs) a {n} r h = then (and_expr x a _ h) (λ e he. ors xs a e _ (P.and_expr x h) (shallow_more 2 3 n e (omega arith) he))
 
   pub ors : (t : G.MoreOr) (a : Bool) (e : Expression) {n : ℕ} (r : List ℕ) → Low n (spell_more_or t r) → Shallow 3 n e → Gives (Shallow 3 n) (walk_more_or t a e)
-  ors no_or_lem a e {n} r h he = gives he
-  ors (more_or_lem b c x xs) a e {n} r h he =
+  ors no_or a e {n} r h he = gives he
+  ors (more_or b c x xs) a e {n} r h he =
       let k = blanks c (skip_run (0x7C ∷ 0x7C ∷ []) refl (blanks b h)) in
       then (and_expr x a _ k) (λ d hd. ors xs a (logical (either (as_test e) (as_test d))) _ (P.and_expr x k) (shallow_either n e d he hd))
 
   pub and_expr : (t : G.LogicalAnd) (a : Bool) {n : ℕ} (r : List ℕ) → Low n (spell_logical_and t r) → Gives (Shallow 2 n) (walk_and t a)
-  and_expr (logical_and_lem x xs) a {n} r h =
+  and_expr (logical_and x xs) a {n} r h =
       then (basic x _ h) (λ e he. then (shallow_compared 1 n a e he) (λ f hf. ands xs a f _ (P.basic x h) (shallow_more 1 2 n f (omega arith) hf)))
 
   pub ands : (t : G.MoreAnd) (a : Bool) (e : Expression) {n : ℕ} (r : List ℕ) → Low n (spell_more_and t r) → Shallow 2 n e → Gives (Shallow 2 n) (walk_more_and t a e)
-  ands no_and_lem a e {n} r h he = gives he
-  ands (more_and_lem b c x xs) a e {n} r h he =
+  ands no_and a e {n} r h he = gives he
+  ands (more_and b c x xs) a e {n} r h he =
       let k = blanks c (skip_run (0x26 ∷ 0x26 ∷ []) refl (blanks b h)) in
       then (basic x _ k) (λ d hd. then (shallow_compared 1 n a d hd) (λ f hf. ands xs a (logical (both (as_test e) (as_test f))) _ (P.basic x k) (shallow_both n e f he hf)))
 
@@ -118,7 +118,7 @@ mutual
   pub comparable : (t : G.Comparable) {n : ℕ} (r : List ℕ) → Low n (spell_comparable t r) → Gives (ShallowOperand n) (walk_comparable t)
   comparable (literal_comparable l) {n} r h = then (any (walk_literal l)) (λ x hx. gives (low h))
   comparable (singular_comparable q) {n} r h = then (shallow_singular q) (λ x hx. gives {x = expression (nodes x)} (omega (arith, low h)))
-  comparable (function_comparable_lem f) {n} r h = then (function_call f _ h) (λ x hx. gives (shallow_more 0 3 n x (omega arith) hx))
+  comparable (function_comparable f) {n} r h = then (function_call f _ h) (λ x hx. gives (shallow_more 0 3 n x (omega arith) hx))
 
   pub function_call : (t : G.Function) {n : ℕ} (r : List ℕ) → Low n (spell_function t r) → Gives (Shallow 0 n) (walk_function t)
   function_call (function f b xs c) {n} r h = then (argument_list xs _ (blanks b (open_round (function_name f h)))) (λ os hos. shallow_call n (named (function_bytes f)) os hos)
@@ -129,12 +129,12 @@ mutual
 
   pub furthers : (t : G.MoreArguments) {n : ℕ} (r : List ℕ) → Low n (spell_more_arguments t r) → Gives (ShallowAll n) (walk_more_arguments t)
   furthers no_more {n} r h = gives tt
-  furthers (more_arguments_lem b c x xs) {n} r h =
+  furthers (more_arguments b c x xs) {n} r h =
       let k = blanks c (skip 0x2C refl (blanks b h)) in
       then (argument x _ k) (λ o ho. then (furthers xs _ (P.argument x k)) (λ os hos. gives (ho, hos)))
 
   pub argument : (t : G.Argument) {n : ℕ} (r : List ℕ) → Low n (spell_argument t r) → Gives (ShallowOperand n) (walk_argument t)
-  argument (literal_argument_lem l) {n} r h = then (any (walk_literal l)) (λ x hx. gives (low h))
+  argument (literal_argument l) {n} r h = then (any (walk_literal l)) (λ x hx. gives (low h))
   argument (query_argument q) {n} r h = then (filter_query q _ h) (λ x hx. gives hx)
   argument (logical_argument e) {n} r h = then (or_expr e false _ h) (λ x hx. gives hx)
   argument (function_argument f) {n} r h = then (function_call f _ h) (λ x hx. gives (shallow_more 0 3 n x (omega arith) hx))

@@ -3,24 +3,24 @@
 use Rattle.std.specs.Prelude.{◌≡◌, refl, Bool, true, false}
 use Rattle.definition.specs.Lexical.{name_bytes, function_bytes}
 use Rattle.definition.specs.Grammar as G
-use Rattle.definition.specs.Grammar.Segments.{no_segment, more_segments_lem}
+use Rattle.definition.specs.Grammar.Segments.{no_segment, more_segments}
 use Rattle.definition.specs.Grammar.Segment.{child_brackets, child_wild, child_name, descendant_brackets, descendant_wild, descendant_name}
 use Rattle.definition.specs.Grammar.Bracketed.{bracketed}
-use Rattle.definition.specs.Grammar.Selectors.{no_selector, more_selectors_lem}
+use Rattle.definition.specs.Grammar.Selectors.{no_selector, more_selectors}
 use Rattle.definition.specs.Grammar.Selector.{name_selector, wildcard_selector, slice_selector, index_selector, filter_selector}
-use Rattle.definition.specs.Grammar.LogicalOr.{logical_or_lem}
-use Rattle.definition.specs.Grammar.MoreOr.{no_or_lem, more_or_lem}
-use Rattle.definition.specs.Grammar.LogicalAnd.{logical_and_lem}
-use Rattle.definition.specs.Grammar.MoreAnd.{no_and_lem, more_and_lem}
+use Rattle.definition.specs.Grammar.LogicalOr.{logical_or}
+use Rattle.definition.specs.Grammar.MoreOr.{no_or, more_or}
+use Rattle.definition.specs.Grammar.LogicalAnd.{logical_and}
+use Rattle.definition.specs.Grammar.MoreAnd.{no_and, more_and}
 use Rattle.definition.specs.Grammar.Basic.{paren_basic, not_paren, comparison, test_basic, not_test}
 use Rattle.definition.specs.Grammar.Paren.{paren}
 use Rattle.definition.specs.Grammar.Test.{query_test, function_test}
 use Rattle.definition.specs.Grammar.FilterQuery.{rel_query, abs_query}
-use Rattle.definition.specs.Grammar.Comparable.{literal_comparable, singular_comparable, function_comparable_lem}
+use Rattle.definition.specs.Grammar.Comparable.{literal_comparable, singular_comparable, function_comparable}
 use Rattle.definition.specs.Grammar.Function.{function}
 use Rattle.definition.specs.Grammar.Arguments.{no_argument, arguments}
-use Rattle.definition.specs.Grammar.MoreArguments.{no_more, more_arguments_lem}
-use Rattle.definition.specs.Grammar.Argument.{literal_argument_lem, query_argument, logical_argument, function_argument}
+use Rattle.definition.specs.Grammar.MoreArguments.{no_more, more_arguments}
+use Rattle.definition.specs.Grammar.Argument.{literal_argument, query_argument, logical_argument, function_argument}
 use Rattle.definition.specs.Forms as F
 use Rattle.definition.specs.Forms.Test.{both, either}
 use Rattle.definition.specs.QueryForms.{query_right, segments_right, selectors_right, selector_right}
@@ -38,7 +38,7 @@ mutual
 
   pub segments : (t : G.Segments) → Gives (λ q. segments_right q ≡ true) (walk_segments t)
   segments no_segment = gives refl
-  segments (more_segments_lem b x xs) = then (segment x) (λ s hs. then (segments xs) (λ q hq. gives (hs q hq)))
+  segments (more_segments b x xs) = then (segment x) (λ s hs. then (segments xs) (λ q hq. gives (hs q hq)))
 
   pub segment : (t : G.Segment) → Gives (λ s. (q : F.Segments) → segments_right q ≡ true → segments_right (s q) ≡ true) (walk_segment t)
   segment (child_brackets x) = then (brackets x) (λ ss hs. gives {x = F.Segments.child ss} (λ q hq. and_both (selectors_right ss) (segments_right q) hs hq))
@@ -53,7 +53,7 @@ mutual
 
   pub selectors : (t : G.Selectors) (s : F.Selector) → selector_right s ≡ true → Gives (λ ss. selectors_right ss ≡ true) (walk_selectors t s)
   selectors no_selector s hs = gives hs
-  selectors (more_selectors_lem b c x xs) s hs = then (selector x) (λ t ht. then (selectors xs t ht) (λ ss hss. gives {x = F.Selectors.and s ss} (and_both (selector_right s) (selectors_right ss) hs hss)))
+  selectors (more_selectors b c x xs) s hs = then (selector x) (λ t ht. then (selectors xs t ht) (λ ss hss. gives {x = F.Selectors.and s ss} (and_both (selector_right s) (selectors_right ss) hs hss)))
 
   pub selector : (t : G.Selector) → Gives (λ s. selector_right s ≡ true) (walk_selector t)
   selector (name_selector t) = gives (text_utf8 t)
@@ -63,18 +63,18 @@ mutual
   selector (filter_selector b e) = then (or_expr e true) (λ x hx. gives (right_test x hx))
 
   pub or_expr : (t : G.LogicalOr) (a : Bool) → Gives RightExpression (walk_or t a)
-  or_expr (logical_or_lem x xs) a = then (and_expr x a) (λ e he. ors xs a e he)
+  or_expr (logical_or x xs) a = then (and_expr x a) (λ e he. ors xs a e he)
 
   pub ors : (t : G.MoreOr) (a : Bool) (e : Expression) → RightExpression e → Gives RightExpression (walk_more_or t a e)
-  ors no_or_lem a e he = gives he
-  ors (more_or_lem b c x xs) a e he = then (and_expr x a) (λ d hd. ors xs a (logical (either (as_test e) (as_test d))) (right_either e d he hd))
+  ors no_or a e he = gives he
+  ors (more_or b c x xs) a e he = then (and_expr x a) (λ d hd. ors xs a (logical (either (as_test e) (as_test d))) (right_either e d he hd))
 
   pub and_expr : (t : G.LogicalAnd) (a : Bool) → Gives RightExpression (walk_and t a)
-  and_expr (logical_and_lem x xs) a = then (basic x) (λ e he. then (right_compared a e he) (λ f hf. ands xs a f hf))
+  and_expr (logical_and x xs) a = then (basic x) (λ e he. then (right_compared a e he) (λ f hf. ands xs a f hf))
 
   pub ands : (t : G.MoreAnd) (a : Bool) (e : Expression) → RightExpression e → Gives RightExpression (walk_more_and t a e)
-  ands no_and_lem a e he = gives he
-  ands (more_and_lem b c x xs) a e he = then (basic x) (λ d hd. then (right_compared a d hd) (λ f hf. ands xs a (logical (both (as_test e) (as_test f))) (right_both e f he hf)))
+  ands no_and a e he = gives he
+  ands (more_and b c x xs) a e he = then (basic x) (λ d hd. then (right_compared a d hd) (λ f hf. ands xs a (logical (both (as_test e) (as_test f))) (right_both e f he hf)))
 
   pub basic : (t : G.Basic) → Gives RightExpression (walk_basic t)
   basic (paren_basic p) = parens p
@@ -98,7 +98,7 @@ mutual
   pub comparable : (t : G.Comparable) → Gives RightOperand (walk_comparable t)
   comparable (literal_comparable l) = then (right_literal l) (λ x hx. gives hx)
   comparable (singular_comparable q) = then (right_singular q) (λ x hx. gives hx)
-  comparable (function_comparable_lem f) = then (function_call f) (λ x hx. gives hx)
+  comparable (function_comparable f) = then (function_call f) (λ x hx. gives hx)
 
   pub function_call : (t : G.Function) → Gives RightExpression (walk_function t)
   function_call (function f b xs c) = then (argument_list xs) (λ os hos. right_call (named (function_bytes f)) os hos)
@@ -109,10 +109,10 @@ mutual
 
   pub furthers : (t : G.MoreArguments) → Gives RightAll (walk_more_arguments t)
   furthers no_more = gives tt
-  furthers (more_arguments_lem b c x xs) = then (argument x) (λ o ho. then (furthers xs) (λ os hos. gives (ho, hos)))
+  furthers (more_arguments b c x xs) = then (argument x) (λ o ho. then (furthers xs) (λ os hos. gives (ho, hos)))
 
   pub argument : (t : G.Argument) → Gives RightOperand (walk_argument t)
-  argument (literal_argument_lem l) = then (right_literal l) (λ x hx. gives hx)
+  argument (literal_argument l) = then (right_literal l) (λ x hx. gives hx)
   argument (query_argument q) = then (filter_query q) (λ x hx. gives hx)
   argument (logical_argument e) = then (or_expr e false) (λ x hx. gives hx)
   argument (function_argument f) = then (function_call f) (λ x hx. gives hx)

@@ -13,7 +13,7 @@ use Rattle.regex_definition.specs.Scope.{Scope, whole, part}
 use Rattle.definition.specs.Forms as F
 use Rattle.definition.specs.Forms.{is_singular}
 use Rattle.definition.specs.Forms.Test.{compare, regex, both, either}
-use Rattle.definition.specs.QueryForms.{literal_right, bound_right, query_right, segments_right, selectors_right, selector_right, test_right, argument_right_lem, function_right}
+use Rattle.definition.specs.QueryForms.{literal_right, bound_right, query_right, segments_right, selectors_right, selector_right, test_right, argument_right, function_right}
 use Rattle.definition.specs.Walk.{Walked, Expression, Operand, Named, as_test, negated, compared, as_nodes, as_value, only, as_regex, call, walk_int, walk_bound, walk_step, walk_slice, walk_numeral, walk_literal, walk_singular_segment, walk_singular_segments, walk_singular}
 use Rattle.definition.specs.Walk.Expression.{nodes, valued, logical}
 use Rattle.definition.specs.Walk.Operand.{constant, expression}
@@ -74,8 +74,8 @@ right_compared false (logical t) h = gives h
 -- ---- operands and functions
 
 -- a query is taken for a value only where it is singular
-pub right_value : (o : Operand) → RightOperand o → Gives (λ a. argument_right_lem a ≡ true) (as_value o)
-unfolding as_value argument_right_lem
+pub right_value : (o : Operand) → RightOperand o → Gives (λ a. argument_right a ≡ true) (as_value o)
+unfolding as_value argument_right
 right_value (constant l) h = gives h
 right_value (expression (nodes q)) h = tested (is_singular q) (F.Argument.singular q) 5 (λ e. and_both (is_singular q) (query_right q) e h)
 right_value (expression (valued f)) h = gives h
@@ -90,9 +90,9 @@ right_nodes (expression (valued f)) h = nothing
 right_nodes (expression (logical t)) h = nothing
 
 -- a comparison
-pub right_compare : (o : F.Operator) (a b : F.Argument) → argument_right_lem a ≡ true → argument_right_lem b ≡ true → test_right (compare o a b) ≡ true
+pub right_compare : (o : F.Operator) (a b : F.Argument) → argument_right a ≡ true → argument_right b ≡ true → test_right (compare o a b) ≡ true
 unfolding test_right
-right_compare o a b h k = and_both (argument_right_lem a) (argument_right_lem b) h k
+right_compare o a b h k = and_both (argument_right a) (argument_right b) h k
 
 -- the one argument of a function, and the two of match and search
 right_only : {A : Type 0} {P : A → Type 0} (f : Operand → Walked A) → ((o : Operand) → RightOperand o → Gives P (f o)) → (os : List Operand) → RightAll os → Gives P (only os f)
@@ -105,7 +105,7 @@ right_regex : (s : Scope) (os : List Operand) → RightAll os → Gives RightExp
 unfolding as_regex test_right
 right_regex s [] h = nothing
 right_regex s (x ∷ []) h = nothing
-right_regex s (x ∷ y ∷ []) h = then (right_value x h.0) (λ a ha. then (right_value y h.1.0) (λ b hb. gives {x = logical (regex s a b)} (and_both (argument_right_lem a) (argument_right_lem b) ha hb)))
+right_regex s (x ∷ y ∷ []) h = then (right_value x h.0) (λ a ha. then (right_value y h.1.0) (λ b hb. gives {x = logical (regex s a b)} (and_both (argument_right a) (argument_right b) ha hb)))
 right_regex s (x ∷ y ∷ z ∷ xs) h = nothing
 
 -- a call

@@ -10,24 +10,24 @@ use Rattle.definition.specs.Grammar.SingularSegment.{name_segment, dot_segment, 
 use Rattle.definition.specs.Grammar.SingularSegments.{no_singular, more_singular}
 use Rattle.definition.specs.Grammar.Singular.{rel_singular, abs_singular}
 use Rattle.definition.specs.Grammar.Literal.{number_literal, text_literal, true_literal, false_literal, null_literal}
-use Rattle.definition.specs.Grammar.Segments.{no_segment, more_segments_lem}
+use Rattle.definition.specs.Grammar.Segments.{no_segment, more_segments}
 use Rattle.definition.specs.Grammar.Segment.{child_brackets, child_wild, child_name, descendant_brackets, descendant_wild, descendant_name}
 use Rattle.definition.specs.Grammar.Bracketed.{bracketed}
-use Rattle.definition.specs.Grammar.Selectors.{no_selector, more_selectors_lem}
+use Rattle.definition.specs.Grammar.Selectors.{no_selector, more_selectors}
 use Rattle.definition.specs.Grammar.Selector.{name_selector, wildcard_selector, slice_selector, index_selector, filter_selector}
-use Rattle.definition.specs.Grammar.LogicalOr.{logical_or_lem}
-use Rattle.definition.specs.Grammar.MoreOr.{no_or_lem, more_or_lem}
-use Rattle.definition.specs.Grammar.LogicalAnd.{logical_and_lem}
-use Rattle.definition.specs.Grammar.MoreAnd.{no_and_lem, more_and_lem}
+use Rattle.definition.specs.Grammar.LogicalOr.{logical_or}
+use Rattle.definition.specs.Grammar.MoreOr.{no_or, more_or}
+use Rattle.definition.specs.Grammar.LogicalAnd.{logical_and}
+use Rattle.definition.specs.Grammar.MoreAnd.{no_and, more_and}
 use Rattle.definition.specs.Grammar.Basic.{paren_basic, not_paren, comparison, test_basic, not_test}
 use Rattle.definition.specs.Grammar.Paren.{paren}
 use Rattle.definition.specs.Grammar.Test.{query_test, function_test}
 use Rattle.definition.specs.Grammar.FilterQuery.{rel_query, abs_query}
-use Rattle.definition.specs.Grammar.Comparable.{literal_comparable, singular_comparable, function_comparable_lem}
+use Rattle.definition.specs.Grammar.Comparable.{literal_comparable, singular_comparable, function_comparable}
 use Rattle.definition.specs.Grammar.Function.{function}
 use Rattle.definition.specs.Grammar.Arguments.{no_argument, arguments}
-use Rattle.definition.specs.Grammar.MoreArguments.{no_more, more_arguments_lem}
-use Rattle.definition.specs.Grammar.Argument.{literal_argument_lem, query_argument, logical_argument, function_argument}
+use Rattle.definition.specs.Grammar.MoreArguments.{no_more, more_arguments}
+use Rattle.definition.specs.Grammar.Argument.{literal_argument, query_argument, logical_argument, function_argument}
 use Rattle.regex_definition.specs.Scope.{Scope, whole, part}
 use Rattle.definition.specs.Forms as F
 use Rattle.definition.specs.Forms.{is_singular}
@@ -192,7 +192,7 @@ mutual
 
   segments_keeps : (x : G.Segments) → Keeps (walk_segments x)
   segments_keeps no_segment = tt
-  segments_keeps (more_segments_lem b x xs) = next_keeps (walk_segment x) _ (segment_keeps x) (λ s. then_fine (walk_segments xs) (λ q. s q) (segments_keeps xs))
+  segments_keeps (more_segments b x xs) = next_keeps (walk_segment x) _ (segment_keeps x) (λ s. then_fine (walk_segments xs) (λ q. s q) (segments_keeps xs))
 
   segment_keeps : (x : G.Segment) → Keeps (walk_segment x)
   segment_keeps (child_brackets x) = then_fine (walk_bracketed x) (λ ss. child ss) (bracketed_keeps x)
@@ -207,7 +207,7 @@ mutual
 
   selectors_keeps : (x : G.Selectors) (s : F.Selector) → Keeps (walk_selectors x s)
   selectors_keeps no_selector s = tt
-  selectors_keeps (more_selectors_lem b c x xs) s = next_keeps (walk_selector x) _ (selector_keeps x) (λ t. then_fine (walk_selectors xs t) (λ ss. and s ss) (selectors_keeps xs t))
+  selectors_keeps (more_selectors b c x xs) s = next_keeps (walk_selector x) _ (selector_keeps x) (λ t. then_fine (walk_selectors xs t) (λ ss. and s ss) (selectors_keeps xs t))
 
   selector_keeps : (x : G.Selector) → Keeps (walk_selector x)
   selector_keeps (name_selector t) = tt
@@ -217,18 +217,18 @@ mutual
   selector_keeps (filter_selector b e) = then_fine (walk_or e true) (λ x. filter (as_test x)) (or_keeps e true)
 
   or_keeps : (x : G.LogicalOr) (a : Bool) → Keeps (walk_or x a)
-  or_keeps (logical_or_lem x xs) a = next_keeps (walk_and x a) _ (and_keeps x a) (λ e. more_or_keeps xs a e)
+  or_keeps (logical_or x xs) a = next_keeps (walk_and x a) _ (and_keeps x a) (λ e. more_or_keeps xs a e)
 
   more_or_keeps : (x : G.MoreOr) (a : Bool) (e : Expression) → Keeps (walk_more_or x a e)
-  more_or_keeps no_or_lem a e = tt
-  more_or_keeps (more_or_lem b c x xs) a e = next_keeps (walk_and x a) _ (and_keeps x a) (λ d. more_or_keeps xs a (logical (either (as_test e) (as_test d))))
+  more_or_keeps no_or a e = tt
+  more_or_keeps (more_or b c x xs) a e = next_keeps (walk_and x a) _ (and_keeps x a) (λ d. more_or_keeps xs a (logical (either (as_test e) (as_test d))))
 
   and_keeps : (x : G.LogicalAnd) (a : Bool) → Keeps (walk_and x a)
-  and_keeps (logical_and_lem x xs) a = next_keeps (walk_basic x) _ (basic_keeps x) (λ e. next_keeps (compared a e) _ (compared_keeps a e) (λ f. more_and_keeps xs a f))
+  and_keeps (logical_and x xs) a = next_keeps (walk_basic x) _ (basic_keeps x) (λ e. next_keeps (compared a e) _ (compared_keeps a e) (λ f. more_and_keeps xs a f))
 
   more_and_keeps : (x : G.MoreAnd) (a : Bool) (e : Expression) → Keeps (walk_more_and x a e)
-  more_and_keeps no_and_lem a e = tt
-  more_and_keeps (more_and_lem b c x xs) a e = next_keeps (walk_basic x) _ (basic_keeps x) (λ d. next_keeps (compared a d) _ (compared_keeps a d) (λ f. more_and_keeps xs a (logical (both (as_test e) (as_test f)))))
+  more_and_keeps no_and a e = tt
+  more_and_keeps (more_and b c x xs) a e = next_keeps (walk_basic x) _ (basic_keeps x) (λ d. next_keeps (compared a d) _ (compared_keeps a d) (λ f. more_and_keeps xs a (logical (both (as_test e) (as_test f)))))
 
   basic_keeps : (x : G.Basic) → Keeps (walk_basic x)
   basic_keeps (paren_basic p) = paren_keeps p
@@ -254,7 +254,7 @@ mutual
   comparable_keeps : (x : G.Comparable) → Keeps (walk_comparable x)
   comparable_keeps (literal_comparable l) = then_fine (walk_literal l) (λ x. constant x) (literal_keeps l)
   comparable_keeps (singular_comparable q) = then_fine (walk_singular q) (λ x. expression (nodes x)) (singular_keeps q)
-  comparable_keeps (function_comparable_lem f) = then_fine (walk_function f) (λ x. expression x) (function_keeps f)
+  comparable_keeps (function_comparable f) = then_fine (walk_function f) (λ x. expression x) (function_keeps f)
 
   function_keeps : (x : G.Function) → Keeps (walk_function x)
   function_keeps (function n b xs c) = next_keeps (walk_arguments xs) _ (arguments_keeps xs) (λ os. call_keeps (named (function_bytes n)) os)
@@ -265,10 +265,10 @@ mutual
 
   more_arguments_keeps : (x : G.MoreArguments) → Keeps (walk_more_arguments x)
   more_arguments_keeps no_more = tt
-  more_arguments_keeps (more_arguments_lem b c x xs) = next_keeps (walk_argument x) _ (argument_keeps x) (λ o. then_fine (walk_more_arguments xs) (λ os. o ∷ os) (more_arguments_keeps xs))
+  more_arguments_keeps (more_arguments b c x xs) = next_keeps (walk_argument x) _ (argument_keeps x) (λ o. then_fine (walk_more_arguments xs) (λ os. o ∷ os) (more_arguments_keeps xs))
 
   argument_keeps : (x : G.Argument) → Keeps (walk_argument x)
-  argument_keeps (literal_argument_lem l) = then_fine (walk_literal l) (λ x. constant x) (literal_keeps l)
+  argument_keeps (literal_argument l) = then_fine (walk_literal l) (λ x. constant x) (literal_keeps l)
   argument_keeps (query_argument q) = then_fine (walk_filter_query q) (λ x. expression (nodes x)) (filter_query_keeps q)
   argument_keeps (logical_argument e) = then_fine (walk_or e false) (λ x. expression x) (or_keeps e false)
   argument_keeps (function_argument f) = then_fine (walk_function f) (λ x. expression x) (function_keeps f)

@@ -6,24 +6,24 @@ use Rattle.std.proofs.lemmas.Bool.{false≢true}
 use Rattle.definition.specs.Lexical.{function_bytes, name_bytes}
 use Rattle.definition.specs.Literals.{text_bytes}
 use Rattle.definition.specs.Grammar as G
-use Rattle.definition.specs.Grammar.Segments.{no_segment, more_segments_lem}
+use Rattle.definition.specs.Grammar.Segments.{no_segment, more_segments}
 use Rattle.definition.specs.Grammar.Segment.{child_brackets, child_wild, child_name, descendant_brackets, descendant_wild, descendant_name}
 use Rattle.definition.specs.Grammar.Bracketed.{bracketed}
-use Rattle.definition.specs.Grammar.Selectors.{no_selector, more_selectors_lem}
+use Rattle.definition.specs.Grammar.Selectors.{no_selector, more_selectors}
 use Rattle.definition.specs.Grammar.Selector.{name_selector, wildcard_selector, slice_selector, index_selector, filter_selector}
-use Rattle.definition.specs.Grammar.LogicalOr.{logical_or_lem}
-use Rattle.definition.specs.Grammar.MoreOr.{no_or_lem, more_or_lem}
-use Rattle.definition.specs.Grammar.LogicalAnd.{logical_and_lem}
-use Rattle.definition.specs.Grammar.MoreAnd.{no_and_lem, more_and_lem}
+use Rattle.definition.specs.Grammar.LogicalOr.{logical_or}
+use Rattle.definition.specs.Grammar.MoreOr.{no_or, more_or}
+use Rattle.definition.specs.Grammar.LogicalAnd.{logical_and}
+use Rattle.definition.specs.Grammar.MoreAnd.{no_and, more_and}
 use Rattle.definition.specs.Grammar.Basic.{paren_basic, not_paren, comparison, test_basic, not_test}
 use Rattle.definition.specs.Grammar.Paren.{paren}
 use Rattle.definition.specs.Grammar.Test.{query_test, function_test}
 use Rattle.definition.specs.Grammar.FilterQuery.{rel_query, abs_query}
-use Rattle.definition.specs.Grammar.Comparable.{literal_comparable, singular_comparable, function_comparable_lem}
+use Rattle.definition.specs.Grammar.Comparable.{literal_comparable, singular_comparable, function_comparable}
 use Rattle.definition.specs.Grammar.Function.{function}
 use Rattle.definition.specs.Grammar.Arguments.{no_argument, arguments}
-use Rattle.definition.specs.Grammar.MoreArguments.{no_more, more_arguments_lem}
-use Rattle.definition.specs.Grammar.Argument.{literal_argument_lem, query_argument, logical_argument, function_argument}
+use Rattle.definition.specs.Grammar.MoreArguments.{no_more, more_arguments}
+use Rattle.definition.specs.Grammar.Argument.{literal_argument, query_argument, logical_argument, function_argument}
 use Rattle.definition.specs.Forms as F
 use Rattle.definition.specs.Forms.{is_singular, is_singular_selector}
 use Rattle.definition.specs.Forms.Start.{root, current}
@@ -46,7 +46,7 @@ use Rattle.compile_writes.specs.Agreement.{Agrees, fits, knowing, then, after, m
 use Rattle.compile_writes.specs.Codes.{code_expression, pool_expression, sort_expression, code_operand, pool_operand, sort_operand, write_expression}
 use Rattle.compile_writes.specs.Parts.{index_agrees, slice_agrees, literal_agrees, singular_agrees, from_agrees}
 use Rattle.compile_writes.specs.Expressions.{Expresses, Operates, OperatesAll, filters, negates, disjoins, conjoins, opens, compares, calls_agree, more_operands, no_operands}
-use Rattle.compile_writes.specs.Segments.{SelectorsAgree, SegmentAgrees, SegmentsAgree, one_selects, last_selects, more_select, child_agrees, descendant_agrees, child_fits, descendant_fits, no_segments, more_segments, write_selector_form}
+use Rattle.compile_writes.specs.Segments.{SelectorsAgree, SegmentAgrees, SegmentsAgree, one_selects, last_selects, more_select, child_agrees, descendant_agrees, child_fits, descendant_fits, no_segments, segments_agree_on, write_selector_form}
 
 -- ---- from forms to expressions and operands
 
@@ -113,15 +113,15 @@ alone_expresses : (e : Expression) → Expresses (sort_expression e) (seq (write
 alone_expresses e = fits e (seq_skip (write_expression e)) refl
 
 -- behind something logical a chain stays logical
-logical_or : (xs : G.MoreOr) → sort_more_or xs logical_sort ≡ logical_sort
+agrees_by_or : (xs : G.MoreOr) → sort_more_or xs logical_sort ≡ logical_sort
 unfolding sort_more_or
-logical_or no_or_lem = refl
-logical_or (more_or_lem b c x xs) = refl
+agrees_by_or no_or = refl
+agrees_by_or (more_or b c x xs) = refl
 
-logical_and : (xs : G.MoreAnd) → sort_more_and xs logical_sort ≡ logical_sort
+agrees_by_and : (xs : G.MoreAnd) → sort_more_and xs logical_sort ≡ logical_sort
 unfolding sort_more_and
-logical_and no_and_lem = refl
-logical_and (more_and_lem b c x xs) = refl
+agrees_by_and no_and = refl
+agrees_by_and (more_and b c x xs) = refl
 
 -- so the chain goes on from the two operands that it has
 stays_logical : (d : F.Test) (t : Sort → Sort) (g : Sort → Writer) (m : Walked Expression) → t logical_sort ≡ logical_sort
@@ -136,7 +136,7 @@ mutual
 
   pub agrees_segments : (xs : G.Segments) → SegmentsAgree (singular_segments xs) (write_segments xs) (walk_segments xs)
   agrees_segments no_segment = no_segments
-  agrees_segments (more_segments_lem b x xs) = more_segments (agrees_segment x) (agrees_segments xs)
+  agrees_segments (more_segments b x xs) = segments_agree_on (agrees_segment x) (agrees_segments xs)
 
   pub agrees_segment : (x : G.Segment) → SegmentAgrees (singular_segment x) (write_segment x) (walk_segment x)
   agrees_segment (child_brackets x) = child_agrees (agrees_bracketed x)
@@ -153,7 +153,7 @@ mutual
 
   pub agrees_selectors : (xs : G.Selectors) (s : F.Selector) → SelectorsAgree (suc (count_more xs)) (is_singular_selector s && is_alone xs) (seq (write_selector_form s) (write_selectors xs)) (walk_selectors xs s)
   agrees_selectors no_selector s = last_selects s
-  agrees_selectors (more_selectors_lem b c x xs) s =
+  agrees_selectors (more_selectors b c x xs) s =
       after (code_selector s) (pool_selector s) (write_selectors xs) (λ t. next (walk_selectors xs t) (λ ss. fine (and s ss))) (agrees_selector x) (λ t ht.
       more_select s (agrees_selectors xs t))
 
@@ -165,26 +165,26 @@ mutual
   agrees_selector (filter_selector b e) = filters (agrees_or e true)
 
   pub agrees_or : (e : G.LogicalOr) (a : Bool) → Expresses (sort_or_lem e) (write_or_lem e a) (walk_or e a)
-  agrees_or (logical_or_lem x xs) a =
+  agrees_or (logical_or x xs) a =
       then (write_more_or xs (sort_and_lem x) a) (λ e. walk_more_or xs a e) (agrees_and x a) (λ e he.
       from_sort e (sort_more_or xs) (λ s. write_more_or xs s a) (walk_more_or xs a e) he (agrees_more_or xs a e))
 
   pub agrees_more_or : (xs : G.MoreOr) (a : Bool) (e : Expression) → Expresses (sort_more_or xs (sort_expression e)) (seq (write_expression e) (write_more_or xs (sort_expression e) a)) (walk_more_or xs a e)
-  agrees_more_or no_or_lem a e = alone_expresses e
-  agrees_more_or (more_or_lem b c x xs) a e =
+  agrees_more_or no_or a e = alone_expresses e
+  agrees_more_or (more_or b c x xs) a e =
       disjoins e (write_more_or xs logical_sort a) (λ d. walk_more_or xs a d) (agrees_and x a) (λ d.
-      stays_logical d (sort_more_or xs) (λ s. write_more_or xs s a) (walk_more_or xs a (logical d)) (logical_or xs) (agrees_more_or xs a (logical d)))
+      stays_logical d (sort_more_or xs) (λ s. write_more_or xs s a) (walk_more_or xs a (logical d)) (agrees_by_or xs) (agrees_more_or xs a (logical d)))
 
   pub agrees_and : (e : G.LogicalAnd) (a : Bool) → Expresses (sort_and_lem e) (write_and_lem e a) (walk_and e a)
-  agrees_and (logical_and_lem x xs) a =
+  agrees_and (logical_and x xs) a =
       opens a (write_more_and xs (sort_basic x) a) (λ e. walk_more_and xs a e) (agrees_basic x) (λ e he.
       from_sort e (sort_more_and xs) (λ s. write_more_and xs s a) (walk_more_and xs a e) he (agrees_more_and xs a e))
 
   pub agrees_more_and : (xs : G.MoreAnd) (a : Bool) (e : Expression) → Expresses (sort_more_and xs (sort_expression e)) (seq (write_expression e) (write_more_and xs (sort_expression e) a)) (walk_more_and xs a e)
-  agrees_more_and no_and_lem a e = alone_expresses e
-  agrees_more_and (more_and_lem b c x xs) a e =
+  agrees_more_and no_and a e = alone_expresses e
+  agrees_more_and (more_and b c x xs) a e =
       conjoins a e (write_more_and xs logical_sort a) (λ d. walk_more_and xs a d) (agrees_basic x) (λ d.
-      stays_logical d (sort_more_and xs) (λ s. write_more_and xs s a) (walk_more_and xs a (logical d)) (logical_and xs) (agrees_more_and xs a (logical d)))
+      stays_logical d (sort_more_and xs) (λ s. write_more_and xs s a) (walk_more_and xs a (logical d)) (agrees_by_and xs) (agrees_more_and xs a (logical d)))
 
   pub agrees_basic : (e : G.Basic) → Expresses (sort_basic e) (write_basic e) (walk_basic e)
   agrees_basic (paren_basic p) = agrees_paren p
@@ -207,7 +207,7 @@ mutual
   pub agrees_comparable : (x : G.Comparable) → Operates (sort_comparable x) (write_comparable x) (walk_comparable x)
   agrees_comparable (literal_comparable l) = literal_operates l
   agrees_comparable (singular_comparable q) = singular_operates q
-  agrees_comparable (function_comparable_lem f) = expression_operates (agrees_function f)
+  agrees_comparable (function_comparable f) = expression_operates (agrees_function f)
 
   pub agrees_function : (f : G.Function) → Expresses (sort_function f) (write_function f) (walk_function f)
   agrees_function (function n b xs c) = calls_agree (named (function_bytes n)) (agrees_arguments xs)
@@ -218,10 +218,10 @@ mutual
 
   pub agrees_more_arguments : (xs : G.MoreArguments) → OperatesAll (sorts_more xs) (write_more_arguments xs) (walk_more_arguments xs)
   agrees_more_arguments no_more = no_operands
-  agrees_more_arguments (more_arguments_lem b c x xs) = more_operands (agrees_argument x) (agrees_more_arguments xs)
+  agrees_more_arguments (more_arguments b c x xs) = more_operands (agrees_argument x) (agrees_more_arguments xs)
 
   pub agrees_argument : (x : G.Argument) → Operates (sort_argument x) (write_argument x) (walk_argument x)
-  agrees_argument (literal_argument_lem l) = literal_operates l
+  agrees_argument (literal_argument l) = literal_operates l
   agrees_argument (query_argument q) = query_operates (agrees_filter_query q)
   agrees_argument (logical_argument e) = expression_operates (agrees_or e false)
   agrees_argument (function_argument f) = expression_operates (agrees_function f)

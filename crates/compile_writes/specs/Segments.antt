@@ -115,8 +115,8 @@ unfolding body_segments pool_segments is_singular_segments skip translated
 no_segments = fits end refl refl
 
 -- a segment before others
-pub more_segments : {b c : Bool} {f g : Writer} {m : Walked (F.Segments → F.Segments)} {n : Walked F.Segments} → SegmentAgrees b f m → SegmentsAgree c g n
+pub segments_agree_on : {b c : Bool} {f g : Writer} {m : Walked (F.Segments → F.Segments)} {n : Walked F.Segments} → SegmentAgrees b f m → SegmentsAgree c g n
     → SegmentsAgree (b && c) (seq f g) (next m (λ s. next n (λ q. fine (s q))))
-more_segments {b} {g} {n} h i =
+segments_agree_on {b} {g} {n} h i =
     then g (λ s. next n (λ q. fine (s q))) h (λ s l.
     mapped s (before (body_segments (s end)) (pool_segments (s end)) i) (λ q hq. fun_ext (l.code q)) (λ q hq. l.pool q) (λ q hq. l.singular q ∙ ap (λ (d : Bool). b && d) hq))

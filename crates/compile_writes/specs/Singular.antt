@@ -9,10 +9,10 @@ use Rattle.definition.specs.Grammar as G
 use Rattle.definition.specs.Grammar.{spell_segments, spell_segment, spell_singular_segments, spell_singular_segment}
 use Rattle.definition.specs.Grammar.SingularSegment.{name_segment, dot_segment, index_segment}
 use Rattle.definition.specs.Grammar.SingularSegments.{no_singular, more_singular}
-use Rattle.definition.specs.Grammar.Segments.{no_segment, more_segments_lem}
+use Rattle.definition.specs.Grammar.Segments.{no_segment, more_segments}
 use Rattle.definition.specs.Grammar.Segment.{child_brackets, child_wild, child_name, descendant_brackets, descendant_wild, descendant_name}
 use Rattle.definition.specs.Grammar.Bracketed.{bracketed}
-use Rattle.definition.specs.Grammar.Selectors.{no_selector, more_selectors_lem}
+use Rattle.definition.specs.Grammar.Selectors.{no_selector, more_selectors}
 use Rattle.definition.specs.Grammar.Selector.{name_selector, wildcard_selector, slice_selector, index_selector, filter_selector}
 use Rattle.basics.specs.Bools.{and_both, and_left, and_right}
 use Rattle.compile_writes.specs.Effects.{Writer, counted, seq}
@@ -34,7 +34,7 @@ embed_segment (index_segment i) = child_brackets (bracketed no_blanks (index_sel
 
 unfoldable pub embed : G.SingularSegments → G.Segments
 embed no_singular = no_segment
-embed (more_singular b x xs) = more_segments_lem b (embed_segment x) (embed xs)
+embed (more_singular b x xs) = more_segments b (embed_segment x) (embed xs)
 
 -- the spelling stays
 embed_spells_one : (x : G.SingularSegment) (r : List ℕ) → spell_segment (embed_segment x) r ≡ spell_singular_segment x r
@@ -117,9 +117,9 @@ tight_brackets_lem : (b c : Blanks) (x : G.Selector) (xs : G.Selectors)
     → is_empty b ≡ true → is_plain_selector x ≡ true → is_alone xs ≡ true → is_empty c ≡ true → SingularSegmentOf (child_brackets (bracketed b x xs c))
 unfolding is_plain_selector is_alone
 tight_brackets_lem b c (name_selector t) no_selector hb hx hs hc = tight_name b c t hb hc
-tight_brackets_lem b c (name_selector t) (more_selectors_lem d e y ys) hb hx hs hc = absurd (false≢true hs)
+tight_brackets_lem b c (name_selector t) (more_selectors d e y ys) hb hx hs hc = absurd (false≢true hs)
 tight_brackets_lem b c (index_selector i) no_selector hb hx hs hc = tight_index b c i hb hc
-tight_brackets_lem b c (index_selector i) (more_selectors_lem d e y ys) hb hx hs hc = absurd (false≢true hs)
+tight_brackets_lem b c (index_selector i) (more_selectors d e y ys) hb hx hs hc = absurd (false≢true hs)
 tight_brackets_lem b c wildcard_selector xs hb hx hs hc = absurd (false≢true hx)
 tight_brackets_lem b c (slice_selector s) xs hb hx hs hc = absurd (false≢true hx)
 tight_brackets_lem b c (filter_selector d e) xs hb hx hs hc = absurd (false≢true hx)
@@ -147,7 +147,7 @@ pub record SingularOf (xs : G.Segments) : Type 0 where
   pub writes : (p : ℕ) → write_segments xs p ≡ write_singular_segments segments p
 
 -- a segment before others
-join_singular : (b : Blanks) (x : G.Segment) (xs : G.Segments) → SingularSegmentOf x → SingularOf xs → SingularOf (more_segments_lem b x xs)
+join_singular : (b : Blanks) (x : G.Segment) (xs : G.Segments) → SingularSegmentOf x → SingularOf xs → SingularOf (more_segments b x xs)
 unfolding write_segments write_singular_segments
 join_singular b x xs s q =
     record {
@@ -160,7 +160,7 @@ join_singular b x xs s q =
 pub tight_is_singular : (xs : G.Segments) → tight_segments xs ≡ true → SingularOf xs
 unfolding tight_segments write_segments write_singular_segments
 tight_is_singular no_segment h = record { segments = no_singular; spells = λ r. refl; writes = λ p. refl }
-tight_is_singular (more_segments_lem b x xs) h =
+tight_is_singular (more_segments b x xs) h =
     join_singular b x xs (tight_segment_lem x (and_left (tight_segment x) _ h)) (tight_is_singular xs (and_right (tight_segment x) _ h))
 
 -- ---- tight segments are singular as a form
@@ -183,5 +183,5 @@ tight_segment_singular (descendant_name n) h = h
 pub tight_singular : (xs : G.Segments) → tight_segments xs ≡ true → singular_segments xs ≡ true
 unfolding tight_segments singular_segments
 tight_singular no_segment h = refl
-tight_singular (more_segments_lem b x xs) h =
+tight_singular (more_segments b x xs) h =
     and_both (singular_segment x) (singular_segments xs) (tight_segment_singular x (and_left (tight_segment x) _ h)) (tight_singular xs (and_right (tight_segment x) _ h))

@@ -11,24 +11,24 @@ use Rattle.definition.specs.Grammar.SingularSegment.{name_segment, dot_segment, 
 use Rattle.definition.specs.Grammar.SingularSegments.{no_singular, more_singular}
 use Rattle.definition.specs.Grammar.Singular.{rel_singular, abs_singular}
 use Rattle.definition.specs.Grammar.Literal.{number_literal, text_literal, true_literal, false_literal, null_literal}
-use Rattle.definition.specs.Grammar.Segments.{no_segment, more_segments_lem}
+use Rattle.definition.specs.Grammar.Segments.{no_segment, more_segments}
 use Rattle.definition.specs.Grammar.Segment.{child_brackets, child_wild, child_name, descendant_brackets, descendant_wild, descendant_name}
 use Rattle.definition.specs.Grammar.Bracketed.{bracketed}
-use Rattle.definition.specs.Grammar.Selectors.{no_selector, more_selectors_lem}
+use Rattle.definition.specs.Grammar.Selectors.{no_selector, more_selectors}
 use Rattle.definition.specs.Grammar.Selector.{name_selector, wildcard_selector, slice_selector, index_selector, filter_selector}
-use Rattle.definition.specs.Grammar.LogicalOr.{logical_or_lem}
-use Rattle.definition.specs.Grammar.MoreOr.{no_or_lem, more_or_lem}
-use Rattle.definition.specs.Grammar.LogicalAnd.{logical_and_lem}
-use Rattle.definition.specs.Grammar.MoreAnd.{no_and_lem, more_and_lem}
+use Rattle.definition.specs.Grammar.LogicalOr.{logical_or}
+use Rattle.definition.specs.Grammar.MoreOr.{no_or, more_or}
+use Rattle.definition.specs.Grammar.LogicalAnd.{logical_and}
+use Rattle.definition.specs.Grammar.MoreAnd.{no_and, more_and}
 use Rattle.definition.specs.Grammar.Basic.{paren_basic, not_paren, comparison, test_basic, not_test}
 use Rattle.definition.specs.Grammar.Paren.{paren}
 use Rattle.definition.specs.Grammar.Test.{query_test, function_test}
 use Rattle.definition.specs.Grammar.FilterQuery.{rel_query, abs_query}
-use Rattle.definition.specs.Grammar.Comparable.{literal_comparable, singular_comparable, function_comparable_lem}
+use Rattle.definition.specs.Grammar.Comparable.{literal_comparable, singular_comparable, function_comparable}
 use Rattle.definition.specs.Grammar.Function.{function}
 use Rattle.definition.specs.Grammar.Arguments.{no_argument, arguments}
-use Rattle.definition.specs.Grammar.MoreArguments.{no_more, more_arguments_lem}
-use Rattle.definition.specs.Grammar.Argument.{literal_argument_lem, query_argument, logical_argument, function_argument}
+use Rattle.definition.specs.Grammar.MoreArguments.{no_more, more_arguments}
+use Rattle.definition.specs.Grammar.Argument.{literal_argument, query_argument, logical_argument, function_argument}
 use Rattle.definition.specs.Walk.{Named, named, operator_form}
 use Rattle.definition.specs.Walk.Named.{count, value_name, match, search, unknown}
 use Rattle.definition.specs.Plans.{pooled, eight, operator_byte}
@@ -315,7 +315,7 @@ mutual
 
   pub sized_segments : (xs : G.Segments) (r : List ℕ) → Sized 0 0 (write_segments xs) r (spell_segments xs r)
   sized_segments no_segment r = skip_sized
-  sized_segments (more_segments_lem b x xs) r = blanks_sized b (seq_sized (sized_segment x (spell_segments xs r)) (sized_segments xs r))
+  sized_segments (more_segments b x xs) r = blanks_sized b (seq_sized (sized_segment x (spell_segments xs r)) (sized_segments xs r))
 
   pub sized_segment : (x : G.Segment) (r : List ℕ) → Sized 0 0 (write_segment x) r (spell_segment x r)
   sized_segment (child_brackets x) r = loosen 0 (counted_sized 0x03 (count_bracketed x) (sized_bracketed x r)) (omega arith) (omega arith)
@@ -333,7 +333,7 @@ mutual
 
   pub sized_selectors : (xs : G.Selectors) (r : List ℕ) → Sized 0 0 (write_selectors xs) r (spell_selectors xs r)
   sized_selectors no_selector r = skip_sized
-  sized_selectors (more_selectors_lem b c x xs) r =
+  sized_selectors (more_selectors b c x xs) r =
       loosen 1 (seq_sized (sized_selector x (spell_selectors xs r)) (sized_selectors xs r)) (simp length-append (omega arith)) (omega arith)
 
   pub sized_selector : (x : G.Selector) (r : List ℕ) → Sized 0 13 (write_selector x) r (spell_selector x r)
@@ -345,23 +345,23 @@ mutual
       loosen 1 (frame_sized 0x09 (seq_sized (sized_or e true r) (bytes_sized (test_tail (sort_or_lem e)) 3 (test_tail_lem (sort_or_lem e))))) (simp length-append (omega arith)) (omega arith)
 
   pub sized_or : (e : G.LogicalOr) (a : Bool) (r : List ℕ) → Sized 3 0 (write_or_lem e a) r (spell_logical_or e r)
-  sized_or (logical_or_lem x xs) a r = seq_sized (sized_and x a (spell_more_or xs r)) (sized_more_or xs (sort_and_lem x) a r)
+  sized_or (logical_or x xs) a r = seq_sized (sized_and x a (spell_more_or xs r)) (sized_more_or xs (sort_and_lem x) a r)
 
   pub sized_more_or : (xs : G.MoreOr) (s : Sort) (a : Bool) (r : List ℕ) → Sized 0 0 (write_more_or xs s a) r (spell_more_or xs r)
-  sized_more_or no_or_lem s a r = skip_sized
-  sized_more_or (more_or_lem b c x xs) s a r =
+  sized_more_or no_or s a r = skip_sized
+  sized_more_or (more_or b c x xs) s a r =
       loosen 2
       (seq_sized (bytes_sized (test_tail s) 3 (test_tail_lem s))
       (seq_sized (frame_sized 0x17 (seq_sized (sized_and x a (spell_more_or xs r)) (bytes_sized (test_tail (sort_and_lem x)) 3 (test_tail_lem (sort_and_lem x))))) (sized_more_or xs logical_sort a r)))
       (simp length-append (omega arith)) (omega arith)
 
   pub sized_and : (e : G.LogicalAnd) (a : Bool) (r : List ℕ) → Sized 3 0 (write_and_lem e a) r (spell_logical_and e r)
-  sized_and (logical_and_lem x xs) a r =
+  sized_and (logical_and x xs) a r =
       seq_sized (sized_basic x (spell_more_and xs r)) (seq_sized (verdict_sized (compared_verdict_lem a (sort_basic x))) (sized_more_and xs (sort_basic x) a r))
 
   pub sized_more_and : (xs : G.MoreAnd) (s : Sort) (a : Bool) (r : List ℕ) → Sized 0 0 (write_more_and xs s a) r (spell_more_and xs r)
-  sized_more_and no_and_lem s a r = skip_sized
-  sized_more_and (more_and_lem b c x xs) s a r =
+  sized_more_and no_and s a r = skip_sized
+  sized_more_and (more_and b c x xs) s a r =
       loosen 2
       (seq_sized (bytes_sized (test_tail s) 3 (test_tail_lem s))
       (seq_sized (frame_sized 0x16 (seq_sized (sized_basic x (spell_more_and xs r)) (bytes_sized (test_tail (sort_basic x)) 3 (test_tail_lem (sort_basic x)))))
@@ -396,7 +396,7 @@ mutual
   pub sized_comparable : (x : G.Comparable) (r : List ℕ) → Sized 3 0 (write_comparable x) r (spell_comparable x r)
   sized_comparable (literal_comparable l) r = sized_literal l r
   sized_comparable (singular_comparable q) r = sized_singular q r
-  sized_comparable (function_comparable_lem f) r = sized_function f r
+  sized_comparable (function_comparable f) r = sized_function f r
 
   pub sized_function : (f : G.Function) (r : List ℕ) → Sized 3 0 (write_function f) r (spell_function f r)
   sized_function (function n b xs c) r =
@@ -411,11 +411,11 @@ mutual
 
   pub sized_more_arguments : (xs : G.MoreArguments) (r : List ℕ) → Sized 0 0 (write_more_arguments xs) r (spell_more_arguments xs r)
   sized_more_arguments no_more r = skip_sized
-  sized_more_arguments (more_arguments_lem b c x xs) r =
+  sized_more_arguments (more_arguments b c x xs) r =
       loosen 1 (seq_sized (sized_argument x (spell_more_arguments xs r)) (sized_more_arguments xs r)) (simp length-append (omega arith)) (omega arith)
 
   pub sized_argument : (x : G.Argument) (r : List ℕ) → Sized 3 0 (write_argument x) r (spell_argument x r)
-  sized_argument (literal_argument_lem l) r = sized_literal l r
+  sized_argument (literal_argument l) r = sized_literal l r
   sized_argument (query_argument q) r = sized_filter_query q r
   sized_argument (logical_argument e) r = sized_or e false r
   sized_argument (function_argument f) r = sized_function f r

@@ -2,24 +2,24 @@
 use Rattle.std.specs.Prelude.{ℕ, List, [], ◌∷◌, Bool, true, false, cond, ◌&&◌, eqb, length}
 use Rattle.definition.specs.Lexical.{function_bytes, Blanks}
 use Rattle.definition.specs.Grammar as G
-use Rattle.definition.specs.Grammar.Segments.{no_segment, more_segments_lem}
+use Rattle.definition.specs.Grammar.Segments.{no_segment, more_segments}
 use Rattle.definition.specs.Grammar.Segment.{child_brackets, child_wild, child_name, descendant_brackets, descendant_wild, descendant_name}
 use Rattle.definition.specs.Grammar.Bracketed.{bracketed}
-use Rattle.definition.specs.Grammar.Selectors.{no_selector, more_selectors_lem}
+use Rattle.definition.specs.Grammar.Selectors.{no_selector, more_selectors}
 use Rattle.definition.specs.Grammar.Selector.{name_selector, wildcard_selector, slice_selector, index_selector, filter_selector}
-use Rattle.definition.specs.Grammar.LogicalOr.{logical_or_lem}
-use Rattle.definition.specs.Grammar.MoreOr.{no_or_lem, more_or_lem}
-use Rattle.definition.specs.Grammar.LogicalAnd.{logical_and_lem}
-use Rattle.definition.specs.Grammar.MoreAnd.{no_and_lem, more_and_lem}
+use Rattle.definition.specs.Grammar.LogicalOr.{logical_or}
+use Rattle.definition.specs.Grammar.MoreOr.{no_or, more_or}
+use Rattle.definition.specs.Grammar.LogicalAnd.{logical_and}
+use Rattle.definition.specs.Grammar.MoreAnd.{no_and, more_and}
 use Rattle.definition.specs.Grammar.Basic.{paren_basic, not_paren, comparison, test_basic, not_test}
 use Rattle.definition.specs.Grammar.Paren.{paren}
 use Rattle.definition.specs.Grammar.Test.{query_test, function_test}
 use Rattle.definition.specs.Grammar.FilterQuery.{rel_query, abs_query}
-use Rattle.definition.specs.Grammar.Comparable.{literal_comparable, singular_comparable, function_comparable_lem}
+use Rattle.definition.specs.Grammar.Comparable.{literal_comparable, singular_comparable, function_comparable}
 use Rattle.definition.specs.Grammar.Function.{function}
 use Rattle.definition.specs.Grammar.Arguments.{no_argument, arguments}
-use Rattle.definition.specs.Grammar.MoreArguments.{no_more, more_arguments_lem}
-use Rattle.definition.specs.Grammar.Argument.{literal_argument_lem, query_argument, logical_argument, function_argument}
+use Rattle.definition.specs.Grammar.MoreArguments.{no_more, more_arguments}
+use Rattle.definition.specs.Grammar.Argument.{literal_argument, query_argument, logical_argument, function_argument}
 use Rattle.definition.specs.Walk.{Named, named}
 use Rattle.definition.specs.Walk.Named.{count, value_name, match, search, unknown}
 
@@ -42,7 +42,7 @@ is_plain_selector (filter_selector b e) = false
 
 unfoldable pub is_alone : G.Selectors → Bool
 is_alone no_selector = true
-is_alone (more_selectors_lem b c x xs) = false
+is_alone (more_selectors b c x xs) = false
 
 unfoldable pub is_empty : Blanks → Bool
 is_empty b = eqb (length b.bytes) 0
@@ -71,12 +71,12 @@ tight_segment (descendant_name n) = false
 
 unfoldable pub singular_segments : G.Segments → Bool
 singular_segments no_segment = true
-singular_segments (more_segments_lem b x xs) = singular_segment x && singular_segments xs
+singular_segments (more_segments b x xs) = singular_segment x && singular_segments xs
 
 -- whether the segments are those of a singular-query
 unfoldable pub tight_segments : G.Segments → Bool
 tight_segments no_segment = true
-tight_segments (more_segments_lem b x xs) = tight_segment x && tight_segments xs
+tight_segments (more_segments b x xs) = tight_segment x && tight_segments xs
 
 unfoldable pub query_sort : Bool → Sort
 query_sort true = singular_sort
@@ -105,19 +105,19 @@ sort_test (function_test f) = sort_function f
 
 -- a chain of more than one operand is logical
 unfoldable pub sort_more_and : G.MoreAnd → Sort → Sort
-sort_more_and no_and_lem s = s
-sort_more_and (more_and_lem b c x xs) s = logical_sort
+sort_more_and no_and s = s
+sort_more_and (more_and b c x xs) s = logical_sort
 
 unfoldable pub sort_more_or : G.MoreOr → Sort → Sort
-sort_more_or no_or_lem s = s
-sort_more_or (more_or_lem b c x xs) s = logical_sort
+sort_more_or no_or s = s
+sort_more_or (more_or b c x xs) s = logical_sort
 
 unfoldable mutual
   pub sort_or_lem : G.LogicalOr → Sort
-  sort_or_lem (logical_or_lem x xs) = sort_more_or xs (sort_and_lem x)
+  sort_or_lem (logical_or x xs) = sort_more_or xs (sort_and_lem x)
 
   pub sort_and_lem : G.LogicalAnd → Sort
-  sort_and_lem (logical_and_lem x xs) = sort_more_and xs (sort_basic x)
+  sort_and_lem (logical_and x xs) = sort_more_and xs (sort_basic x)
 
   pub sort_basic : G.Basic → Sort
   sort_basic (paren_basic p) = sort_paren p
@@ -132,17 +132,17 @@ unfoldable mutual
 unfoldable pub sort_comparable : G.Comparable → Sort
 sort_comparable (literal_comparable l) = literal_sort
 sort_comparable (singular_comparable q) = singular_sort
-sort_comparable (function_comparable_lem f) = sort_function f
+sort_comparable (function_comparable f) = sort_function f
 
 unfoldable pub sort_argument : G.Argument → Sort
-sort_argument (literal_argument_lem l) = literal_sort
+sort_argument (literal_argument l) = literal_sort
 sort_argument (query_argument q) = sort_filter_query q
 sort_argument (logical_argument e) = sort_or_lem e
 sort_argument (function_argument f) = sort_function f
 
 unfoldable pub sorts_more : G.MoreArguments → List Sort
 sorts_more no_more = []
-sorts_more (more_arguments_lem b c x xs) = sort_argument x ∷ sorts_more xs
+sorts_more (more_arguments b c x xs) = sort_argument x ∷ sorts_more xs
 
 unfoldable pub sorts_of : G.Arguments → List Sort
 sorts_of no_argument = []

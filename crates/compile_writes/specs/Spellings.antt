@@ -6,7 +6,7 @@ use Rattle.definition.specs.Utf8.{encode}
 use Rattle.definition.specs.Lexical.{Int, Bound, Step, Slice, Number, Whole, Fraction, Exponent, Sign, Quote, Char, Escape, Text, is_short, spell_int, spell_whole, spell_fraction, spell_exponent, spell_sign, spell_number, spell_slice, spell_bound, spell_step, spell_escape, spell_blanks, spell_digits, spell_char, spell_chars, spell_text, own_byte}
 use Rattle.definition.specs.Lexical.Int.{zero_int, plain_int, minus_int}
 use Rattle.definition.specs.Lexical.Whole.{int_whole, minus_zero}
-use Rattle.definition.specs.Lexical.Fraction.{no_fraction_lem, fraction}
+use Rattle.definition.specs.Lexical.Fraction.{no_fraction, fraction}
 use Rattle.definition.specs.Lexical.Sign.{no_sign, plus_sign, minus_sign}
 use Rattle.definition.specs.Lexical.Exponent.{no_exponent, exponent}
 use Rattle.definition.specs.Lexical.Escape.{short, unicode, pair}
@@ -84,7 +84,7 @@ whole_spends minus_zero r = omega arith
 
 -- what is not there has no bytes, and nothing takes any away
 fraction_keeps : (f : Fraction) (r : List ℕ) → length r ≤ length (spell_fraction f r)
-fraction_keeps no_fraction_lem r = omega arith
+fraction_keeps no_fraction r = omega arith
 fraction_keeps (fraction d) r = simp length-append (omega arith)
 
 sign_keeps : (s : Sign) (r : List ℕ) → length r ≤ length (spell_sign s r)

@@ -10,24 +10,24 @@ use Rattle.definition.specs.Grammar.SingularSegment.{name_segment, dot_segment, 
 use Rattle.definition.specs.Grammar.SingularSegments.{no_singular, more_singular}
 use Rattle.definition.specs.Grammar.Singular.{rel_singular, abs_singular}
 use Rattle.definition.specs.Grammar.Literal.{number_literal, text_literal, true_literal, false_literal, null_literal}
-use Rattle.definition.specs.Grammar.Segments.{no_segment, more_segments_lem}
+use Rattle.definition.specs.Grammar.Segments.{no_segment, more_segments}
 use Rattle.definition.specs.Grammar.Segment.{child_brackets, child_wild, child_name, descendant_brackets, descendant_wild, descendant_name}
 use Rattle.definition.specs.Grammar.Bracketed.{bracketed}
-use Rattle.definition.specs.Grammar.Selectors.{no_selector, more_selectors_lem}
+use Rattle.definition.specs.Grammar.Selectors.{no_selector, more_selectors}
 use Rattle.definition.specs.Grammar.Selector.{name_selector, wildcard_selector, slice_selector, index_selector, filter_selector}
-use Rattle.definition.specs.Grammar.LogicalOr.{logical_or_lem}
-use Rattle.definition.specs.Grammar.MoreOr.{no_or_lem, more_or_lem}
-use Rattle.definition.specs.Grammar.LogicalAnd.{logical_and_lem}
-use Rattle.definition.specs.Grammar.MoreAnd.{no_and_lem, more_and_lem}
+use Rattle.definition.specs.Grammar.LogicalOr.{logical_or}
+use Rattle.definition.specs.Grammar.MoreOr.{no_or, more_or}
+use Rattle.definition.specs.Grammar.LogicalAnd.{logical_and}
+use Rattle.definition.specs.Grammar.MoreAnd.{no_and, more_and}
 use Rattle.definition.specs.Grammar.Basic.{paren_basic, not_paren, comparison, test_basic, not_test}
 use Rattle.definition.specs.Grammar.Paren.{paren}
 use Rattle.definition.specs.Grammar.Test.{query_test, function_test}
 use Rattle.definition.specs.Grammar.FilterQuery.{rel_query, abs_query}
-use Rattle.definition.specs.Grammar.Comparable.{literal_comparable, singular_comparable, function_comparable_lem}
+use Rattle.definition.specs.Grammar.Comparable.{literal_comparable, singular_comparable, function_comparable}
 use Rattle.definition.specs.Grammar.Function.{function}
 use Rattle.definition.specs.Grammar.Arguments.{no_argument, arguments}
-use Rattle.definition.specs.Grammar.MoreArguments.{no_more, more_arguments_lem}
-use Rattle.definition.specs.Grammar.Argument.{literal_argument_lem, query_argument, logical_argument, function_argument}
+use Rattle.definition.specs.Grammar.MoreArguments.{no_more, more_arguments}
+use Rattle.definition.specs.Grammar.Argument.{literal_argument, query_argument, logical_argument, function_argument}
 use Rattle.definition.specs.Walk.{Named, named, operator_form}
 use Rattle.definition.specs.Walk.Named.{count, value_name, match, search, unknown}
 use Rattle.definition.specs.Plans.{eight, operator_byte}
@@ -142,7 +142,7 @@ call_bytes unknown = []
 
 unfoldable pub count_more : G.Selectors → ℕ
 count_more no_selector = 0
-count_more (more_selectors_lem b c x xs) = suc (count_more xs)
+count_more (more_selectors b c x xs) = suc (count_more xs)
 
 unfoldable pub count_bracketed : G.Bracketed → ℕ
 count_bracketed (bracketed b x xs c) = suc (count_more xs)
@@ -152,7 +152,7 @@ count_bracketed (bracketed b x xs c) = suc (count_more xs)
 unfoldable mutual
   pub write_segments : G.Segments → Writer
   write_segments no_segment = skip
-  write_segments (more_segments_lem b x xs) = seq (write_segment x) (write_segments xs)
+  write_segments (more_segments b x xs) = seq (write_segment x) (write_segments xs)
 
   pub write_segment : G.Segment → Writer
   write_segment (child_brackets x) = counted 0x03 (count_bracketed x) (write_bracketed x)
@@ -167,7 +167,7 @@ unfoldable mutual
 
   pub write_selectors : G.Selectors → Writer
   write_selectors no_selector = skip
-  write_selectors (more_selectors_lem b c x xs) = seq (write_selector x) (write_selectors xs)
+  write_selectors (more_selectors b c x xs) = seq (write_selector x) (write_selectors xs)
 
   pub write_selector : G.Selector → Writer
   write_selector (name_selector t) = pooling 0x05 (text_bytes t)
@@ -178,20 +178,20 @@ unfoldable mutual
 
   -- a says whether a value function may not stand alone
   pub write_or_lem : G.LogicalOr → Bool → Writer
-  write_or_lem (logical_or_lem x xs) a = seq (write_and_lem x a) (write_more_or xs (sort_and_lem x) a)
+  write_or_lem (logical_or x xs) a = seq (write_and_lem x a) (write_more_or xs (sort_and_lem x) a)
 
   -- s is the sort of what stands before
   pub write_more_or : G.MoreOr → Sort → Bool → Writer
-  write_more_or no_or_lem s a = skip
-  write_more_or (more_or_lem b c x xs) s a =
+  write_more_or no_or s a = skip
+  write_more_or (more_or b c x xs) s a =
       seq (bytes (test_tail s)) (seq (frame 0x17 (seq (write_and_lem x a) (bytes (test_tail (sort_and_lem x))))) (write_more_or xs logical_sort a))
 
   pub write_and_lem : G.LogicalAnd → Bool → Writer
-  write_and_lem (logical_and_lem x xs) a = seq (write_basic x) (seq (verdict (compared_verdict a (sort_basic x))) (write_more_and xs (sort_basic x) a))
+  write_and_lem (logical_and x xs) a = seq (write_basic x) (seq (verdict (compared_verdict a (sort_basic x))) (write_more_and xs (sort_basic x) a))
 
   pub write_more_and : G.MoreAnd → Sort → Bool → Writer
-  write_more_and no_and_lem s a = skip
-  write_more_and (more_and_lem b c x xs) s a =
+  write_more_and no_and s a = skip
+  write_more_and (more_and b c x xs) s a =
       seq (bytes (test_tail s))
       (seq (frame 0x16 (seq (write_basic x) (bytes (test_tail (sort_basic x)))))
       (seq (verdict (compared_verdict a (sort_basic x))) (write_more_and xs logical_sort a)))
@@ -220,7 +220,7 @@ unfoldable mutual
   pub write_comparable : G.Comparable → Writer
   write_comparable (literal_comparable l) = write_literal l
   write_comparable (singular_comparable q) = write_singular q
-  write_comparable (function_comparable_lem f) = write_function f
+  write_comparable (function_comparable f) = write_function f
 
   pub write_function : G.Function → Writer
   write_function (function n b xs c) =
@@ -233,11 +233,11 @@ unfoldable mutual
 
   pub write_more_arguments : G.MoreArguments → Writer
   write_more_arguments no_more = skip
-  write_more_arguments (more_arguments_lem b c x xs) = seq (write_argument x) (write_more_arguments xs)
+  write_more_arguments (more_arguments b c x xs) = seq (write_argument x) (write_more_arguments xs)
 
   -- straight in an argument a value function may stand alone
   pub write_argument : G.Argument → Writer
-  write_argument (literal_argument_lem l) = write_literal l
+  write_argument (literal_argument l) = write_literal l
   write_argument (query_argument q) = write_filter_query q
   write_argument (logical_argument e) = write_or_lem e false
   write_argument (function_argument f) = write_function f

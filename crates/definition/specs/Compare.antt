@@ -74,8 +74,8 @@ number_of (map ks) = none
 
 -- ---- equality
 
-unfoldable pub same_number_lem : Fraction → Value → Bool
-same_number_lem a v = elim (number_of v) [ none ↦ false | some b ↦ compare_is_eq (order_fractions a b) ]
+unfoldable pub same_number : Fraction → Value → Bool
+same_number a v = elim (number_of v) [ none ↦ false | some b ↦ compare_is_eq (order_fractions a b) ]
 
 unfoldable pub is_null : Value → Bool
 is_null nothing = false
@@ -139,8 +139,8 @@ unfoldable mutual
   pub same_node : Json → Value → Bool
   same_node (Json.null i) v = is_null v
   same_node (Json.boolean i b) v = same_boolean b v
-  same_node (Json.integer i z) v = same_number_lem (whole_fraction z) v
-  same_node (Json.float i x) v = same_number_lem (float_fraction x) v
+  same_node (Json.integer i z) v = same_number (whole_fraction z) v
+  same_node (Json.float i x) v = same_number (float_fraction x) v
   same_node (Json.text i s) v = same_text s v
   same_node (Json.list i ks) v = elim (list_of v) [ none ↦ false | some ls ↦ same_elements ks ls ]
   same_node (Json.map i ks) v = elim (map_of v) [ none ↦ false | some ls ↦ eqb (many ks) (many ls) && same_members ks ls ]
@@ -160,8 +160,8 @@ unfoldable pub same : Value → Value → Bool
 same nothing v = false
 same null v = is_null v
 same (boolean b) v = same_boolean b v
-same (integer z) v = same_number_lem (whole_fraction z) v
-same (float x) v = same_number_lem (float_fraction x) v
+same (integer z) v = same_number (whole_fraction z) v
+same (float x) v = same_number (float_fraction x) v
 same (text s) v = same_text s v
 same (list ks) v = elim (list_of v) [ none ↦ false | some ls ↦ same_elements ks ls ]
 same (map ks) v = elim (map_of v) [ none ↦ false | some ls ↦ eqb (many ks) (many ls) && same_members ks ls ]

@@ -44,7 +44,7 @@ mutual
   -- segments = *( S segment )
   pub data Segments : Type 0 where
     no_segment : Segments
-    more_segments_lem : Blanks → Segment → Segments → Segments
+    more_segments : Blanks → Segment → Segments → Segments
 
   -- child-segment = bracketed-selection / "." ( wildcard-selector / member-name-shorthand )
   -- descendant-segment = ".." ( bracketed-selection / wildcard-selector / member-name-shorthand )
@@ -63,7 +63,7 @@ mutual
   -- *( S "," S selector )
   pub data Selectors : Type 0 where
     no_selector : Selectors
-    more_selectors_lem : Blanks → Blanks → Selector → Selectors → Selectors
+    more_selectors : Blanks → Blanks → Selector → Selectors → Selectors
 
   -- selector = name-selector / wildcard-selector / slice-selector / index-selector / filter-selector; filter-selector = "?" S logical-expr
   pub data Selector : Type 0 where
@@ -75,19 +75,19 @@ mutual
 
   -- logical-or-expr = logical-and-expr *( S "||" S logical-and-expr )
   pub data LogicalOr : Type 0 where
-    logical_or_lem : LogicalAnd → MoreOr → LogicalOr
+    logical_or : LogicalAnd → MoreOr → LogicalOr
 
   pub data MoreOr : Type 0 where
-    no_or_lem : MoreOr
-    more_or_lem : Blanks → Blanks → LogicalAnd → MoreOr → MoreOr
+    no_or : MoreOr
+    more_or : Blanks → Blanks → LogicalAnd → MoreOr → MoreOr
 
   -- logical-and-expr = basic-expr *( S "&&" S basic-expr )
   pub data LogicalAnd : Type 0 where
-    logical_and_lem : Basic → MoreAnd → LogicalAnd
+    logical_and : Basic → MoreAnd → LogicalAnd
 
   pub data MoreAnd : Type 0 where
-    no_and_lem : MoreAnd
-    more_and_lem : Blanks → Blanks → Basic → MoreAnd → MoreAnd
+    no_and : MoreAnd
+    more_and : Blanks → Blanks → Basic → MoreAnd → MoreAnd
 
   -- basic-expr = paren-expr / comparison-expr / test-expr, the first and the last with [ "!" S ] before them
   pub data Basic : Type 0 where
@@ -115,7 +115,7 @@ mutual
   pub data Comparable : Type 0 where
     literal_comparable : Literal → Comparable
     singular_comparable : Singular → Comparable
-    function_comparable_lem : Function → Comparable
+    function_comparable : Function → Comparable
 
   -- function-expr = function-name "(" S [ function-argument *( S "," S function-argument ) ] S ")"
   pub data Function : Type 0 where
@@ -127,12 +127,12 @@ mutual
 
   pub data MoreArguments : Type 0 where
     no_more : MoreArguments
-    more_arguments_lem : Blanks → Blanks → Argument → MoreArguments → MoreArguments
+    more_arguments : Blanks → Blanks → Argument → MoreArguments → MoreArguments
 
   -- function-argument = literal / filter-query / logical-expr / function-expr
   -- A filter-query and a function-expr are logical expressions too: the crate `definition_laws` (Small) proves that meaning does not depend on which is taken.
   pub data Argument : Type 0 where
-    literal_argument_lem : Literal → Argument
+    literal_argument : Literal → Argument
     query_argument : FilterQuery → Argument
     logical_argument : LogicalOr → Argument
     function_argument : Function → Argument
@@ -174,7 +174,7 @@ spell_operator ge_operator r = 0x3E ∷ 0x3D ∷ r
 abbrev mutual
   pub spell_segments : Segments → List ℕ → List ℕ
   spell_segments no_segment r = r
-  spell_segments (more_segments_lem b x xs) r = spell_blanks b (spell_segment x (spell_segments xs r))
+  spell_segments (more_segments b x xs) r = spell_blanks b (spell_segment x (spell_segments xs r))
 
   pub spell_segment : Segment → List ℕ → List ℕ
   spell_segment (child_brackets x) r = spell_bracketed x r
@@ -189,7 +189,7 @@ abbrev mutual
 
   pub spell_selectors : Selectors → List ℕ → List ℕ
   spell_selectors no_selector r = r
-  spell_selectors (more_selectors_lem b c x xs) r = spell_blanks b (0x2C ∷ spell_blanks c (spell_selector x (spell_selectors xs r)))
+  spell_selectors (more_selectors b c x xs) r = spell_blanks b (0x2C ∷ spell_blanks c (spell_selector x (spell_selectors xs r)))
 
   pub spell_selector : Selector → List ℕ → List ℕ
   spell_selector (name_selector t) r = spell_text t r
@@ -199,18 +199,18 @@ abbrev mutual
   spell_selector (filter_selector b e) r = 0x3F ∷ spell_blanks b (spell_logical_or e r)
 
   pub spell_logical_or : LogicalOr → List ℕ → List ℕ
-  spell_logical_or (logical_or_lem x xs) r = spell_logical_and x (spell_more_or xs r)
+  spell_logical_or (logical_or x xs) r = spell_logical_and x (spell_more_or xs r)
 
   pub spell_more_or : MoreOr → List ℕ → List ℕ
-  spell_more_or no_or_lem r = r
-  spell_more_or (more_or_lem b c x xs) r = spell_blanks b (0x7C ∷ 0x7C ∷ spell_blanks c (spell_logical_and x (spell_more_or xs r)))
+  spell_more_or no_or r = r
+  spell_more_or (more_or b c x xs) r = spell_blanks b (0x7C ∷ 0x7C ∷ spell_blanks c (spell_logical_and x (spell_more_or xs r)))
 
   pub spell_logical_and : LogicalAnd → List ℕ → List ℕ
-  spell_logical_and (logical_and_lem x xs) r = spell_basic x (spell_more_and xs r)
+  spell_logical_and (logical_and x xs) r = spell_basic x (spell_more_and xs r)
 
   pub spell_more_and : MoreAnd → List ℕ → List ℕ
-  spell_more_and no_and_lem r = r
-  spell_more_and (more_and_lem b c x xs) r = spell_blanks b (0x26 ∷ 0x26 ∷ spell_blanks c (spell_basic x (spell_more_and xs r)))
+  spell_more_and no_and r = r
+  spell_more_and (more_and b c x xs) r = spell_blanks b (0x26 ∷ 0x26 ∷ spell_blanks c (spell_basic x (spell_more_and xs r)))
 
   pub spell_basic : Basic → List ℕ → List ℕ
   spell_basic (paren_basic p) r = spell_paren p r
@@ -233,7 +233,7 @@ abbrev mutual
   pub spell_comparable : Comparable → List ℕ → List ℕ
   spell_comparable (literal_comparable l) r = spell_literal l r
   spell_comparable (singular_comparable q) r = spell_singular q r
-  spell_comparable (function_comparable_lem f) r = spell_function f r
+  spell_comparable (function_comparable f) r = spell_function f r
 
   pub spell_function : Function → List ℕ → List ℕ
   spell_function (function n b xs c) r = spell_function_name n (0x28 ∷ spell_blanks b (spell_arguments xs (spell_blanks c (0x29 ∷ r))))
@@ -244,10 +244,10 @@ abbrev mutual
 
   pub spell_more_arguments : MoreArguments → List ℕ → List ℕ
   spell_more_arguments no_more r = r
-  spell_more_arguments (more_arguments_lem b c x xs) r = spell_blanks b (0x2C ∷ spell_blanks c (spell_argument x (spell_more_arguments xs r)))
+  spell_more_arguments (more_arguments b c x xs) r = spell_blanks b (0x2C ∷ spell_blanks c (spell_argument x (spell_more_arguments xs r)))
 
   pub spell_argument : Argument → List ℕ → List ℕ
-  spell_argument (literal_argument_lem l) r = spell_literal l r
+  spell_argument (literal_argument l) r = spell_literal l r
   spell_argument (query_argument q) r = spell_filter_query q r
   spell_argument (logical_argument e) r = spell_logical_or e r
   spell_argument (function_argument f) r = spell_function f r

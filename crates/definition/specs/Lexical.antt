@@ -11,8 +11,8 @@ use Rattle.definition.specs.Utf8.{encode, encode_all}
 abbrev pub is_blank : ℕ → Bool
 is_blank c = eqb c 0x20 || (eqb c 0x09 || (eqb c 0x0A || eqb c 0x0D))
 
-abbrev pub is_digit_lem : ℕ → Bool
-is_digit_lem c = within 0x30 0x39 c
+abbrev pub is_digit : ℕ → Bool
+is_digit c = within 0x30 0x39 c
 
 abbrev pub is_digit1 : ℕ → Bool
 is_digit1 c = within 0x31 0x39 c
@@ -29,11 +29,11 @@ is_name_first c = is_alpha c || (eqb c 0x5F || (within 0x80 0xD7FF c || within 0
 
 -- name-char = name-first / DIGIT
 abbrev pub is_name_char : ℕ → Bool
-is_name_char c = is_name_first c || is_digit_lem c
+is_name_char c = is_name_first c || is_digit c
 
 -- what may follow in a function-name: LCALPHA / "_" / DIGIT
 abbrev pub is_function_char : ℕ → Bool
-is_function_char c = is_lcalpha c || (eqb c 0x5F || is_digit_lem c)
+is_function_char c = is_lcalpha c || (eqb c 0x5F || is_digit c)
 
 -- unescaped = %x20-21 / %x23-26 / %x28-5B / %x5D-D7FF / %xE000-10FFFF
 abbrev pub is_unescaped : ℕ → Bool
@@ -41,7 +41,7 @@ is_unescaped c = within 0x20 0x21 c || (within 0x23 0x26 c || (within 0x28 0x5B 
 
 -- HEXDIG, in either case
 abbrev pub is_hex : ℕ → Bool
-is_hex c = is_digit_lem c || (within 0x41 0x46 c || within 0x61 0x66 c)
+is_hex c = is_digit c || (within 0x41 0x46 c || within 0x61 0x66 c)
 
 -- "e", in either case
 abbrev pub is_e : ℕ → Bool
@@ -95,14 +95,14 @@ pub record Natural : Type 0 where
   pub first : ℕ
   pub more : List ℕ
   pub is_first : is_digit1 first ≡ true
-  pub are_more : every is_digit_lem more ≡ true
+  pub are_more : every is_digit more ≡ true
 
 -- 1*DIGIT
 pub record Digits : Type 0 where
   pub first : ℕ
   pub more : List ℕ
-  pub is_first : is_digit_lem first ≡ true
-  pub are_more : every is_digit_lem more ≡ true
+  pub is_first : is_digit first ≡ true
+  pub are_more : every is_digit more ≡ true
 
 -- int = "0" / [ "-" ] DIGIT1 *DIGIT
 pub data Int : Type 0 where
@@ -130,7 +130,7 @@ pub data Whole : Type 0 where
 
 -- [ frac ], frac = "." 1*DIGIT
 pub data Fraction : Type 0 where
-  no_fraction_lem : Fraction
+  no_fraction : Fraction
   fraction : Digits → Fraction
 
 pub data Sign : Type 0 where
@@ -154,7 +154,7 @@ spell_whole (int_whole i) r = spell_int i r
 spell_whole minus_zero r = 0x2D ∷ 0x30 ∷ r
 
 abbrev pub spell_fraction : Fraction → List ℕ → List ℕ
-spell_fraction no_fraction_lem r = r
+spell_fraction no_fraction r = r
 spell_fraction (fraction d) r = 0x2E ∷ spell_digits d r
 
 abbrev pub spell_sign : Sign → List ℕ → List ℕ
@@ -180,7 +180,7 @@ pub record Hex4 : Type 0 where
   pub good : (is_hex a && (is_hex b && (is_hex c && is_hex d))) ≡ true
 
 abbrev pub hex_value : ℕ → ℕ
-hex_value c = cond (is_digit_lem c) (c - 0x30) (cond (leb 0x61 c) (c - 0x57) (c - 0x37))
+hex_value c = cond (is_digit c) (c - 0x30) (cond (leb 0x61 c) (c - 0x57) (c - 0x37))
 
 abbrev pub hex4_value : Hex4 → ℕ
 hex4_value h = ((hex_value h.a * 16 + hex_value h.b) * 16 + hex_value h.c) * 16 + hex_value h.d

@@ -8,7 +8,7 @@ use Rattle.definition.specs.Tables.{is_finite}
 use Rattle.definition.specs.Lexical.{Natural, Digits, Int, Whole, Fraction, Exponent, Number, Escape, Char, Quote, Text, hex4_value, own_byte, other_byte}
 use Rattle.definition.specs.Lexical.Int.{zero_int, plain_int, minus_int}
 use Rattle.definition.specs.Lexical.Whole.{int_whole, minus_zero}
-use Rattle.definition.specs.Lexical.Fraction.{no_fraction_lem, fraction}
+use Rattle.definition.specs.Lexical.Fraction.{no_fraction, fraction}
 use Rattle.definition.specs.Lexical.Sign.{no_sign, plus_sign, minus_sign}
 use Rattle.definition.specs.Lexical.Exponent.{no_exponent, exponent}
 use Rattle.definition.specs.Lexical.Escape.{short, unicode, pair}
@@ -129,8 +129,8 @@ whole_numeral true n = cond (leb n (2 ^ 63)) (integer (neg_ℤ (pos n))) (float_
 
 -- "let N be all digits before the exponent as one whole number and E the written exponent less the count of fraction digits"
 unfoldable pub numeral_of : Bool → List ℕ → Fraction → Exponent → Numeral
-numeral_of s ds no_fraction_lem no_exponent = whole_numeral s (decimal ds)
-numeral_of s ds no_fraction_lem (exponent e h g d) = float_numeral s (decimal ds) (exponent_value (exponent e h g d))
+numeral_of s ds no_fraction no_exponent = whole_numeral s (decimal ds)
+numeral_of s ds no_fraction (exponent e h g d) = float_numeral s (decimal ds) (exponent_value (exponent e h g d))
 numeral_of s ds (fraction f) x = float_numeral s (decimal (ds ++ digits_of f)) (exponent_value x -ℤ pos (length (digits_of f)))
 
 unfoldable pub numeral : Number → Numeral

@@ -57,21 +57,21 @@ unfoldable mutual
 
   pub test_right : Test → Bool
   test_right (exists q) = query_right q
-  test_right (compare o a b) = argument_right_lem a && argument_right_lem b
-  test_right (regex s a b) = argument_right_lem a && argument_right_lem b
+  test_right (compare o a b) = argument_right a && argument_right b
+  test_right (regex s a b) = argument_right a && argument_right b
   test_right (not t) = test_right t
   test_right (not_value f) = function_right f
   test_right (both a b) = test_right a && test_right b
   test_right (either a b) = test_right a && test_right b
 
-  pub argument_right_lem : Argument → Bool
-  argument_right_lem (literal l) = literal_right l
-  argument_right_lem (singular q) = is_singular q && query_right q
-  argument_right_lem (value f) = function_right f
+  pub argument_right : Argument → Bool
+  argument_right (literal l) = literal_right l
+  argument_right (singular q) = is_singular q && query_right q
+  argument_right (value f) = function_right f
 
   pub function_right : Function → Bool
   function_right (count_of q) = query_right q
-  function_right (length_of a) = argument_right_lem a
+  function_right (length_of a) = argument_right a
   function_right (value_of q) = query_right q
 
 -- how many "filters, functions, nots and right operands of 16 or 17" stand around the item that has the most around it; a left operand adds nothing

@@ -46,15 +46,15 @@ unfoldable pub slice_stop : ℕ → Option ℤ → ℤ → ℤ
 slice_stop n b s = clamp (negsuc 0) (pos n) (add_once n (given_stop n b s))
 
 -- "Walk from start while below stop (above, for negative steps)"; step 0 walks nowhere
-unfoldable pub goes_on_lem : ℤ → ℤ → ℤ → Bool
-goes_on_lem (pos zero) i b = false
-goes_on_lem (pos (suc k)) i b = lt_z i b
-goes_on_lem (negsuc k) i b = lt_z b i
+unfoldable pub goes_on : ℤ → ℤ → ℤ → Bool
+goes_on (pos zero) i b = false
+goes_on (pos (suc k)) i b = lt_z i b
+goes_on (negsuc k) i b = lt_z b i
 
 -- the elements on the walk from i by steps of s; at most the given number of steps is looked at
 unfoldable pub walk_places : ℕ → ℕ → ℤ → ℤ → ℤ → List ℕ
 walk_places zero n i b s = []
-walk_places (suc f) n i b s = cond (goes_on_lem s i b) (element_at n i ++ walk_places f n (i +ℤ s) b s) []
+walk_places (suc f) n i b s = cond (goes_on s i b) (element_at n i ++ walk_places f n (i +ℤ s) b s) []
 
 -- the elements that a slice selects, in the order of the walk. It has at most n + 1 places: the crate `definition_standards` (Ends) proves that the bound cuts nothing off.
 unfoldable pub slice_places : ℕ → Option ℤ → Option ℤ → Option ℤ → List ℕ

@@ -39,11 +39,11 @@ unfoldable pub found_part : Bool → List ℕ → PartOutcome
 found_part true s = record { part = s; number = 0 }
 found_part false s = refused_part 15
 
-unfoldable pub part_by_lem : Checked → Bool → List ℕ → PartOutcome
-part_by_lem accepted b s = found_part b s
-part_by_lem sized b s = refused_part 9
-part_by_lem (wrong_at i) b s = refused_part 10
-part_by_lem (text_at i) b s = refused_part 17
+unfoldable pub part_by : Checked → Bool → List ℕ → PartOutcome
+part_by accepted b s = found_part b s
+part_by sized b s = refused_part 9
+part_by (wrong_at i) b s = refused_part 10
+part_by (text_at i) b s = refused_part 17
 
 -- the nodes that have a text: those of kind 5
 unfoldable pub has_text : List ℕ → ℕ → Bool
@@ -58,7 +58,7 @@ unfoldable pub has_key : List ℕ → ℕ → Bool
 has_key T i = ltb i (node_count T) && is_member T (parent_of T i)
 
 unfoldable pub text_outcome : List ℕ → List ℕ → ℕ → PartOutcome
-text_outcome T X i = part_by_lem (check_table T X) (has_text T i) (text_bytes_at T X i)
+text_outcome T X i = part_by (check_table T X) (has_text T i) (text_bytes_at T X i)
 
 unfoldable pub key_outcome : List ℕ → List ℕ → ℕ → PartOutcome
-key_outcome T X i = part_by_lem (check_table T X) (has_key T i) (key_bytes T X i)
+key_outcome T X i = part_by (check_table T X) (has_key T i) (key_bytes T X i)

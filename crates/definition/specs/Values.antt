@@ -80,9 +80,9 @@ unfoldable mutual
   descend (integer i z) = integer i z ∷ []
   descend (float i x) = float i x ∷ []
   descend (text i s) = text i s ∷ []
-  descend (list i ks) = list i ks ∷ descend_all_lem ks
-  descend (map i ks) = map i ks ∷ descend_all_lem ks
+  descend (list i ks) = list i ks ∷ descend_all ks
+  descend (map i ks) = map i ks ∷ descend_all ks
 
-  pub descend_all_lem : Kids → List Json
-  descend_all_lem nil = []
-  descend_all_lem (more k j ks) = descend j ++ descend_all_lem ks
+  pub descend_all : Kids → List Json
+  descend_all nil = []
+  descend_all (more k j ks) = descend j ++ descend_all ks

@@ -14,24 +14,24 @@ use Rattle.definition.specs.Grammar.SingularSegments.{no_singular, more_singular
 use Rattle.definition.specs.Grammar.Singular.{rel_singular, abs_singular}
 use Rattle.definition.specs.Grammar.Literal.{number_literal, text_literal, true_literal, false_literal, null_literal}
 use Rattle.definition.specs.Grammar.Operator.{eq_operator, ne_operator, lt_operator, le_operator, gt_operator, ge_operator}
-use Rattle.definition.specs.Grammar.Segments.{no_segment, more_segments_lem}
+use Rattle.definition.specs.Grammar.Segments.{no_segment, more_segments}
 use Rattle.definition.specs.Grammar.Segment.{child_brackets, child_wild, child_name, descendant_brackets, descendant_wild, descendant_name}
 use Rattle.definition.specs.Grammar.Bracketed.{bracketed}
-use Rattle.definition.specs.Grammar.Selectors.{no_selector, more_selectors_lem}
+use Rattle.definition.specs.Grammar.Selectors.{no_selector, more_selectors}
 use Rattle.definition.specs.Grammar.Selector.{name_selector, wildcard_selector, slice_selector, index_selector, filter_selector}
-use Rattle.definition.specs.Grammar.LogicalOr.{logical_or_lem}
-use Rattle.definition.specs.Grammar.MoreOr.{no_or_lem, more_or_lem}
-use Rattle.definition.specs.Grammar.LogicalAnd.{logical_and_lem}
-use Rattle.definition.specs.Grammar.MoreAnd.{no_and_lem, more_and_lem}
+use Rattle.definition.specs.Grammar.LogicalOr.{logical_or}
+use Rattle.definition.specs.Grammar.MoreOr.{no_or, more_or}
+use Rattle.definition.specs.Grammar.LogicalAnd.{logical_and}
+use Rattle.definition.specs.Grammar.MoreAnd.{no_and, more_and}
 use Rattle.definition.specs.Grammar.Basic.{paren_basic, not_paren, comparison, test_basic, not_test}
 use Rattle.definition.specs.Grammar.Paren.{paren}
 use Rattle.definition.specs.Grammar.Test.{query_test, function_test}
 use Rattle.definition.specs.Grammar.FilterQuery.{rel_query, abs_query}
-use Rattle.definition.specs.Grammar.Comparable.{literal_comparable, singular_comparable, function_comparable_lem}
+use Rattle.definition.specs.Grammar.Comparable.{literal_comparable, singular_comparable, function_comparable}
 use Rattle.definition.specs.Grammar.Function.{function}
 use Rattle.definition.specs.Grammar.Arguments.{no_argument, arguments}
-use Rattle.definition.specs.Grammar.MoreArguments.{no_more, more_arguments_lem}
-use Rattle.definition.specs.Grammar.Argument.{literal_argument_lem, query_argument, logical_argument, function_argument}
+use Rattle.definition.specs.Grammar.MoreArguments.{no_more, more_arguments}
+use Rattle.definition.specs.Grammar.Argument.{literal_argument, query_argument, logical_argument, function_argument}
 use Rattle.definition.specs.Forms as F
 use Rattle.definition.specs.Forms.{is_singular}
 use Rattle.definition.specs.Forms.Literal.{null, boolean, integer, float, text}
@@ -212,7 +212,7 @@ call unknown xs = refused 6
 unfoldable mutual
   pub walk_segments : G.Segments → Walked F.Segments
   walk_segments no_segment = fine end
-  walk_segments (more_segments_lem b x xs) = next (walk_segment x) (λ s. next (walk_segments xs) (λ q. fine (s q)))
+  walk_segments (more_segments b x xs) = next (walk_segment x) (λ s. next (walk_segments xs) (λ q. fine (s q)))
 
   -- a segment is given by what it makes of the segments behind it
   pub walk_segment : G.Segment → Walked (F.Segments → F.Segments)
@@ -229,7 +229,7 @@ unfoldable mutual
   -- the selector before, and those of the list behind it
   pub walk_selectors : G.Selectors → F.Selector → Walked F.Selectors
   walk_selectors no_selector s = fine (one s)
-  walk_selectors (more_selectors_lem b c x xs) s = next (walk_selector x) (λ t. next (walk_selectors xs t) (λ ss. fine (and s ss)))
+  walk_selectors (more_selectors b c x xs) s = next (walk_selector x) (λ t. next (walk_selectors xs t) (λ ss. fine (and s ss)))
 
   pub walk_selector : G.Selector → Walked F.Selector
   walk_selector (name_selector t) = fine (name (text_bytes t))
@@ -240,18 +240,18 @@ unfoldable mutual
 
   -- a says whether a value function alone is refused. "Chains of `&&` or of `||` group from the left"
   pub walk_or : G.LogicalOr → Bool → Walked Expression
-  walk_or (logical_or_lem x xs) a = next (walk_and x a) (λ e. walk_more_or xs a e)
+  walk_or (logical_or x xs) a = next (walk_and x a) (λ e. walk_more_or xs a e)
 
   pub walk_more_or : G.MoreOr → Bool → Expression → Walked Expression
-  walk_more_or no_or_lem a e = fine e
-  walk_more_or (more_or_lem b c x xs) a e = next (walk_and x a) (λ d. walk_more_or xs a (logical (either (as_test e) (as_test d))))
+  walk_more_or no_or a e = fine e
+  walk_more_or (more_or b c x xs) a e = next (walk_and x a) (λ d. walk_more_or xs a (logical (either (as_test e) (as_test d))))
 
   pub walk_and : G.LogicalAnd → Bool → Walked Expression
-  walk_and (logical_and_lem x xs) a = next (walk_basic x) (λ e. next (compared a e) (λ f. walk_more_and xs a f))
+  walk_and (logical_and x xs) a = next (walk_basic x) (λ e. next (compared a e) (λ f. walk_more_and xs a f))
 
   pub walk_more_and : G.MoreAnd → Bool → Expression → Walked Expression
-  walk_more_and no_and_lem a e = fine e
-  walk_more_and (more_and_lem b c x xs) a e = next (walk_basic x) (λ d. next (compared a d) (λ f. walk_more_and xs a (logical (both (as_test e) (as_test f)))))
+  walk_more_and no_and a e = fine e
+  walk_more_and (more_and b c x xs) a e = next (walk_basic x) (λ d. next (compared a d) (λ f. walk_more_and xs a (logical (both (as_test e) (as_test f)))))
 
   -- "both sides of a comparison before either is judged"
   pub walk_basic : G.Basic → Walked Expression
@@ -276,7 +276,7 @@ unfoldable mutual
   pub walk_comparable : G.Comparable → Walked Operand
   walk_comparable (literal_comparable l) = next (walk_literal l) (λ x. fine (constant x))
   walk_comparable (singular_comparable q) = next (walk_singular q) (λ x. fine (expression (nodes x)))
-  walk_comparable (function_comparable_lem f) = next (walk_function f) (λ x. fine (expression x))
+  walk_comparable (function_comparable f) = next (walk_function f) (λ x. fine (expression x))
 
   pub walk_function : G.Function → Walked Expression
   walk_function (function n b xs c) = next (walk_arguments xs) (λ os. call (named (function_bytes n)) os)
@@ -287,10 +287,10 @@ unfoldable mutual
 
   pub walk_more_arguments : G.MoreArguments → Walked (List Operand)
   walk_more_arguments no_more = fine []
-  walk_more_arguments (more_arguments_lem b c x xs) = next (walk_argument x) (λ o. next (walk_more_arguments xs) (λ os. fine (o ∷ os)))
+  walk_more_arguments (more_arguments b c x xs) = next (walk_argument x) (λ o. next (walk_more_arguments xs) (λ os. fine (o ∷ os)))
 
   pub walk_argument : G.Argument → Walked Operand
-  walk_argument (literal_argument_lem l) = next (walk_literal l) (λ x. fine (constant x))
+  walk_argument (literal_argument l) = next (walk_literal l) (λ x. fine (constant x))
   walk_argument (query_argument q) = next (walk_filter_query q) (λ x. fine (expression (nodes x)))
   walk_argument (logical_argument e) = next (walk_or e false) (λ x. fine (expression x))
   walk_argument (function_argument f) = next (walk_function f) (λ x. fine (expression x))

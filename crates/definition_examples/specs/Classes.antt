@@ -3,7 +3,7 @@ use Rattle.std.specs.Prelude.{ℕ, zero, suc, ◌≡◌, refl, List, [], ◌∷�
 use Prim.Native.String.{String}
 use Rattle.definition.specs.Bytes.{every, same_bytes}
 use Rattle.definition.specs.Utf8.{is_scalar, encode, is_utf8}
-use Rattle.definition.specs.Lexical.{is_blank, is_digit_lem, is_digit1, is_lcalpha, is_alpha, is_name_first, is_name_char, is_function_char, is_unescaped, is_hex, is_e, is_short, is_high, is_low, hex_value}
+use Rattle.definition.specs.Lexical.{is_blank, is_digit, is_digit1, is_lcalpha, is_alpha, is_name_first, is_name_char, is_function_char, is_unescaped, is_hex, is_e, is_short, is_high, is_low, hex_value}
 use Rattle.definition_examples.specs.Computes.{computes}
 use Rattle.definition_examples.specs.Texts.{codes, hex}
 use Rattle.definition_examples.specs.Gives.{all}
@@ -21,7 +21,7 @@ ascii p s = same_bytes (members_from 0 128 p) (codes s)
 pub ascii_classes :
     all
     (ascii is_blank "\t\n\r " ∷
-    ascii is_digit_lem "0123456789" ∷
+    ascii is_digit "0123456789" ∷
     ascii is_digit1 "123456789" ∷
     ascii is_lcalpha "abcdefghijklmnopqrstuvwxyz" ∷
     ascii is_alpha "ABCDEFGHIJKLMNOPQRSTUVWXYZabcdefghijklmnopqrstuvwxyz" ∷

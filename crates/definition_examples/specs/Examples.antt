@@ -6,7 +6,7 @@ use Rattle.std.specs.Float.Ieee.{of_bits}
 use Rattle.definition.specs.Lexical.{Blanks}
 use Rattle.definition.specs.Lexical.Int.{plain_int}
 use Rattle.definition.specs.Grammar as G
-use Rattle.definition.specs.Grammar.Segments.{no_segment, more_segments_lem}
+use Rattle.definition.specs.Grammar.Segments.{no_segment, more_segments}
 use Rattle.definition.specs.Grammar.Segment.{child_brackets, child_name}
 use Rattle.definition.specs.Grammar.Bracketed.{bracketed}
 use Rattle.definition.specs.Grammar.Selectors.{no_selector}
@@ -37,8 +37,8 @@ no_blank = record { bytes = []; good = refl }
 abbrev tree_example : G.Query
 tree_example =
     record {
-      segments = more_segments_lem no_blank (child_name (record { first = 0x61; more = []; is_first = refl; are_more = refl }))
-          (more_segments_lem no_blank (child_brackets (bracketed no_blank (index_selector (plain_int (record { first = 0x31; more = []; is_first = refl; are_more = refl }))) no_selector no_blank)) no_segment);
+      segments = more_segments no_blank (child_name (record { first = 0x61; more = []; is_first = refl; are_more = refl }))
+          (more_segments no_blank (child_brackets (bracketed no_blank (index_selector (plain_int (record { first = 0x31; more = []; is_first = refl; are_more = refl }))) no_selector no_blank)) no_segment);
     }
 
 abbrev form_example : Query

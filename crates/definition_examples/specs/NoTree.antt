@@ -12,7 +12,7 @@ use Rattle.definition.specs.Grammar.{spell, spell_segments, spell_segment, spell
 use Rattle.definition.specs.Grammar.SingularSegment.{name_segment, dot_segment, index_segment}
 use Rattle.definition.specs.Grammar.SingularSegments.{no_singular, more_singular}
 use Rattle.definition.specs.Grammar.Operator.{eq_operator, ne_operator, lt_operator, le_operator, gt_operator, ge_operator}
-use Rattle.definition.specs.Grammar.Segments.{no_segment, more_segments_lem}
+use Rattle.definition.specs.Grammar.Segments.{no_segment, more_segments}
 use Rattle.definition.specs.Grammar.Segment.{child_brackets, child_wild, child_name, descendant_brackets, descendant_wild, descendant_name}
 use Rattle.definition.specs.Grammar.Bracketed.{bracketed}
 use Rattle.definition.specs.Grammar.Selector.{name_selector, wildcard_selector, slice_selector, index_selector, filter_selector}
@@ -20,7 +20,7 @@ use Rattle.definition.specs.Selecting.{Reads, no_tree}
 use Rattle.definition.specs.Selecting.Reading.{refused}
 use Rattle.definition_examples.specs.Computes.{computes}
 use Rattle.definition_examples.specs.Texts.{codes, bytes}
-use Rattle.definition_examples.specs.Starts.{hd, tl, first, apart, unlike, unblanked, first_blanks, segment_start, segments_start, selectors_start, close_start, is_selector_byte, selector_start, encode_start, encode_rest, name_start, ends_basic, ends_segment, is_operator_byte, operator_start, is_comparable_byte, comparable_start, from_query, goes_on_lem, compared_start}
+use Rattle.definition_examples.specs.Starts.{hd, tl, first, apart, unlike, unblanked, first_blanks, segment_start, segments_start, selectors_start, close_start, is_selector_byte, selector_start, encode_start, encode_rest, name_start, ends_basic, ends_segment, is_operator_byte, operator_start, is_comparable_byte, comparable_start, from_query, goes_on, compared_start}
 use Rattle.basics.specs.Lists.{cons_not}
 use Rattle.basics.specs.Bools.{and_left as left}
 
@@ -34,7 +34,7 @@ no_blank_end t e = go t.segments (ap tl e)
   where
     go : (xs : G.Segments) → spell_segments xs [] ≡ 0x20 ∷ [] → ⊥
     go no_segment e = cons_not (sym e)
-    go (more_segments_lem b x xs) e = apart (λ l. is_segment_byte (first l)) (rw (first_blanks b (spell_segment x (spell_segments xs []))) (segment_start is_segment_byte refl refl x (spell_segments xs []))) refl e
+    go (more_segments b x xs) e = apart (λ l. is_segment_byte (first l)) (rw (first_blanks b (spell_segment x (spell_segments xs []))) (segment_start is_segment_byte refl refl x (spell_segments xs []))) refl e
 
 no_dot_end : (t : G.Query) → spell t ≡ 0x24 ∷ 0x2E ∷ [] → ⊥
 no_dot_end t e = go t.segments (ap tl e)
@@ -49,7 +49,7 @@ no_dot_end t e = go t.segments (ap tl e)
 
     go : (xs : G.Segments) → spell_segments xs [] ≡ 0x2E ∷ [] → ⊥
     go no_segment e = cons_not (sym e)
-    go (more_segments_lem b x xs) e = at x (spell_segments xs []) (unblanked b refl e)
+    go (more_segments b x xs) e = at x (spell_segments xs []) (unblanked b refl e)
 
 no_open_end : (t : G.Query) → spell t ≡ 0x24 ∷ 0x2E ∷ 0x61 ∷ 0x5B ∷ [] → ⊥
 unfolding encode_all
@@ -65,7 +65,7 @@ no_open_end t e = go t.segments (ap tl e)
 
     behind : (xs : G.Segments) → spell_segments xs [] ≡ 0x5B ∷ [] → ⊥
     behind no_segment e = cons_not (sym e)
-    behind (more_segments_lem b x xs) e = opened x (spell_segments xs []) (unblanked b refl e)
+    behind (more_segments b x xs) e = opened x (spell_segments xs []) (unblanked b refl e)
 
     more : (cs : List ℕ) → every is_name_char cs ≡ true → (xs : G.Segments) → encode_all cs ++ spell_segments xs [] ≡ 0x5B ∷ [] → ⊥
     more [] h xs e = behind xs e
@@ -83,7 +83,7 @@ no_open_end t e = go t.segments (ap tl e)
 
     go : (xs : G.Segments) → spell_segments xs [] ≡ 0x2E ∷ 0x61 ∷ 0x5B ∷ [] → ⊥
     go no_segment e = cons_not (sym e)
-    go (more_segments_lem b x xs) e = at x xs (unblanked b refl e)
+    go (more_segments b x xs) e = at x xs (unblanked b refl e)
 
 -- ---- `$[01]`, `$[-0]`: an index or a slice begins with a whole number
 
@@ -128,7 +128,7 @@ bracket_int xs s h g e k = go xs e
 
     go : (xs : G.Segments) → spell_segments xs [] ≡ 0x5B ∷ s → ⊥
     go no_segment e = cons_not (sym e)
-    go (more_segments_lem b x xs) e = at x (spell_segments xs []) (unblanked b refl e)
+    go (more_segments b x xs) e = at x (spell_segments xs []) (unblanked b refl e)
 
 no_leading_zero : (t : G.Query) → spell t ≡ 0x24 ∷ 0x5B ∷ 0x30 ∷ 0x31 ∷ 0x5D ∷ [] → ⊥
 no_leading_zero t e = bracket_int t.segments (0x30 ∷ 0x31 ∷ 0x5D ∷ []) refl refl (ap tl e) int
@@ -147,10 +147,10 @@ no_minus_zero t e = bracket_int t.segments (0x2D ∷ 0x30 ∷ 0x5D ∷ []) refl 
     int (minus_int n) r a e = true≢false (sym n.is_first ∙ ap (λ l. is_digit1 (hd (tl l))) e)
 
 -- A filter in which `@` is followed by a byte that begins neither a segment nor an operator, and closes nothing.
-no_word : (c : ℕ) (s : List ℕ) (t : G.Query) → is_blank c ≡ false → goes_on_lem c ≡ false → ends_segment c ≡ false → spell t ≡ 0x24 ∷ 0x5B ∷ 0x3F ∷ 0x40 ∷ 0x20 ∷ c ∷ s → ⊥
+no_word : (c : ℕ) (s : List ℕ) (t : G.Query) → is_blank c ≡ false → goes_on c ≡ false → ends_segment c ≡ false → spell t ≡ 0x24 ∷ 0x5B ∷ 0x3F ∷ 0x40 ∷ 0x20 ∷ c ∷ s → ⊥
 no_word c s t n g h e =
     from_query (0x20 ∷ c ∷ s) t
-    (λ xs b d o y r f. apart (λ m. goes_on_lem (first m)) (compared_start xs b o (spell_blanks d (spell_comparable y r))) (rw n g) f)
+    (λ xs b d o y r f. apart (λ m. goes_on (first m)) (compared_start xs b o (spell_blanks d (spell_comparable y r))) (rw n g) f)
     (λ xs r a f. apart (λ m. ends_segment (first m)) (segments_start ends_segment refl refl xs r (rw a refl)) (rw n h) f)
     e
 
@@ -181,7 +181,7 @@ no_wild_compared t e = from_query (0x2E ∷ 0x2A ∷ 0x3D ∷ 0x3D ∷ 0x31 ∷ 
 
     tested : (xs : G.Segments) (r : List ℕ) → ends_basic (first r) ≡ true → spell_segments xs r ≡ 0x2E ∷ 0x2A ∷ 0x3D ∷ 0x3D ∷ 0x31 ∷ 0x5D ∷ [] → ⊥
     tested no_segment r a e = apart (λ m. ends_basic (first m)) a refl e
-    tested (more_segments_lem b x xs) r a e = at x xs r a (unblanked b refl e)
+    tested (more_segments b x xs) r a e = at x xs r a (unblanked b refl e)
 
 -- ---- `$[?@==[1]]`: nothing that is compared begins with a bracket
 

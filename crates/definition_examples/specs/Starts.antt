@@ -15,20 +15,20 @@ use Rattle.definition.specs.Grammar.SingularSegments.{no_singular, more_singular
 use Rattle.definition.specs.Grammar.Singular.{rel_singular, abs_singular}
 use Rattle.definition.specs.Grammar.Literal.{number_literal, text_literal, true_literal, false_literal, null_literal}
 use Rattle.definition.specs.Grammar.Operator.{eq_operator, ne_operator, lt_operator, le_operator, gt_operator, ge_operator}
-use Rattle.definition.specs.Grammar.Segments.{no_segment, more_segments_lem}
+use Rattle.definition.specs.Grammar.Segments.{no_segment, more_segments}
 use Rattle.definition.specs.Grammar.Segment.{child_brackets, child_wild, child_name, descendant_brackets, descendant_wild, descendant_name}
 use Rattle.definition.specs.Grammar.Bracketed.{bracketed}
-use Rattle.definition.specs.Grammar.Selectors.{no_selector, more_selectors_lem}
+use Rattle.definition.specs.Grammar.Selectors.{no_selector, more_selectors}
 use Rattle.definition.specs.Grammar.Selector.{name_selector, wildcard_selector, slice_selector, index_selector, filter_selector}
-use Rattle.definition.specs.Grammar.LogicalOr.{logical_or_lem}
-use Rattle.definition.specs.Grammar.MoreOr.{no_or_lem, more_or_lem}
-use Rattle.definition.specs.Grammar.LogicalAnd.{logical_and_lem}
-use Rattle.definition.specs.Grammar.MoreAnd.{no_and_lem, more_and_lem}
+use Rattle.definition.specs.Grammar.LogicalOr.{logical_or}
+use Rattle.definition.specs.Grammar.MoreOr.{no_or, more_or}
+use Rattle.definition.specs.Grammar.LogicalAnd.{logical_and}
+use Rattle.definition.specs.Grammar.MoreAnd.{no_and, more_and}
 use Rattle.definition.specs.Grammar.Basic.{paren_basic, not_paren, comparison, test_basic, not_test}
 use Rattle.definition.specs.Grammar.Paren.{paren}
 use Rattle.definition.specs.Grammar.Test.{query_test, function_test}
 use Rattle.definition.specs.Grammar.FilterQuery.{rel_query, abs_query}
-use Rattle.definition.specs.Grammar.Comparable.{literal_comparable, singular_comparable, function_comparable_lem}
+use Rattle.definition.specs.Grammar.Comparable.{literal_comparable, singular_comparable, function_comparable}
 use Rattle.definition.specs.Grammar.Function.{function}
 use Rattle.definition_examples.specs.Texts.{bytes}
 use Rattle.basics.specs.Lists.{cons_not}
@@ -91,20 +91,20 @@ segment_start p a b (descendant_name n) r = b
 
 pub segments_start : (p : ℕ → Bool) → p 0x5B ≡ true → p 0x2E ≡ true → (xs : G.Segments) (r : List ℕ) → p (first r) ≡ true → p (first (spell_segments xs r)) ≡ true
 segments_start p a b no_segment r h = h
-segments_start p a b (more_segments_lem c x xs) r h = rw (first_blanks c (spell_segment x (spell_segments xs r))) (segment_start p a b x (spell_segments xs r))
+segments_start p a b (more_segments c x xs) r h = rw (first_blanks c (spell_segment x (spell_segments xs r))) (segment_start p a b x (spell_segments xs r))
 
 -- what stands behind a selector, a basic expression and a conjunction
 pub selectors_start : (p : ℕ → Bool) → p 0x2C ≡ true → (xs : G.Selectors) (r : List ℕ) → p (first r) ≡ true → p (first (spell_selectors xs r)) ≡ true
 selectors_start p a no_selector r h = h
-selectors_start p a (more_selectors_lem b c x xs) r h = rw (first_blanks b (0x2C ∷ spell_blanks c (spell_selector x (spell_selectors xs r)))) a
+selectors_start p a (more_selectors b c x xs) r h = rw (first_blanks b (0x2C ∷ spell_blanks c (spell_selector x (spell_selectors xs r)))) a
 
 pub ands_start : (p : ℕ → Bool) → p 0x26 ≡ true → (xs : G.MoreAnd) (r : List ℕ) → p (first r) ≡ true → p (first (spell_more_and xs r)) ≡ true
-ands_start p a no_and_lem r h = h
-ands_start p a (more_and_lem b c x xs) r h = rw (first_blanks b (0x26 ∷ 0x26 ∷ spell_blanks c (spell_basic x (spell_more_and xs r)))) a
+ands_start p a no_and r h = h
+ands_start p a (more_and b c x xs) r h = rw (first_blanks b (0x26 ∷ 0x26 ∷ spell_blanks c (spell_basic x (spell_more_and xs r)))) a
 
 pub ors_start : (p : ℕ → Bool) → p 0x7C ≡ true → (xs : G.MoreOr) (r : List ℕ) → p (first r) ≡ true → p (first (spell_more_or xs r)) ≡ true
-ors_start p a no_or_lem r h = h
-ors_start p a (more_or_lem b c x xs) r h = rw (first_blanks b (0x7C ∷ 0x7C ∷ spell_blanks c (spell_logical_and x (spell_more_or xs r)))) a
+ors_start p a no_or r h = h
+ors_start p a (more_or b c x xs) r h = rw (first_blanks b (0x7C ∷ 0x7C ∷ spell_blanks c (spell_logical_and x (spell_more_or xs r)))) a
 
 pub close_start : (p : ℕ → Bool) → p 0x5D ≡ true → (b : Blanks) (r : List ℕ) → p (first (spell_blanks b (0x5D ∷ r))) ≡ true
 close_start p a b r = rw (first_blanks b (0x5D ∷ r)) a
@@ -224,7 +224,7 @@ comparable_start (literal_comparable false_literal) r = refl
 comparable_start (literal_comparable null_literal) r = refl
 comparable_start (singular_comparable (rel_singular xs)) r = refl
 comparable_start (singular_comparable (abs_singular xs)) r = refl
-comparable_start (function_comparable_lem (function n b xs c)) r = rw n.is_first refl
+comparable_start (function_comparable (function n b xs c)) r = rw n.is_first refl
 
 -- `@` and the bytes l behind it
 module _ (l : List ℕ) where
@@ -249,7 +249,7 @@ module _ (l : List ℕ) where
   -- a comparison begins with a singular query, a test with a query
   pub from_comparable : (x : G.Comparable) (r : List ℕ) → ((xs : G.SingularSegments) → spell_singular_segments xs r ≡ l → ⊥) → spell_comparable x r ≡ 0x40 ∷ l → ⊥
   from_comparable (literal_comparable x) r k e = no_literal x r e
-  from_comparable (function_comparable_lem f) r k e = no_function_lem f r e
+  from_comparable (function_comparable f) r k e = no_function_lem f r e
   from_comparable (singular_comparable (abs_singular xs)) r k e = not_at 0x24 refl e
   from_comparable (singular_comparable (rel_singular xs)) r k e = k xs (ap tl e)
 
@@ -289,7 +289,7 @@ module _ (l : List ℕ) where
       selected wildcard_selector r a e = unlike (eqb 0x2A) refl refl e
       selected (slice_selector x) r a e = sliced x.start _ e
       selected (index_selector i) r a e = unlike is_number_byte (int_number i r) refl e
-      selected (filter_selector b (logical_or_lem (logical_and_lem x u) v)) r a e =
+      selected (filter_selector b (logical_or (logical_and x u) v)) r a e =
           let s = spell_more_and u (spell_more_or v r) in
           from_basic x s (λ xs b c o y. k xs b c o y s) (λ xs. m xs s (ands_start ends_basic refl u (spell_more_or v r) (ors_start ends_basic refl v r a))) (unblanked b refl (ap tl e))
 
@@ -303,7 +303,7 @@ module _ (l : List ℕ) where
 
       go : (xs : G.Segments) → spell_segments xs [] ≡ 0x5B ∷ 0x3F ∷ 0x40 ∷ l → ⊥
       go no_segment e = cons_not (sym e)
-      go (more_segments_lem b x xs) e = at x (spell_segments xs []) (unblanked b refl e)
+      go (more_segments b x xs) e = at x (spell_segments xs []) (unblanked b refl e)
 
 -- singular segments begin as segments do
 pub singulars_start : (p : ℕ → Bool) → p 0x5B ≡ true → p 0x2E ≡ true → (xs : G.SingularSegments) (r : List ℕ) → p (first r) ≡ true → p (first (spell_singular_segments xs r)) ≡ true
@@ -316,8 +316,8 @@ singulars_start p a b (more_singular c x xs) r h = rw (first_blanks c (spell_sin
     go (index_segment i) = a
 
 -- behind the first side of a comparison: a segment or an operator
-abbrev pub goes_on_lem : ℕ → Bool
-goes_on_lem c = is_operator_byte c || (eqb c 0x5B || eqb c 0x2E)
+abbrev pub goes_on : ℕ → Bool
+goes_on c = is_operator_byte c || (eqb c 0x5B || eqb c 0x2E)
 
-pub compared_start : (xs : G.SingularSegments) (b : Blanks) (o : G.Operator) (s : List ℕ) → goes_on_lem (first (spell_singular_segments xs (spell_blanks b (spell_operator o s)))) ≡ true
-compared_start xs b o s = singulars_start goes_on_lem refl refl xs (spell_blanks b (spell_operator o s)) (rw (first_blanks b (spell_operator o s), operator_start o s) refl)
+pub compared_start : (xs : G.SingularSegments) (b : Blanks) (o : G.Operator) (s : List ℕ) → goes_on (first (spell_singular_segments xs (spell_blanks b (spell_operator o s)))) ≡ true
+compared_start xs b o s = singulars_start goes_on refl refl xs (spell_blanks b (spell_operator o s)) (rw (first_blanks b (spell_operator o s), operator_start o s) refl)

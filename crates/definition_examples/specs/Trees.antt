@@ -3,10 +3,10 @@
 use Rattle.std.specs.Prelude.{ℕ, zero, suc, ◌≡◌, refl, List, [], ◌∷◌, Bool, true, false, cond, ◌&&◌, ◌||◌, eqb}
 use Rattle.std.proofs.Math.Option.{Option, none, some}
 use Rattle.definition.specs.Bytes.{every}
-use Rattle.definition.specs.Lexical.{Blanks, Name, FunctionName, Natural, Digits, Int, Whole, Fraction, Sign, Exponent, Number, Hex4, Escape, Char, Quote, Text, Bound, Step, Slice, is_blank, is_digit_lem, is_digit1, is_lcalpha, is_name_first, is_name_char, is_function_char, is_unescaped, is_hex, is_e, is_short, is_high, is_low, hex4_value, own_byte, other_byte}
+use Rattle.definition.specs.Lexical.{Blanks, Name, FunctionName, Natural, Digits, Int, Whole, Fraction, Sign, Exponent, Number, Hex4, Escape, Char, Quote, Text, Bound, Step, Slice, is_blank, is_digit, is_digit1, is_lcalpha, is_name_first, is_name_char, is_function_char, is_unescaped, is_hex, is_e, is_short, is_high, is_low, hex4_value, own_byte, other_byte}
 use Rattle.definition.specs.Lexical.Int.{zero_int, plain_int, minus_int}
 use Rattle.definition.specs.Lexical.Whole.{int_whole, minus_zero}
-use Rattle.definition.specs.Lexical.Fraction.{no_fraction_lem, fraction}
+use Rattle.definition.specs.Lexical.Fraction.{no_fraction, fraction}
 use Rattle.definition.specs.Lexical.Sign.{no_sign, plus_sign, minus_sign}
 use Rattle.definition.specs.Lexical.Exponent.{no_exponent, exponent}
 use Rattle.definition.specs.Lexical.Escape.{short, unicode, pair}
@@ -20,24 +20,24 @@ use Rattle.definition.specs.Grammar.SingularSegments.{no_singular, more_singular
 use Rattle.definition.specs.Grammar.Singular.{rel_singular, abs_singular}
 use Rattle.definition.specs.Grammar.Literal.{number_literal, text_literal, true_literal, false_literal, null_literal}
 use Rattle.definition.specs.Grammar.Operator.{eq_operator, ne_operator, lt_operator, le_operator, gt_operator, ge_operator}
-use Rattle.definition.specs.Grammar.Segments.{no_segment, more_segments_lem}
+use Rattle.definition.specs.Grammar.Segments.{no_segment, more_segments}
 use Rattle.definition.specs.Grammar.Segment.{child_brackets, child_wild, child_name, descendant_brackets, descendant_wild, descendant_name}
 use Rattle.definition.specs.Grammar.Bracketed.{bracketed}
-use Rattle.definition.specs.Grammar.Selectors.{no_selector, more_selectors_lem}
+use Rattle.definition.specs.Grammar.Selectors.{no_selector, more_selectors}
 use Rattle.definition.specs.Grammar.Selector.{name_selector, wildcard_selector, slice_selector, index_selector, filter_selector}
-use Rattle.definition.specs.Grammar.LogicalOr.{logical_or_lem}
-use Rattle.definition.specs.Grammar.MoreOr.{no_or_lem, more_or_lem}
-use Rattle.definition.specs.Grammar.LogicalAnd.{logical_and_lem}
-use Rattle.definition.specs.Grammar.MoreAnd.{no_and_lem, more_and_lem}
+use Rattle.definition.specs.Grammar.LogicalOr.{logical_or}
+use Rattle.definition.specs.Grammar.MoreOr.{no_or, more_or}
+use Rattle.definition.specs.Grammar.LogicalAnd.{logical_and}
+use Rattle.definition.specs.Grammar.MoreAnd.{no_and, more_and}
 use Rattle.definition.specs.Grammar.Basic.{paren_basic, not_paren, comparison, test_basic, not_test}
 use Rattle.definition.specs.Grammar.Paren.{paren}
 use Rattle.definition.specs.Grammar.Test.{query_test, function_test}
 use Rattle.definition.specs.Grammar.FilterQuery.{rel_query, abs_query}
-use Rattle.definition.specs.Grammar.Comparable.{literal_comparable, singular_comparable, function_comparable_lem}
+use Rattle.definition.specs.Grammar.Comparable.{literal_comparable, singular_comparable, function_comparable}
 use Rattle.definition.specs.Grammar.Function.{function}
 use Rattle.definition.specs.Grammar.Arguments.{no_argument, arguments}
-use Rattle.definition.specs.Grammar.MoreArguments.{no_more, more_arguments_lem}
-use Rattle.definition.specs.Grammar.Argument.{literal_argument_lem, logical_argument}
+use Rattle.definition.specs.Grammar.MoreArguments.{no_more, more_arguments}
+use Rattle.definition.specs.Grammar.Argument.{literal_argument, logical_argument}
 
 -- ---- readers
 
@@ -108,10 +108,10 @@ abbrev function_name : Reader FunctionName
 function_name = then one (λ c. then (run is_function_char) (λ cs. given (is_lcalpha c) (λ h. given (every is_function_char cs) (λ k. give (record { first = c; more = cs; is_first = h; are_more = k })))))
 
 abbrev natural : Reader Natural
-natural = then one (λ c. then (run is_digit_lem) (λ cs. given (is_digit1 c) (λ h. given (every is_digit_lem cs) (λ k. give (record { first = c; more = cs; is_first = h; are_more = k })))))
+natural = then one (λ c. then (run is_digit) (λ cs. given (is_digit1 c) (λ h. given (every is_digit cs) (λ k. give (record { first = c; more = cs; is_first = h; are_more = k })))))
 
 abbrev digits : Reader Digits
-digits = then one (λ c. then (run is_digit_lem) (λ cs. given (is_digit_lem c) (λ h. given (every is_digit_lem cs) (λ k. give (record { first = c; more = cs; is_first = h; are_more = k })))))
+digits = then one (λ c. then (run is_digit) (λ cs. given (is_digit c) (λ h. given (every is_digit cs) (λ k. give (record { first = c; more = cs; is_first = h; are_more = k })))))
 
 abbrev int : Reader Int
 int = or (code 0x30 (give zero_int)) (or (code 0x2D (then natural (λ n. give (minus_int n)))) (then natural (λ n. give (plain_int n))))
@@ -120,7 +120,7 @@ abbrev whole : Reader Whole
 whole = or (then int (λ i. give (int_whole i))) (word (0x2D ∷ 0x30 ∷ []) (give minus_zero))
 
 abbrev frac : Reader Fraction
-frac = or (code 0x2E (then digits (λ d. give (fraction d)))) (give no_fraction_lem)
+frac = or (code 0x2E (then digits (λ d. give (fraction d)))) (give no_fraction)
 
 abbrev sign : Reader Sign
 sign = or (code 0x2B (give plus_sign)) (or (code 0x2D (give minus_sign)) (give no_sign))
@@ -200,7 +200,7 @@ operator =
 abbrev mutual
   segments : ℕ → Reader G.Segments
   segments zero = fail
-  segments (suc f) = or (then blanks (λ b. then (segment f) (λ x. then (segments f) (λ xs. give (more_segments_lem b x xs))))) (give no_segment)
+  segments (suc f) = or (then blanks (λ b. then (segment f) (λ x. then (segments f) (λ xs. give (more_segments b x xs))))) (give no_segment)
 
   segment : ℕ → Reader G.Segment
   segment zero = fail
@@ -214,7 +214,7 @@ abbrev mutual
 
   selectors : ℕ → Reader G.Selectors
   selectors zero = fail
-  selectors (suc f) = or (then blanks (λ b. code 0x2C (then blanks (λ c. then (selector f) (λ x. then (selectors f) (λ xs. give (more_selectors_lem b c x xs))))))) (give no_selector)
+  selectors (suc f) = or (then blanks (λ b. code 0x2C (then blanks (λ c. then (selector f) (λ x. then (selectors f) (λ xs. give (more_selectors b c x xs))))))) (give no_selector)
 
   selector : ℕ → Reader G.Selector
   selector zero = fail
@@ -226,19 +226,19 @@ abbrev mutual
 
   or_expr : ℕ → Reader G.LogicalOr
   or_expr zero = fail
-  or_expr (suc f) = then (and_expr f) (λ x. then (ors f) (λ xs. give (logical_or_lem x xs)))
+  or_expr (suc f) = then (and_expr f) (λ x. then (ors f) (λ xs. give (logical_or x xs)))
 
   ors : ℕ → Reader G.MoreOr
   ors zero = fail
-  ors (suc f) = or (then blanks (λ b. word (0x7C ∷ 0x7C ∷ []) (then blanks (λ c. then (and_expr f) (λ x. then (ors f) (λ xs. give (more_or_lem b c x xs))))))) (give no_or_lem)
+  ors (suc f) = or (then blanks (λ b. word (0x7C ∷ 0x7C ∷ []) (then blanks (λ c. then (and_expr f) (λ x. then (ors f) (λ xs. give (more_or b c x xs))))))) (give no_or)
 
   and_expr : ℕ → Reader G.LogicalAnd
   and_expr zero = fail
-  and_expr (suc f) = then (basic f) (λ x. then (ands f) (λ xs. give (logical_and_lem x xs)))
+  and_expr (suc f) = then (basic f) (λ x. then (ands f) (λ xs. give (logical_and x xs)))
 
   ands : ℕ → Reader G.MoreAnd
   ands zero = fail
-  ands (suc f) = or (then blanks (λ b. word (0x26 ∷ 0x26 ∷ []) (then blanks (λ c. then (basic f) (λ x. then (ands f) (λ xs. give (more_and_lem b c x xs))))))) (give no_and_lem)
+  ands (suc f) = or (then blanks (λ b. word (0x26 ∷ 0x26 ∷ []) (then blanks (λ c. then (basic f) (λ x. then (ands f) (λ xs. give (more_and b c x xs))))))) (give no_and)
 
   basic : ℕ → Reader G.Basic
   basic zero = fail
@@ -262,7 +262,7 @@ abbrev mutual
   comparable : ℕ → Reader G.Comparable
   comparable zero = fail
   comparable (suc f) =
-      or (then (call f) (λ x. give (function_comparable_lem x)))
+      or (then (call f) (λ x. give (function_comparable x)))
       (or (then literal (λ l. give (literal_comparable l))) (then singular (λ q. give (singular_comparable q))))
 
   call : ℕ → Reader G.Function
@@ -275,11 +275,11 @@ abbrev mutual
 
   furthers : ℕ → Reader G.MoreArguments
   furthers zero = fail
-  furthers (suc f) = or (then blanks (λ b. code 0x2C (then blanks (λ c. then (argument f) (λ x. then (furthers f) (λ xs. give (more_arguments_lem b c x xs))))))) (give no_more)
+  furthers (suc f) = or (then blanks (λ b. code 0x2C (then blanks (λ c. then (argument f) (λ x. then (furthers f) (λ xs. give (more_arguments b c x xs))))))) (give no_more)
 
   argument : ℕ → Reader G.Argument
   argument zero = fail
-  argument (suc f) = or (then (or_expr f) (λ e. give (logical_argument e))) (then literal (λ l. give (literal_argument_lem l)))
+  argument (suc f) = or (then (or_expr f) (λ e. give (logical_argument e))) (then literal (λ l. give (literal_argument l)))
 
 -- ---- the query: nothing may be left behind it
 

@@ -13,24 +13,24 @@ use Rattle.definition.specs.Grammar.SingularSegment.{name_segment, dot_segment, 
 use Rattle.definition.specs.Grammar.SingularSegments.{no_singular, more_singular}
 use Rattle.definition.specs.Grammar.Singular.{rel_singular, abs_singular}
 use Rattle.definition.specs.Grammar.Literal.{number_literal, text_literal, true_literal, false_literal, null_literal}
-use Rattle.definition.specs.Grammar.Segments.{no_segment, more_segments_lem}
+use Rattle.definition.specs.Grammar.Segments.{no_segment, more_segments}
 use Rattle.definition.specs.Grammar.Segment.{child_brackets, child_wild, child_name, descendant_brackets, descendant_wild, descendant_name}
 use Rattle.definition.specs.Grammar.Bracketed.{bracketed}
-use Rattle.definition.specs.Grammar.Selectors.{no_selector, more_selectors_lem}
+use Rattle.definition.specs.Grammar.Selectors.{no_selector, more_selectors}
 use Rattle.definition.specs.Grammar.Selector.{name_selector, wildcard_selector, slice_selector, index_selector, filter_selector}
-use Rattle.definition.specs.Grammar.LogicalOr.{logical_or_lem}
-use Rattle.definition.specs.Grammar.MoreOr.{no_or_lem, more_or_lem}
-use Rattle.definition.specs.Grammar.LogicalAnd.{logical_and_lem}
-use Rattle.definition.specs.Grammar.MoreAnd.{no_and_lem, more_and_lem}
+use Rattle.definition.specs.Grammar.LogicalOr.{logical_or}
+use Rattle.definition.specs.Grammar.MoreOr.{no_or, more_or}
+use Rattle.definition.specs.Grammar.LogicalAnd.{logical_and}
+use Rattle.definition.specs.Grammar.MoreAnd.{no_and, more_and}
 use Rattle.definition.specs.Grammar.Basic.{paren_basic, not_paren, comparison, test_basic, not_test}
 use Rattle.definition.specs.Grammar.Paren.{paren}
 use Rattle.definition.specs.Grammar.Test.{query_test, function_test}
 use Rattle.definition.specs.Grammar.FilterQuery.{rel_query, abs_query}
-use Rattle.definition.specs.Grammar.Comparable.{literal_comparable, singular_comparable, function_comparable_lem}
+use Rattle.definition.specs.Grammar.Comparable.{literal_comparable, singular_comparable, function_comparable}
 use Rattle.definition.specs.Grammar.Function.{function}
 use Rattle.definition.specs.Grammar.Arguments.{no_argument, arguments}
-use Rattle.definition.specs.Grammar.MoreArguments.{no_more, more_arguments_lem}
-use Rattle.definition.specs.Grammar.Argument.{literal_argument_lem, query_argument, logical_argument, function_argument}
+use Rattle.definition.specs.Grammar.MoreArguments.{no_more, more_arguments}
+use Rattle.definition.specs.Grammar.Argument.{literal_argument, query_argument, logical_argument, function_argument}
 use Rattle.regex_definition.specs.Scope.{Scope, whole, part}
 use Rattle.definition.specs.Forms as F
 use Rattle.definition.specs.Forms.{is_singular}
@@ -214,7 +214,7 @@ module _ (can : ℕ → Bool) (floats : (n : Number) (b : ℕ) → numeral n ≡
 
     segments : (t : G.Segments) → Gives (λ q. can_segments can q ≡ true) (walk_segments t)
     segments no_segment = gives refl
-    segments (more_segments_lem b x xs) = then (segment x) (λ s hs. then (segments xs) (λ q hq. gives (hs q hq)))
+    segments (more_segments b x xs) = then (segment x) (λ s hs. then (segments xs) (λ q hq. gives (hs q hq)))
 
     segment : (t : G.Segment) → Gives (λ s. (q : F.Segments) → can_segments can q ≡ true → can_segments can (s q) ≡ true) (walk_segment t)
     segment (child_brackets x) = then (brackets x) (λ ss hs. gives {x = F.Segments.child ss} (λ q hq. and_both (can_selectors can ss) (can_segments can q) hs hq))
@@ -229,7 +229,7 @@ module _ (can : ℕ → Bool) (floats : (n : Number) (b : ℕ) → numeral n ≡
 
     selectors : (t : G.Selectors) (s : F.Selector) → can_selector can s ≡ true → Gives (λ ss. can_selectors can ss ≡ true) (walk_selectors t s)
     selectors no_selector s hs = gives hs
-    selectors (more_selectors_lem b c x xs) s hs = then (selector x) (λ t ht. then (selectors xs t ht) (λ ss hss. gives {x = F.Selectors.and s ss} (and_both (can_selector can s) (can_selectors can ss) hs hss)))
+    selectors (more_selectors b c x xs) s hs = then (selector x) (λ t ht. then (selectors xs t ht) (λ ss hss. gives {x = F.Selectors.and s ss} (and_both (can_selector can s) (can_selectors can ss) hs hss)))
 
     selector : (t : G.Selector) → Gives (λ s. can_selector can s ≡ true) (walk_selector t)
     selector (name_selector t) = gives refl
@@ -239,18 +239,18 @@ module _ (can : ℕ → Bool) (floats : (n : Number) (b : ℕ) → numeral n ≡
     selector (filter_selector b e) = then (or_expr e true) (λ x hx. gives (chained_test x hx))
 
     or_expr : (t : G.LogicalOr) (a : Bool) → Gives (Chained a) (walk_or t a)
-    or_expr (logical_or_lem x xs) a = then (and_expr x a) (λ e he. ors xs a e he)
+    or_expr (logical_or x xs) a = then (and_expr x a) (λ e he. ors xs a e he)
 
     ors : (t : G.MoreOr) (a : Bool) (e : Expression) → Chained a e → Gives (Chained a) (walk_more_or t a e)
-    ors no_or_lem a e he = gives he
-    ors (more_or_lem b c x xs) a e he = then (and_expr x a) (λ d hd. ors xs a (logical (either (as_test e) (as_test d))) (chained_either a e d he hd))
+    ors no_or a e he = gives he
+    ors (more_or b c x xs) a e he = then (and_expr x a) (λ d hd. ors xs a (logical (either (as_test e) (as_test d))) (chained_either a e d he hd))
 
     and_expr : (t : G.LogicalAnd) (a : Bool) → Gives (Chained a) (walk_and t a)
-    and_expr (logical_and_lem x xs) a = then (basic x) (λ e he. then (asked_compared a e he) (λ f hf. ands xs a f hf))
+    and_expr (logical_and x xs) a = then (basic x) (λ e he. then (asked_compared a e he) (λ f hf. ands xs a f hf))
 
     ands : (t : G.MoreAnd) (a : Bool) (e : Expression) → Chained a e → Gives (Chained a) (walk_more_and t a e)
-    ands no_and_lem a e he = gives he
-    ands (more_and_lem b c x xs) a e he = then (basic x) (λ d hd. then (asked_compared a d hd) (λ f hf. ands xs a (logical (both (as_test e) (as_test f))) (chained_both a e f he hf)))
+    ands no_and a e he = gives he
+    ands (more_and b c x xs) a e he = then (basic x) (λ d hd. then (asked_compared a d hd) (λ f hf. ands xs a (logical (both (as_test e) (as_test f))) (chained_both a e f he hf)))
 
     basic : (t : G.Basic) → Gives Asked (walk_basic t)
     basic (paren_basic p) = parens p
@@ -274,7 +274,7 @@ module _ (can : ℕ → Bool) (floats : (n : Number) (b : ℕ) → numeral n ≡
     comparable : (t : G.Comparable) → Gives AskedOperand (walk_comparable t)
     comparable (literal_comparable l) = then (asked_literal l) (λ x hx. gives hx)
     comparable (singular_comparable q) = then (asked_singular q) (λ x hx. gives hx)
-    comparable (function_comparable_lem f) = then (function_call f) (λ x hx. gives (asked_chained x hx))
+    comparable (function_comparable f) = then (function_call f) (λ x hx. gives (asked_chained x hx))
 
     function_call : (t : G.Function) → Gives Asked (walk_function t)
     function_call (function f b xs c) = then (argument_list xs) (λ os hos. asked_call (named (function_bytes f)) os hos)
@@ -285,10 +285,10 @@ module _ (can : ℕ → Bool) (floats : (n : Number) (b : ℕ) → numeral n ≡
 
     furthers : (t : G.MoreArguments) → Gives AskedAll (walk_more_arguments t)
     furthers no_more = gives tt
-    furthers (more_arguments_lem b c x xs) = then (argument x) (λ o ho. then (furthers xs) (λ os hos. gives (ho, hos)))
+    furthers (more_arguments b c x xs) = then (argument x) (λ o ho. then (furthers xs) (λ os hos. gives (ho, hos)))
 
     argument : (t : G.Argument) → Gives AskedOperand (walk_argument t)
-    argument (literal_argument_lem l) = then (asked_literal l) (λ x hx. gives hx)
+    argument (literal_argument l) = then (asked_literal l) (λ x hx. gives hx)
     argument (query_argument q) = then (filter_query q) (λ x hx. gives hx)
     argument (logical_argument e) = then (or_expr e false) (λ x hx. gives hx)
     argument (function_argument f) = then (function_call f) (λ x hx. gives (asked_chained x hx))

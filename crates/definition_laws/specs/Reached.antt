@@ -15,7 +15,7 @@ use Rattle.definition.specs.Lexical.Step.{no_step, step}
 use Rattle.definition.specs.Literals.{in_range, Numeral, numeral}
 use Rattle.definition.specs.Forms.{is_singular_selector, is_singular_selectors, is_singular_segments}
 use Rattle.definition.specs.Forms.Operator.{eq, ne, lt, le, gt, ge}
-use Rattle.definition.specs.QueryForms.{literal_right, bound_right, query_right, segments_right, selectors_right, selector_right, test_right, argument_right_lem, function_right, nesting, starts_at_root, is_form}
+use Rattle.definition.specs.QueryForms.{literal_right, bound_right, query_right, segments_right, selectors_right, selector_right, test_right, argument_right, function_right, nesting, starts_at_root, is_form}
 use Rattle.definition.specs.Selecting.{judge}
 use Rattle.definition.specs.Selecting.Reading.{form}
 use Rattle.definition.specs.Grammar as G
@@ -24,24 +24,24 @@ use Rattle.definition.specs.Grammar.SingularSegments.{no_singular, more_singular
 use Rattle.definition.specs.Grammar.Singular.{rel_singular, abs_singular}
 use Rattle.definition.specs.Grammar.Literal.{number_literal, text_literal, true_literal, false_literal, null_literal}
 use Rattle.definition.specs.Grammar.Operator.{eq_operator, ne_operator, lt_operator, le_operator, gt_operator, ge_operator}
-use Rattle.definition.specs.Grammar.Segments.{no_segment, more_segments_lem}
+use Rattle.definition.specs.Grammar.Segments.{no_segment, more_segments}
 use Rattle.definition.specs.Grammar.Segment.{child_brackets, descendant_brackets}
 use Rattle.definition.specs.Grammar.Bracketed.{bracketed}
-use Rattle.definition.specs.Grammar.Selectors.{no_selector, more_selectors_lem}
+use Rattle.definition.specs.Grammar.Selectors.{no_selector, more_selectors}
 use Rattle.definition.specs.Grammar.Selector.{name_selector, wildcard_selector, slice_selector, index_selector, filter_selector}
-use Rattle.definition.specs.Grammar.LogicalOr.{logical_or_lem}
-use Rattle.definition.specs.Grammar.MoreOr.{no_or_lem, more_or_lem}
-use Rattle.definition.specs.Grammar.LogicalAnd.{logical_and_lem}
-use Rattle.definition.specs.Grammar.MoreAnd.{no_and_lem, more_and_lem}
+use Rattle.definition.specs.Grammar.LogicalOr.{logical_or}
+use Rattle.definition.specs.Grammar.MoreOr.{no_or, more_or}
+use Rattle.definition.specs.Grammar.LogicalAnd.{logical_and}
+use Rattle.definition.specs.Grammar.MoreAnd.{no_and, more_and}
 use Rattle.definition.specs.Grammar.Basic.{paren_basic, not_paren, comparison, test_basic}
 use Rattle.definition.specs.Grammar.Paren.{paren}
 use Rattle.definition.specs.Grammar.Test.{query_test, function_test}
 use Rattle.definition.specs.Grammar.FilterQuery.{rel_query, abs_query}
-use Rattle.definition.specs.Grammar.Comparable.{literal_comparable, singular_comparable, function_comparable_lem}
+use Rattle.definition.specs.Grammar.Comparable.{literal_comparable, singular_comparable, function_comparable}
 use Rattle.definition.specs.Grammar.Function.{function}
 use Rattle.definition.specs.Grammar.Arguments.{arguments}
-use Rattle.definition.specs.Grammar.MoreArguments.{no_more, more_arguments_lem}
-use Rattle.definition.specs.Grammar.Argument.{literal_argument_lem, query_argument, function_argument}
+use Rattle.definition.specs.Grammar.MoreArguments.{no_more, more_arguments}
+use Rattle.definition.specs.Grammar.Argument.{literal_argument, query_argument, function_argument}
 use Rattle.regex_definition.specs.Scope.{Scope, whole, part}
 use Rattle.definition.specs.Forms as F
 use Rattle.definition.specs.Forms.{is_singular}
@@ -178,7 +178,7 @@ operand_of (value f) = expression (valued f)
 -- a test alone, as a logical expression
 alone : (t : F.Test) → (x : G.Basic) × (walk_basic x ≡ fine (told t)) → (y : G.LogicalOr) × (walk_or y true ≡ fine (told t))
 unfolding walk_or walk_more_or walk_and walk_more_and
-alone t x = (logical_or_lem (logical_and_lem x.0 no_and_lem) no_or_lem, then _ (then _ x.1 ∙ then _ (told_compared t)))
+alone t x = (logical_or (logical_and x.0 no_and) no_or, then _ (then _ x.1 ∙ then _ (told_compared t)))
 
 -- ---- singular queries
 
@@ -267,18 +267,18 @@ module _ (can : ℕ → Bool) where
     literal_tree (text s) h w = let x = text_written s h in (text_literal x.0, ap (λ (b : List ℕ). fine (text b)) x.1)
 
     mutual
-      unfolding query_right segments_right selectors_right selector_right test_right argument_right_lem function_right walk_segments walk_segment walk_bracketed walk_selectors walk_selector walk_or walk_more_or walk_and walk_more_and walk_basic walk_paren walk_test walk_filter_query walk_comparable walk_function walk_arguments walk_more_arguments walk_argument as_nodes as_value only call named same_bytes
+      unfolding query_right segments_right selectors_right selector_right test_right argument_right function_right walk_segments walk_segment walk_bracketed walk_selectors walk_selector walk_or walk_more_or walk_and walk_more_and walk_basic walk_paren walk_test walk_filter_query walk_comparable walk_function walk_arguments walk_more_arguments walk_argument as_nodes as_value only call named same_bytes
 
       segments_tree : (q : F.Segments) → segments_right q ≡ true → can_segments q ≡ true → (x : G.Segments) × (walk_segments x ≡ fine q)
       segments_tree end h w = (no_segment, refl)
       segments_tree (child ss q) h w =
           let x = bracketed_tree ss (left (selectors_right ss) (segments_right q) h) (left (can_selectors ss) (can_segments q) w) in
           let y = segments_tree q (right (selectors_right ss) (segments_right q) h) (right (can_selectors ss) (can_segments q) w) in
-          (more_segments_lem no_blanks (child_brackets x.0) y.0, then _ (then (λ s. fine (child s)) x.1) ∙ then _ y.1)
+          (more_segments no_blanks (child_brackets x.0) y.0, then _ (then (λ s. fine (child s)) x.1) ∙ then _ y.1)
       segments_tree (descendant ss q) h w =
           let x = bracketed_tree ss (left (selectors_right ss) (segments_right q) h) (left (can_selectors ss) (can_segments q) w) in
           let y = segments_tree q (right (selectors_right ss) (segments_right q) h) (right (can_selectors ss) (can_segments q) w) in
-          (more_segments_lem no_blanks (descendant_brackets x.0) y.0, then _ (then (λ s. fine (descendant s)) x.1) ∙ then _ y.1)
+          (more_segments no_blanks (descendant_brackets x.0) y.0, then _ (then (λ s. fine (descendant s)) x.1) ∙ then _ y.1)
 
       bracketed_tree : (ss : F.Selectors) → selectors_right ss ≡ true → can_selectors ss ≡ true → (x : G.Bracketed) × (walk_bracketed x ≡ fine ss)
       bracketed_tree (one s) h w = let x = selector_tree s h w in (bracketed no_blanks x.0 no_selector no_blanks, then _ x.1)
@@ -288,11 +288,11 @@ module _ (can : ℕ → Bool) where
           (bracketed no_blanks x.0 y.0 no_blanks, then _ x.1 ∙ y.1 s)
 
       selectors_tree : (ss : F.Selectors) → selectors_right ss ≡ true → can_selectors ss ≡ true → (x : G.Selectors) × ((s : F.Selector) → walk_selectors x s ≡ fine (and s ss))
-      selectors_tree (one t) h w = let x = selector_tree t h w in (more_selectors_lem no_blanks no_blanks x.0 no_selector, λ s. then _ x.1 ∙ then _ refl)
+      selectors_tree (one t) h w = let x = selector_tree t h w in (more_selectors no_blanks no_blanks x.0 no_selector, λ s. then _ x.1 ∙ then _ refl)
       selectors_tree (and t ss) h w =
           let x = selector_tree t (left (selector_right t) (selectors_right ss) h) (left (can_selector t) (can_selectors ss) w) in
           let y = selectors_tree ss (right (selector_right t) (selectors_right ss) h) (right (can_selector t) (can_selectors ss) w) in
-          (more_selectors_lem no_blanks no_blanks x.0 y.0, λ s. then _ x.1 ∙ then _ (y.1 t))
+          (more_selectors no_blanks no_blanks x.0 y.0, λ s. then _ x.1 ∙ then _ (y.1 t))
 
       selector_tree : (s : F.Selector) → selector_right s ≡ true → can_selector s ≡ true → (x : G.Selector) × (walk_selector x ≡ fine s)
       selector_tree (name s) h w = let x = text_written s h in (name_selector x.0, ap (λ (b : List ℕ). fine (name b)) x.1)
@@ -309,13 +309,13 @@ module _ (can : ℕ → Bool) where
       basic_tree : (t : F.Test) → test_right t ≡ true → can_test t ≡ true → (x : G.Basic) × (walk_basic x ≡ fine (told t))
       basic_tree (exists q) h w = let x = query_tree q h w in (test_basic (query_test x.0), then _ x.1)
       basic_tree (compare p a b) h w =
-          let x = comparable_tree a (left (argument_right_lem a) (argument_right_lem b) h) (left (can_argument a) (can_argument b) w) in
-          let y = comparable_tree b (right (argument_right_lem a) (argument_right_lem b) h) (right (can_argument a) (can_argument b) w) in
+          let x = comparable_tree a (left (argument_right a) (argument_right b) h) (left (can_argument a) (can_argument b) w) in
+          let y = comparable_tree b (right (argument_right a) (argument_right b) h) (right (can_argument a) (can_argument b) w) in
           (comparison x.0 no_blanks (operator_tree p) no_blanks y.0, then _ x.1 ∙ then _ y.1 ∙ then _ x.2 ∙ then _ y.2 ∙ ap (λ (k : F.Operator). fine (logical (compare k a b))) (operator_back p))
       basic_tree (regex c a b) h w =
-          let x = argument_tree a (left (argument_right_lem a) (argument_right_lem b) h) (left (can_argument a) (can_argument b) w) in
-          let y = argument_tree b (right (argument_right_lem a) (argument_right_lem b) h) (right (can_argument a) (can_argument b) w) in
-          (test_basic (function_test (function (scope_name c) no_blanks (arguments x.0 (more_arguments_lem no_blanks no_blanks y.0 no_more)) no_blanks)), then _ (then _ x.1 ∙ then _ (then _ y.1 ∙ then _ refl)) ∙ scope_call c (operand_of a) (operand_of b) ∙ then _ x.2 ∙ then _ y.2)
+          let x = argument_tree a (left (argument_right a) (argument_right b) h) (left (can_argument a) (can_argument b) w) in
+          let y = argument_tree b (right (argument_right a) (argument_right b) h) (right (can_argument a) (can_argument b) w) in
+          (test_basic (function_test (function (scope_name c) no_blanks (arguments x.0 (more_arguments no_blanks no_blanks y.0 no_more)) no_blanks)), then _ (then _ x.1 ∙ then _ (then _ y.1 ∙ then _ refl)) ∙ scope_call c (operand_of a) (operand_of b) ∙ then _ x.2 ∙ then _ y.2)
       basic_tree (not t) h w =
           let x = alone t (basic_tree t h w) in
           (not_paren no_blanks (paren no_blanks x.0 no_blanks), then _ x.1 ∙ told_not t)
@@ -323,13 +323,13 @@ module _ (can : ℕ → Bool) where
       basic_tree (both a b) h w =
           let x = basic_tree a (left (test_right a) (test_right b) h) (left (can_test a) (can_test b) w) in
           let y = basic_tree b (right (test_right a) (test_right b) h) (right (can_test a) (can_test b) w) in (
-            paren_basic (paren no_blanks (logical_or_lem (logical_and_lem x.0 (more_and_lem no_blanks no_blanks y.0 no_and_lem)) no_or_lem) no_blanks),
+            paren_basic (paren no_blanks (logical_or (logical_and x.0 (more_and no_blanks no_blanks y.0 no_and)) no_or) no_blanks),
             then _ (then _ x.1 ∙ then _ (told_compared a) ∙ then _ y.1 ∙ then _ (told_compared b)) ∙ rw (told_test a, told_test b) refl,
           )
       basic_tree (either a b) h w =
           let x = basic_tree a (left (test_right a) (test_right b) h) (left (can_test a) (can_test b) w) in
           let y = basic_tree b (right (test_right a) (test_right b) h) (right (can_test a) (can_test b) w) in (
-            paren_basic (paren no_blanks (logical_or_lem (logical_and_lem x.0 no_and_lem) (more_or_lem no_blanks no_blanks (logical_and_lem y.0 no_and_lem) no_or_lem)) no_blanks),
+            paren_basic (paren no_blanks (logical_or (logical_and x.0 no_and) (more_or no_blanks no_blanks (logical_and y.0 no_and) no_or)) no_blanks),
             then _ (then _ x.1 ∙ then _ (told_compared a)) ∙ then _ (then _ y.1 ∙ then _ (told_compared b)) ∙ rw (told_test a, told_test b) refl,
           )
 
@@ -337,16 +337,16 @@ module _ (can : ℕ → Bool) where
       query_tree (query root q) h w = let x = segments_tree q h w in (abs_query x.0, then _ x.1)
       query_tree (query current q) h w = let x = segments_tree q h w in (rel_query x.0, then _ x.1)
 
-      comparable_tree : (a : F.Argument) → argument_right_lem a ≡ true → can_argument a ≡ true → (x : G.Comparable) × (walk_comparable x ≡ fine (operand_of a)) × (as_value (operand_of a) ≡ fine a)
+      comparable_tree : (a : F.Argument) → argument_right a ≡ true → can_argument a ≡ true → (x : G.Comparable) × (walk_comparable x ≡ fine (operand_of a)) × (as_value (operand_of a) ≡ fine a)
       comparable_tree (literal l) h w = let x = literal_tree l h w in (literal_comparable x.0, then _ x.1, refl)
       comparable_tree (singular q) h w =
           let s = left (is_singular q) (query_right q) h in
           let x = singular_tree q s (right (is_singular q) (query_right q) h) in
           (singular_comparable x.0, then _ x.1, rw s refl)
-      comparable_tree (value f) h w = let x = function_tree f h w in (function_comparable_lem x.0, then _ x.1, refl)
+      comparable_tree (value f) h w = let x = function_tree f h w in (function_comparable x.0, then _ x.1, refl)
 
-      argument_tree : (a : F.Argument) → argument_right_lem a ≡ true → can_argument a ≡ true → (x : G.Argument) × (walk_argument x ≡ fine (operand_of a)) × (as_value (operand_of a) ≡ fine a)
-      argument_tree (literal l) h w = let x = literal_tree l h w in (literal_argument_lem x.0, then _ x.1, refl)
+      argument_tree : (a : F.Argument) → argument_right a ≡ true → can_argument a ≡ true → (x : G.Argument) × (walk_argument x ≡ fine (operand_of a)) × (as_value (operand_of a) ≡ fine a)
+      argument_tree (literal l) h w = let x = literal_tree l h w in (literal_argument x.0, then _ x.1, refl)
       argument_tree (singular q) h w =
           let s = left (is_singular q) (query_right q) h in
           let x = query_tree q (right (is_singular q) (query_right q) h) w in

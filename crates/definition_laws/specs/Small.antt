@@ -7,13 +7,13 @@ use Rattle.definition.specs.Utf8.{encode, encode_all}
 use Rattle.definition.specs.Lexical.{Name, Char, Quote, is_unescaped, name_bytes, spell_chars, spell_text, own_byte}
 use Rattle.definition.specs.Lexical.Char.{plain}
 use Rattle.definition.specs.Literals.{char_bytes, chars_bytes, text_bytes}
-use Rattle.definition.specs.Slices.{element_at, goes_on_lem, walk_places, slice_start, slice_stop, slice_step, slice_places}
+use Rattle.definition.specs.Slices.{element_at, goes_on, walk_places, slice_start, slice_stop, slice_step, slice_places}
 use Rattle.definition.specs.Grammar as G
 use Rattle.definition.specs.Grammar.{spell_argument}
-use Rattle.definition.specs.Grammar.LogicalOr.{logical_or_lem}
-use Rattle.definition.specs.Grammar.MoreOr.{no_or_lem}
-use Rattle.definition.specs.Grammar.LogicalAnd.{logical_and_lem}
-use Rattle.definition.specs.Grammar.MoreAnd.{no_and_lem}
+use Rattle.definition.specs.Grammar.LogicalOr.{logical_or}
+use Rattle.definition.specs.Grammar.MoreOr.{no_or}
+use Rattle.definition.specs.Grammar.LogicalAnd.{logical_and}
+use Rattle.definition.specs.Grammar.MoreAnd.{no_and}
 use Rattle.definition.specs.Grammar.Basic.{test_basic}
 use Rattle.definition.specs.Grammar.Test.{query_test, function_test}
 use Rattle.definition.specs.Grammar.Argument.{query_argument, logical_argument, function_argument}
@@ -53,7 +53,7 @@ walk_below : (f n : ℕ) (i b s : ℤ) → every (λ k. ltb k n) (walk_places f 
 unfolding walk_places
 walk_below zero n i b s = refl
 walk_below (suc f) n i b s =
-    cond_every (λ k. ltb k n) (goes_on_lem s i b) (element_at n i ++ walk_places f n (i +ℤ s) b s)
+    cond_every (λ k. ltb k n) (goes_on s i b) (element_at n i ++ walk_places f n (i +ℤ s) b s)
     (every_append (λ k. ltb k n) (element_at n i) (walk_places f n (i +ℤ s) b s) (element_below n i) (walk_below f n (i +ℤ s) b s))
 
 -- a slice selects only indices below n
@@ -94,7 +94,7 @@ name_is_text n q p = plain_means q p
 -- ---- function arguments: a query or a function is the same argument whether it is taken as itself or as a logical expression
 
 abbrev pub alone : G.Test → G.Argument
-alone t = logical_argument (logical_or_lem (logical_and_lem (test_basic t) no_and_lem) no_or_lem)
+alone t = logical_argument (logical_or (logical_and (test_basic t) no_and) no_or)
 
 -- a report of nothing may be left out
 spare : (b : Bool) (x : Operand) → walked (b || false) x ≡ walked (((b || false) || false) || false) x

@@ -4,11 +4,11 @@ use Rattle.std.proofs.Common.{ap, ◌∙◌, ⊎_elim, append_assoc, arith, eqb-
 use Rattle.definition.specs.Bytes.{every, within}
 use Rattle.definition.specs.Utf8.{is_utf8, encode, encode_all}
 use Rattle.definition.specs.Lexical.{Quote}
-use Rattle.definition.specs.Lexical.{is_blank, is_digit_lem, is_lcalpha, is_function_char, is_hex, is_e, is_short, own_byte, other_byte}
+use Rattle.definition.specs.Lexical.{is_blank, is_digit, is_lcalpha, is_function_char, is_hex, is_e, is_short, own_byte, other_byte}
 use Rattle.definition.specs.Lexical.{spell_blanks, spell_name, spell_function_name, spell_natural, spell_digits, spell_int, spell_whole, spell_fraction, spell_sign, spell_exponent, spell_number, spell_hex4, spell_escape, spell_char, spell_chars, spell_text, spell_bound, spell_step, spell_slice}
 use Rattle.definition.specs.Lexical.Int.{zero_int, plain_int, minus_int}
 use Rattle.definition.specs.Lexical.Whole.{int_whole, minus_zero}
-use Rattle.definition.specs.Lexical.Fraction.{no_fraction_lem, fraction}
+use Rattle.definition.specs.Lexical.Fraction.{no_fraction, fraction}
 use Rattle.definition.specs.Lexical.Sign.{no_sign, plus_sign, minus_sign}
 use Rattle.definition.specs.Lexical.Exponent.{no_exponent, exponent}
 use Rattle.definition.specs.Lexical.Escape.{short, unicode, pair}
@@ -22,24 +22,24 @@ use Rattle.definition.specs.Grammar.SingularSegments.{no_singular, more_singular
 use Rattle.definition.specs.Grammar.Singular.{rel_singular, abs_singular}
 use Rattle.definition.specs.Grammar.Literal.{number_literal, text_literal, true_literal, false_literal, null_literal}
 use Rattle.definition.specs.Grammar.Operator.{eq_operator, ne_operator, lt_operator, le_operator, gt_operator, ge_operator}
-use Rattle.definition.specs.Grammar.Segments.{no_segment, more_segments_lem}
+use Rattle.definition.specs.Grammar.Segments.{no_segment, more_segments}
 use Rattle.definition.specs.Grammar.Segment.{child_brackets, child_wild, child_name, descendant_brackets, descendant_wild, descendant_name}
 use Rattle.definition.specs.Grammar.Bracketed.{bracketed}
-use Rattle.definition.specs.Grammar.Selectors.{no_selector, more_selectors_lem}
+use Rattle.definition.specs.Grammar.Selectors.{no_selector, more_selectors}
 use Rattle.definition.specs.Grammar.Selector.{name_selector, wildcard_selector, slice_selector, index_selector, filter_selector}
-use Rattle.definition.specs.Grammar.LogicalOr.{logical_or_lem}
-use Rattle.definition.specs.Grammar.MoreOr.{no_or_lem, more_or_lem}
-use Rattle.definition.specs.Grammar.LogicalAnd.{logical_and_lem}
-use Rattle.definition.specs.Grammar.MoreAnd.{no_and_lem, more_and_lem}
+use Rattle.definition.specs.Grammar.LogicalOr.{logical_or}
+use Rattle.definition.specs.Grammar.MoreOr.{no_or, more_or}
+use Rattle.definition.specs.Grammar.LogicalAnd.{logical_and}
+use Rattle.definition.specs.Grammar.MoreAnd.{no_and, more_and}
 use Rattle.definition.specs.Grammar.Basic.{paren_basic, not_paren, comparison, test_basic, not_test}
 use Rattle.definition.specs.Grammar.Paren.{paren}
 use Rattle.definition.specs.Grammar.Test.{query_test, function_test}
 use Rattle.definition.specs.Grammar.FilterQuery.{rel_query, abs_query}
-use Rattle.definition.specs.Grammar.Comparable.{literal_comparable, singular_comparable, function_comparable_lem}
+use Rattle.definition.specs.Grammar.Comparable.{literal_comparable, singular_comparable, function_comparable}
 use Rattle.definition.specs.Grammar.Function.{function}
 use Rattle.definition.specs.Grammar.Arguments.{no_argument, arguments}
-use Rattle.definition.specs.Grammar.MoreArguments.{no_more, more_arguments_lem}
-use Rattle.definition.specs.Grammar.Argument.{literal_argument_lem, query_argument, logical_argument, function_argument}
+use Rattle.definition.specs.Grammar.MoreArguments.{no_more, more_arguments}
+use Rattle.definition.specs.Grammar.Argument.{literal_argument, query_argument, logical_argument, function_argument}
 use Rattle.basics.specs.Bools.{and_left, and_right, or_cases as either}
 use Rattle.utf8_laws.specs.Texts.{name_scalars as chars, other_ascii, own_ascii}
 use Rattle.utf8_laws.specs.Bytes.{inside_high}
@@ -64,7 +64,7 @@ ascii_within lo hi h c e = omega (arith, inside_high lo hi c e)
 blank_ascii : Ascii is_blank
 blank_ascii = ascii_or _ _ (ascii_one 0x20 (lit< tt)) (ascii_or _ _ (ascii_one 0x09 (lit< tt)) (ascii_or _ _ (ascii_one 0x0A (lit< tt)) (ascii_one 0x0D (lit< tt))))
 
-digit_ascii : Ascii is_digit_lem
+digit_ascii : Ascii is_digit
 digit_ascii = ascii_within 0x30 0x39 (lit< tt)
 
 lower_ascii : Ascii is_lcalpha
@@ -111,10 +111,10 @@ function_name : Leaves spell_function_name
 function_name n r = one n.first _ (lower_ascii n.first n.is_first) (run is_function_char word_ascii n.more r n.are_more)
 
 natural : Leaves spell_natural
-natural n r = one n.first _ (ascii_within 0x31 0x39 (lit< tt) n.first n.is_first) (run is_digit_lem digit_ascii n.more r n.are_more)
+natural n r = one n.first _ (ascii_within 0x31 0x39 (lit< tt) n.first n.is_first) (run is_digit digit_ascii n.more r n.are_more)
 
 digits : Leaves spell_digits
-digits d r = one d.first _ (digit_ascii d.first d.is_first) (run is_digit_lem digit_ascii d.more r d.are_more)
+digits d r = one d.first _ (digit_ascii d.first d.is_first) (run is_digit digit_ascii d.more r d.are_more)
 
 int : Leaves spell_int
 int zero_int r = one 0x30 _ (lit< tt) refl
@@ -126,7 +126,7 @@ whole (int_whole i) r = int i r
 whole minus_zero r = one 0x2D _ (lit< tt) (one 0x30 _ (lit< tt) refl)
 
 frac : Leaves spell_fraction
-frac no_fraction_lem r = refl
+frac no_fraction r = refl
 frac (fraction d) r = one 0x2E _ (lit< tt) (digits d r)
 
 sign : Leaves spell_sign
@@ -215,7 +215,7 @@ operator ge_operator r = one 0x3E _ (lit< tt) (one 0x3D _ (lit< tt) refl)
 mutual
   segments : (t : G.Segments) (r : List ℕ) → is_utf8 (spell_segments t r) ≡ is_utf8 r
   segments no_segment r = refl
-  segments (more_segments_lem b x xs) r = blanks b _ ∙ segment x _ ∙ segments xs r
+  segments (more_segments b x xs) r = blanks b _ ∙ segment x _ ∙ segments xs r
 
   segment : (t : G.Segment) (r : List ℕ) → is_utf8 (spell_segment t r) ≡ is_utf8 r
   segment (child_brackets x) r = brackets x r
@@ -230,7 +230,7 @@ mutual
 
   selectors : (t : G.Selectors) (r : List ℕ) → is_utf8 (spell_selectors t r) ≡ is_utf8 r
   selectors no_selector r = refl
-  selectors (more_selectors_lem b c x xs) r = blanks b _ ∙ one 0x2C _ (lit< tt) (blanks c _ ∙ selector x _ ∙ selectors xs r)
+  selectors (more_selectors b c x xs) r = blanks b _ ∙ one 0x2C _ (lit< tt) (blanks c _ ∙ selector x _ ∙ selectors xs r)
 
   selector : (t : G.Selector) (r : List ℕ) → is_utf8 (spell_selector t r) ≡ is_utf8 r
   selector (name_selector t) r = text t r
@@ -240,18 +240,18 @@ mutual
   selector (filter_selector b e) r = one 0x3F _ (lit< tt) (blanks b _ ∙ or_expr e r)
 
   or_expr : (t : G.LogicalOr) (r : List ℕ) → is_utf8 (spell_logical_or t r) ≡ is_utf8 r
-  or_expr (logical_or_lem x xs) r = and_expr x _ ∙ ors xs r
+  or_expr (logical_or x xs) r = and_expr x _ ∙ ors xs r
 
   ors : (t : G.MoreOr) (r : List ℕ) → is_utf8 (spell_more_or t r) ≡ is_utf8 r
-  ors no_or_lem r = refl
-  ors (more_or_lem b c x xs) r = blanks b _ ∙ one 0x7C _ (lit< tt) (one 0x7C _ (lit< tt) (blanks c _ ∙ and_expr x _ ∙ ors xs r))
+  ors no_or r = refl
+  ors (more_or b c x xs) r = blanks b _ ∙ one 0x7C _ (lit< tt) (one 0x7C _ (lit< tt) (blanks c _ ∙ and_expr x _ ∙ ors xs r))
 
   and_expr : (t : G.LogicalAnd) (r : List ℕ) → is_utf8 (spell_logical_and t r) ≡ is_utf8 r
-  and_expr (logical_and_lem x xs) r = basic x _ ∙ ands xs r
+  and_expr (logical_and x xs) r = basic x _ ∙ ands xs r
 
   ands : (t : G.MoreAnd) (r : List ℕ) → is_utf8 (spell_more_and t r) ≡ is_utf8 r
-  ands no_and_lem r = refl
-  ands (more_and_lem b c x xs) r = blanks b _ ∙ one 0x26 _ (lit< tt) (one 0x26 _ (lit< tt) (blanks c _ ∙ basic x _ ∙ ands xs r))
+  ands no_and r = refl
+  ands (more_and b c x xs) r = blanks b _ ∙ one 0x26 _ (lit< tt) (one 0x26 _ (lit< tt) (blanks c _ ∙ basic x _ ∙ ands xs r))
 
   basic : (t : G.Basic) (r : List ℕ) → is_utf8 (spell_basic t r) ≡ is_utf8 r
   basic (paren_basic p) r = parens p r
@@ -274,7 +274,7 @@ mutual
   comparable : (t : G.Comparable) (r : List ℕ) → is_utf8 (spell_comparable t r) ≡ is_utf8 r
   comparable (literal_comparable l) r = literal l r
   comparable (singular_comparable q) r = singular q r
-  comparable (function_comparable_lem f) r = call f r
+  comparable (function_comparable f) r = call f r
 
   call : (t : G.Function) (r : List ℕ) → is_utf8 (spell_function t r) ≡ is_utf8 r
   call (function n b xs c) r = function_name n _ ∙ one 0x28 _ (lit< tt) (blanks b _ ∙ argument_list xs _ ∙ blanks c _ ∙ one 0x29 _ (lit< tt) refl)
@@ -285,10 +285,10 @@ mutual
 
   furthers : (t : G.MoreArguments) (r : List ℕ) → is_utf8 (spell_more_arguments t r) ≡ is_utf8 r
   furthers no_more r = refl
-  furthers (more_arguments_lem b c x xs) r = blanks b _ ∙ one 0x2C _ (lit< tt) (blanks c _ ∙ argument x _ ∙ furthers xs r)
+  furthers (more_arguments b c x xs) r = blanks b _ ∙ one 0x2C _ (lit< tt) (blanks c _ ∙ argument x _ ∙ furthers xs r)
 
   argument : (t : G.Argument) (r : List ℕ) → is_utf8 (spell_argument t r) ≡ is_utf8 r
-  argument (literal_argument_lem l) r = literal l r
+  argument (literal_argument l) r = literal l r
   argument (query_argument q) r = filter_query q r
   argument (logical_argument e) r = or_expr e r
   argument (function_argument f) r = call f r

@@ -7,24 +7,24 @@ use Rattle.definition.specs.Lexical.{Blanks, function_bytes}
 use Rattle.definition.specs.Literals.{Numeral, numeral}
 use Rattle.definition.specs.Grammar as G
 use Rattle.definition.specs.Grammar.Literal.{number_literal, text_literal, true_literal, false_literal, null_literal}
-use Rattle.definition.specs.Grammar.Segments.{no_segment, more_segments_lem}
+use Rattle.definition.specs.Grammar.Segments.{no_segment, more_segments}
 use Rattle.definition.specs.Grammar.Segment.{child_brackets, child_wild, child_name, descendant_brackets, descendant_wild, descendant_name}
 use Rattle.definition.specs.Grammar.Bracketed.{bracketed}
-use Rattle.definition.specs.Grammar.Selectors.{no_selector, more_selectors_lem}
+use Rattle.definition.specs.Grammar.Selectors.{no_selector, more_selectors}
 use Rattle.definition.specs.Grammar.Selector.{name_selector, wildcard_selector, slice_selector, index_selector, filter_selector}
-use Rattle.definition.specs.Grammar.LogicalOr.{logical_or_lem}
-use Rattle.definition.specs.Grammar.MoreOr.{no_or_lem, more_or_lem}
-use Rattle.definition.specs.Grammar.LogicalAnd.{logical_and_lem}
-use Rattle.definition.specs.Grammar.MoreAnd.{no_and_lem, more_and_lem}
+use Rattle.definition.specs.Grammar.LogicalOr.{logical_or}
+use Rattle.definition.specs.Grammar.MoreOr.{no_or, more_or}
+use Rattle.definition.specs.Grammar.LogicalAnd.{logical_and}
+use Rattle.definition.specs.Grammar.MoreAnd.{no_and, more_and}
 use Rattle.definition.specs.Grammar.Basic.{paren_basic, not_paren, comparison, test_basic, not_test}
 use Rattle.definition.specs.Grammar.Paren.{paren}
 use Rattle.definition.specs.Grammar.Test.{query_test, function_test}
 use Rattle.definition.specs.Grammar.FilterQuery.{rel_query, abs_query}
-use Rattle.definition.specs.Grammar.Comparable.{literal_comparable, singular_comparable, function_comparable_lem}
+use Rattle.definition.specs.Grammar.Comparable.{literal_comparable, singular_comparable, function_comparable}
 use Rattle.definition.specs.Grammar.Function.{function}
 use Rattle.definition.specs.Grammar.Arguments.{no_argument, arguments}
-use Rattle.definition.specs.Grammar.MoreArguments.{no_more, more_arguments_lem}
-use Rattle.definition.specs.Grammar.Argument.{literal_argument_lem, query_argument, logical_argument, function_argument}
+use Rattle.definition.specs.Grammar.MoreArguments.{no_more, more_arguments}
+use Rattle.definition.specs.Grammar.Argument.{literal_argument, query_argument, logical_argument, function_argument}
 use Rattle.regex_definition.specs.Scope.{Scope, whole, part}
 use Rattle.definition.specs.Forms as F
 use Rattle.definition.specs.Walk.{Walked, Expression, Operand, Named, fine, also, next, walk_numeral, walk_literal, compared, as_nodes, as_value, named, only, as_regex, call, walk_segments, walk_segment, walk_bracketed, walk_selectors, walk_selector, walk_or, walk_more_or, walk_and, walk_more_and, walk_basic, walk_paren, walk_test, walk_filter_query, walk_comparable, walk_function, walk_arguments, walk_more_arguments, walk_argument, walk}
@@ -51,19 +51,19 @@ plain_literal false_literal = true
 plain_literal null_literal = true
 
 abbrev is_chain : G.LogicalAnd → Bool
-is_chain (logical_and_lem x no_and_lem) = false
-is_chain (logical_and_lem x (more_and_lem b c y ys)) = true
+is_chain (logical_and x no_and) = false
+is_chain (logical_and x (more_and b c y ys)) = true
 
 -- one operand, and no chain
 abbrev pub is_lone : G.LogicalOr → Bool
-is_lone (logical_or_lem (logical_and_lem x no_and_lem) no_or_lem) = true
-is_lone (logical_or_lem (logical_and_lem x no_and_lem) (more_or_lem b c y ys)) = false
-is_lone (logical_or_lem (logical_and_lem x (more_and_lem b c y ys)) v) = false
+is_lone (logical_or (logical_and x no_and) no_or) = true
+is_lone (logical_or (logical_and x no_and) (more_or b c y ys)) = false
+is_lone (logical_or (logical_and x (more_and b c y ys)) v) = false
 
 abbrev mutual
   pub plain_segments : G.Segments → Bool
   plain_segments no_segment = true
-  plain_segments (more_segments_lem b x xs) = plain_segment x && plain_segments xs
+  plain_segments (more_segments b x xs) = plain_segment x && plain_segments xs
 
   pub plain_segment : G.Segment → Bool
   plain_segment (child_brackets x) = plain_bracketed x
@@ -78,7 +78,7 @@ abbrev mutual
 
   pub plain_selectors : G.Selectors → Bool
   plain_selectors no_selector = true
-  plain_selectors (more_selectors_lem b c x xs) = plain_selector x && plain_selectors xs
+  plain_selectors (more_selectors b c x xs) = plain_selector x && plain_selectors xs
 
   pub plain_selector : G.Selector → Bool
   plain_selector (name_selector t) = true
@@ -88,18 +88,18 @@ abbrev mutual
   plain_selector (filter_selector b e) = plain_or e
 
   pub plain_or : G.LogicalOr → Bool
-  plain_or (logical_or_lem x xs) = plain_and x && plain_more_or xs
+  plain_or (logical_or x xs) = plain_and x && plain_more_or xs
 
   pub plain_more_or : G.MoreOr → Bool
-  plain_more_or no_or_lem = true
-  plain_more_or (more_or_lem b c x xs) = plain_and x && plain_more_or xs
+  plain_more_or no_or = true
+  plain_more_or (more_or b c x xs) = plain_and x && plain_more_or xs
 
   pub plain_and : G.LogicalAnd → Bool
-  plain_and (logical_and_lem x xs) = plain_basic x && plain_more_and xs
+  plain_and (logical_and x xs) = plain_basic x && plain_more_and xs
 
   pub plain_more_and : G.MoreAnd → Bool
-  plain_more_and no_and_lem = true
-  plain_more_and (more_and_lem b c x xs) = plain_basic x && plain_more_and xs
+  plain_more_and no_and = true
+  plain_more_and (more_and b c x xs) = plain_basic x && plain_more_and xs
 
   pub plain_basic : G.Basic → Bool
   plain_basic (paren_basic p) = plain_paren p
@@ -122,7 +122,7 @@ abbrev mutual
   pub plain_comparable : G.Comparable → Bool
   plain_comparable (literal_comparable l) = plain_literal l
   plain_comparable (singular_comparable q) = true
-  plain_comparable (function_comparable_lem f) = plain_function f
+  plain_comparable (function_comparable f) = plain_function f
 
   pub plain_function : G.Function → Bool
   plain_function (function n b xs c) = plain_arguments xs
@@ -133,10 +133,10 @@ abbrev mutual
 
   pub plain_more_arguments : G.MoreArguments → Bool
   plain_more_arguments no_more = true
-  plain_more_arguments (more_arguments_lem b c x xs) = plain_argument x && plain_more_arguments xs
+  plain_more_arguments (more_arguments b c x xs) = plain_argument x && plain_more_arguments xs
 
   pub plain_argument : G.Argument → Bool
-  plain_argument (literal_argument_lem l) = plain_literal l
+  plain_argument (literal_argument l) = plain_literal l
   plain_argument (query_argument q) = plain_filter_query q
   plain_argument (logical_argument e) = is_lone e && plain_or e
   plain_argument (function_argument f) = plain_function f
@@ -244,14 +244,14 @@ taken (expression (logical t)) xs h = absurd (false≢true h)
 
 ands_logical : (u : G.MoreAnd) (a : Bool) (t : F.Test) {y : Expression} → walk_more_and u a (logical t) ≡ fine y → is_taken (expression y) ≡ false
 unfolding walk_more_and
-ands_logical no_and_lem a t e = ap (λ (x : Expression). is_taken (expression x)) (sym (same e))
-ands_logical (more_and_lem b c x u) a t e =
+ands_logical no_and a t e = ap (λ (x : Expression). is_taken (expression x)) (sym (same e))
+ands_logical (more_and b c x u) a t e =
     let f = next_fine (walk_basic x) _ e in
     let g = next_fine (compared a f.0) _ f.2 in
     ands_logical u a _ g.2
 
 -- a first operand and a further one
-ands_logical_more : (b c : Blanks) (x : G.Basic) (u : G.MoreAnd) (a : Bool) (d : Expression) {y : Expression} → walk_more_and (more_and_lem b c x u) a d ≡ fine y → is_taken (expression y) ≡ false
+ands_logical_more : (b c : Blanks) (x : G.Basic) (u : G.MoreAnd) (a : Bool) (d : Expression) {y : Expression} → walk_more_and (more_and b c x u) a d ≡ fine y → is_taken (expression y) ≡ false
 unfolding walk_more_and
 ands_logical_more b c x u a d e =
     let f = next_fine (walk_basic x) _ e in
@@ -260,20 +260,20 @@ ands_logical_more b c x u a d e =
 
 ors_logical : (v : G.MoreOr) (a : Bool) (t : F.Test) {y : Expression} → walk_more_or v a (logical t) ≡ fine y → is_taken (expression y) ≡ false
 unfolding walk_more_or
-ors_logical no_or_lem a t e = ap (λ (x : Expression). is_taken (expression x)) (sym (same e))
-ors_logical (more_or_lem b c x v) a t e = let f = next_fine (walk_and x a) _ e in ors_logical v a _ f.2
+ors_logical no_or a t e = ap (λ (x : Expression). is_taken (expression x)) (sym (same e))
+ors_logical (more_or b c x v) a t e = let f = next_fine (walk_and x a) _ e in ors_logical v a _ f.2
 
 -- what is behind an operand that is logical
 behind_logical : (v : G.MoreOr) (a : Bool) (x : Expression) {y : Expression} → is_taken (expression x) ≡ false → walk_more_or v a x ≡ fine y → is_taken (expression y) ≡ false
 unfolding walk_more_or
-behind_logical no_or_lem a x h e = ap (λ (z : Expression). is_taken (expression z)) (sym (same e)) ∙ h
-behind_logical (more_or_lem b c z v) a x h e = let f = next_fine (walk_and z a) _ e in ors_logical v a _ f.2
+behind_logical no_or a x h e = ap (λ (z : Expression). is_taken (expression z)) (sym (same e)) ∙ h
+behind_logical (more_or b c z v) a x h e = let f = next_fine (walk_and z a) _ e in ors_logical v a _ f.2
 
 -- a chain of `&&` is logical
 and_chain_logical : (x : G.LogicalAnd) (a : Bool) {y : Expression} → is_chain x ≡ true → walk_and x a ≡ fine y → is_taken (expression y) ≡ false
 unfolding walk_and walk_more_and
-and_chain_logical (logical_and_lem x no_and_lem) a h e = absurd (false≢true h)
-and_chain_logical (logical_and_lem x (more_and_lem b c z u)) a h e =
+and_chain_logical (logical_and x no_and) a h e = absurd (false≢true h)
+and_chain_logical (logical_and x (more_and b c z u)) a h e =
     let f = next_fine (walk_basic x) _ e in
     let g = next_fine (compared a f.0) _ f.2 in
     ands_logical_more b c z u a g.0 g.2
@@ -281,14 +281,14 @@ and_chain_logical (logical_and_lem x (more_and_lem b c z u)) a h e =
 -- an expression that a parameter takes is no chain
 taken_lone : (x : G.LogicalOr) (a : Bool) {y : Expression} → walk_or x a ≡ fine y → is_taken (expression y) ≡ true → is_lone x ≡ true
 unfolding walk_or walk_more_or
-taken_lone (logical_or_lem (logical_and_lem x no_and_lem) no_or_lem) a e h = refl
-taken_lone (logical_or_lem (logical_and_lem x no_and_lem) (more_or_lem b c z v)) a e h =
-    let f = next_fine (walk_and (logical_and_lem x no_and_lem) a) _ e in
+taken_lone (logical_or (logical_and x no_and) no_or) a e h = refl
+taken_lone (logical_or (logical_and x no_and) (more_or b c z v)) a e h =
+    let f = next_fine (walk_and (logical_and x no_and) a) _ e in
     let g = next_fine (walk_and z a) _ f.2 in
     absurd (true≢false (sym h ∙ ors_logical v a _ g.2))
-taken_lone (logical_or_lem (logical_and_lem x (more_and_lem b c z u)) v) a e h =
-    let f = next_fine (walk_and (logical_and_lem x (more_and_lem b c z u)) a) _ e in
-    absurd (true≢false (sym h ∙ behind_logical v a f.0 (and_chain_logical (logical_and_lem x (more_and_lem b c z u)) a refl f.1) f.2))
+taken_lone (logical_or (logical_and x (more_and b c z u)) v) a e h =
+    let f = next_fine (walk_and (logical_and x (more_and b c z u)) a) _ e in
+    absurd (true≢false (sym h ∙ behind_logical v a f.0 (and_chain_logical (logical_and x (more_and b c z u)) a refl f.1) f.2))
 
 -- ---- a value function is no test: outside an argument it stands in no chain and in no filter
 
@@ -310,17 +310,17 @@ compared_tests (logical t) e = ap is_valued (sym (same e))
 
 ands_tests : (u : G.MoreAnd) (x : Expression) {y : Expression} → is_valued x ≡ false → walk_more_and u true x ≡ fine y → is_valued y ≡ false
 unfolding walk_more_and
-ands_tests no_and_lem x h e = ap is_valued (sym (same e)) ∙ h
-ands_tests (more_and_lem b c z u) x {y} h e = logical_tests y (ands_logical_more b c z u true x e)
+ands_tests no_and x h e = ap is_valued (sym (same e)) ∙ h
+ands_tests (more_and b c z u) x {y} h e = logical_tests y (ands_logical_more b c z u true x e)
 
 ors_tests : (v : G.MoreOr) (x : Expression) {y : Expression} → is_valued x ≡ false → walk_more_or v true x ≡ fine y → is_valued y ≡ false
 unfolding walk_more_or
-ors_tests no_or_lem x h e = ap is_valued (sym (same e)) ∙ h
-ors_tests (more_or_lem b c z v) x {y} h e = let f = next_fine (walk_and z true) _ e in logical_tests y (ors_logical v true _ f.2)
+ors_tests no_or x h e = ap is_valued (sym (same e)) ∙ h
+ors_tests (more_or b c z v) x {y} h e = let f = next_fine (walk_and z true) _ e in logical_tests y (ors_logical v true _ f.2)
 
 and_tests : (x : G.LogicalAnd) {y : Expression} → walk_and x true ≡ fine y → is_valued y ≡ false
 unfolding walk_and
-and_tests (logical_and_lem x u) e =
+and_tests (logical_and x u) e =
     let f = next_fine (walk_basic x) _ e in
     let g = next_fine (compared true f.0) _ f.2 in
     ands_tests u g.0 (compared_tests f.0 g.1) g.2
@@ -328,7 +328,7 @@ and_tests (logical_and_lem x u) e =
 -- what a filter or a parenthesis comes to is no value function
 pub or_tests : (x : G.LogicalOr) {y : Expression} → walk_or x true ≡ fine y → is_valued y ≡ false
 unfolding walk_or
-or_tests (logical_or_lem x v) e = let f = next_fine (walk_and x true) _ e in ors_tests v f.0 (and_tests x f.1) f.2
+or_tests (logical_or x v) e = let f = next_fine (walk_and x true) _ e in ors_tests v f.0 (and_tests x f.1) f.2
 
 -- ---- the walk
 
@@ -337,7 +337,7 @@ mutual
 
   segments_plain : (x : G.Segments) {y : F.Segments} → walk_segments x ≡ fine y → plain_segments x ≡ true
   segments_plain no_segment e = refl
-  segments_plain (more_segments_lem b x xs) e =
+  segments_plain (more_segments b x xs) e =
       let f = next_fine (walk_segment x) _ e in
       let g = next_fine (walk_segments xs) _ f.2 in
       both (segment_plain x f.1) (segments_plain xs g.1)
@@ -355,7 +355,7 @@ mutual
 
   selectors_plain : (x : G.Selectors) (s : F.Selector) {y : F.Selectors} → walk_selectors x s ≡ fine y → plain_selectors x ≡ true
   selectors_plain no_selector s e = refl
-  selectors_plain (more_selectors_lem b c x xs) s e =
+  selectors_plain (more_selectors b c x xs) s e =
       let f = next_fine (walk_selector x) _ e in
       let g = next_fine (walk_selectors xs f.0) _ f.2 in
       both (selector_plain x f.1) (selectors_plain xs f.0 g.1)
@@ -368,21 +368,21 @@ mutual
   selector_plain (filter_selector b x) e = or_plain x true (next_fine (walk_or x true) _ e).1
 
   or_plain : (x : G.LogicalOr) (a : Bool) {y : Expression} → walk_or x a ≡ fine y → plain_or x ≡ true
-  or_plain (logical_or_lem x xs) a e = let f = next_fine (walk_and x a) _ e in both (and_plain x a f.1) (ors_plain xs a f.0 f.2)
+  or_plain (logical_or x xs) a e = let f = next_fine (walk_and x a) _ e in both (and_plain x a f.1) (ors_plain xs a f.0 f.2)
 
   ors_plain : (x : G.MoreOr) (a : Bool) (d : Expression) {y : Expression} → walk_more_or x a d ≡ fine y → plain_more_or x ≡ true
-  ors_plain no_or_lem a d e = refl
-  ors_plain (more_or_lem b c x xs) a d e = let f = next_fine (walk_and x a) _ e in both (and_plain x a f.1) (ors_plain xs a _ f.2)
+  ors_plain no_or a d e = refl
+  ors_plain (more_or b c x xs) a d e = let f = next_fine (walk_and x a) _ e in both (and_plain x a f.1) (ors_plain xs a _ f.2)
 
   and_plain : (x : G.LogicalAnd) (a : Bool) {y : Expression} → walk_and x a ≡ fine y → plain_and x ≡ true
-  and_plain (logical_and_lem x xs) a e =
+  and_plain (logical_and x xs) a e =
       let f = next_fine (walk_basic x) _ e in
       let g = next_fine (compared a f.0) _ f.2 in
       both (basic_plain x f.1) (ands_plain xs a g.0 g.2)
 
   ands_plain : (x : G.MoreAnd) (a : Bool) (d : Expression) {y : Expression} → walk_more_and x a d ≡ fine y → plain_more_and x ≡ true
-  ands_plain no_and_lem a d e = refl
-  ands_plain (more_and_lem b c x xs) a d e =
+  ands_plain no_and a d e = refl
+  ands_plain (more_and b c x xs) a d e =
       let f = next_fine (walk_basic x) _ e in
       let g = next_fine (compared a f.0) _ f.2 in
       both (basic_plain x f.1) (ands_plain xs a _ g.2)
@@ -411,7 +411,7 @@ mutual
   comparable_plain : (x : G.Comparable) {y : Operand} → walk_comparable x ≡ fine y → plain_comparable x ≡ true
   comparable_plain (literal_comparable l) e = literal_plain l (next_fine (walk_literal l) _ e).1
   comparable_plain (singular_comparable q) e = refl
-  comparable_plain (function_comparable_lem f) e = function_plain f (next_fine (walk_function f) _ e).1
+  comparable_plain (function_comparable f) e = function_plain f (next_fine (walk_function f) _ e).1
 
   function_plain : (x : G.Function) {y : Expression} → walk_function x ≡ fine y → plain_function x ≡ true
   function_plain (function n b xs c) e =
@@ -428,14 +428,14 @@ mutual
 
   furthers_plain : (x : G.MoreArguments) {y : List Operand} → walk_more_arguments x ≡ fine y → all_taken y ≡ true → plain_more_arguments x ≡ true
   furthers_plain no_more e h = refl
-  furthers_plain (more_arguments_lem b c x xs) e h =
+  furthers_plain (more_arguments b c x xs) e h =
       let f = next_fine (walk_argument x) _ e in
       let g = next_fine (walk_more_arguments xs) _ f.2 in
       let t = taken f.0 g.0 (subst (λ (l : List Operand). all_taken l ≡ true) (sym (same g.2)) h) in
       both (argument_plain x f.1 t.0) (furthers_plain xs g.1 t.1)
 
   argument_plain : (x : G.Argument) {y : Operand} → walk_argument x ≡ fine y → is_taken y ≡ true → plain_argument x ≡ true
-  argument_plain (literal_argument_lem l) e h = literal_plain l (next_fine (walk_literal l) _ e).1
+  argument_plain (literal_argument l) e h = literal_plain l (next_fine (walk_literal l) _ e).1
   argument_plain (query_argument q) e h = query_plain q (next_fine (walk_filter_query q) _ e).1
   argument_plain (logical_argument x) e h =
       let f = next_fine (walk_or x false) _ e in

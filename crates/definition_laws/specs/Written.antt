@@ -5,10 +5,10 @@ use Rattle.std.proofs.Common.{sym, ap, ap₂, subst, ◌∙◌, true≢false, ar
 use Rattle.std.proofs.lemmas.Bool.{not-true}
 use Rattle.definition.specs.Bytes.{every}
 use Rattle.definition.specs.Utf8.{is_scalar, encode, encode_all, is_utf8}
-use Rattle.definition.specs.Lexical.{Natural, Int, Number, Char, Text, is_digit_lem, is_unescaped, is_hex, is_high, is_low, hex_value}
+use Rattle.definition.specs.Lexical.{Natural, Int, Number, Char, Text, is_digit, is_unescaped, is_hex, is_high, is_low, hex_value}
 use Rattle.definition.specs.Lexical.Int.{zero_int, plain_int, minus_int}
 use Rattle.definition.specs.Lexical.Whole.{int_whole}
-use Rattle.definition.specs.Lexical.Fraction.{no_fraction_lem}
+use Rattle.definition.specs.Lexical.Fraction.{no_fraction}
 use Rattle.definition.specs.Lexical.Exponent.{no_exponent}
 use Rattle.definition.specs.Lexical.Escape.{unicode}
 use Rattle.definition.specs.Lexical.Char.{plain, escape}
@@ -97,9 +97,9 @@ unfolding decimal_from
 decimal_more n [] d = refl
 decimal_more n (e ∷ ds) d = decimal_more (n * 10 + (e - 0x30)) ds d
 
-digits_more : (ds : List ℕ) (d : ℕ) → every is_digit_lem ds ≡ true → is_digit_lem d ≡ true → every is_digit_lem (ds ++ d ∷ []) ≡ true
+digits_more : (ds : List ℕ) (d : ℕ) → every is_digit ds ≡ true → is_digit d ≡ true → every is_digit (ds ++ d ∷ []) ≡ true
 digits_more [] d h k = rw k refl
-digits_more (e ∷ ds) d h k = rw (and_left (is_digit_lem e) (every is_digit_lem ds) h) (digits_more ds d (and_right (is_digit_lem e) (every is_digit_lem ds) h) k)
+digits_more (e ∷ ds) d h k = rw (and_left (is_digit e) (every is_digit ds) h) (digits_more ds d (and_right (is_digit e) (every is_digit ds) h) k)
 
 -- a number above 0, by its digits; f bounds it
 natural_written : (f n : ℕ) → n ≤ f → 0 < n → (d : Natural) × (decimal (natural_digits d) ≡ n)
@@ -128,9 +128,9 @@ int_written (negsuc n) = let w = natural_written (suc n) (suc n) (omega arith) (
 -- an integer inside i64 is what its digits stand for as a literal
 pub integer_written : (z : ℤ) → inside_i64 z ≡ true → (n : Number) × (numeral n ≡ Numeral.integer z)
 unfolding inside_i64 numeral numeral_of whole_numeral is_minus whole_digits decimal_from
-integer_written (pos zero) h = (record { whole = int_whole zero_int; frac = no_fraction_lem; exp = no_exponent }, refl)
-integer_written (pos (suc n)) h = let w = natural_written (suc n) (suc n) (omega arith) (omega arith) in (record { whole = int_whole (plain_int w.0); frac = no_fraction_lem; exp = no_exponent }, rw (w.1, h) refl)
+integer_written (pos zero) h = (record { whole = int_whole zero_int; frac = no_fraction; exp = no_exponent }, refl)
+integer_written (pos (suc n)) h = let w = natural_written (suc n) (suc n) (omega arith) (omega arith) in (record { whole = int_whole (plain_int w.0); frac = no_fraction; exp = no_exponent }, rw (w.1, h) refl)
 integer_written (negsuc n) h =
     let w = natural_written (suc n) (suc n) (omega arith) (omega arith) in
     let l = le-leb (suc n) (2 ^ 63) (ltb-true n (2 ^ 63) h) in
-    (record { whole = int_whole (minus_int w.0); frac = no_fraction_lem; exp = no_exponent }, rw (w.1, l) refl)
+    (record { whole = int_whole (minus_int w.0); frac = no_fraction; exp = no_exponent }, rw (w.1, l) refl)

@@ -3,7 +3,7 @@ use Rattle.std.specs.Prelude.{ℕ, zero, suc, ◌<◌, ◌≡◌, refl, List, []
 use Rattle.std.proofs.Common.{zero-le, arith, le→leb}
 use Rattle.std.proofs.Math.Option.{Option, none, some}
 use Rattle.std.specs.Int.Signed.{le_z_yes, lt_z_yes}
-use Rattle.definition.specs.Slices.{add_once, clamp, slice_step, given_start, given_stop, slice_start, slice_stop, goes_on_lem, element_at, walk_places, slice_places}
+use Rattle.definition.specs.Slices.{add_once, clamp, slice_step, given_start, given_stop, slice_start, slice_stop, goes_on, element_at, walk_places, slice_places}
 use Rattle.definition.specs.StandardSlices.{minimum, maximum, given, normalize, bounds_of, loop_down, rfc_loop, index_of, rfc_places, other_answers}
 use Rattle.definition_standards.specs.Slices.{StartsInside, Standard, not_negative, empty_list, inside, slices_standard, default_inside, OnlyStartFails}
 
@@ -36,7 +36,7 @@ only_start n k a b here there ours rfcs some-element outside =
 
 -- On a list of 3, [9::-2] selects 1 here, and 2 0 by the RFC; [-9:-9:-1] selects 0 here, and none by the RFC.
 pub marked_rows : OnlyStartFails 3 (some (pos 9)) none (some (negsuc 1)) (1 ∷ []) (2 ∷ 0 ∷ []) × OnlyStartFails 3 (some (negsuc 8)) (some (negsuc 8)) (some (negsuc 0)) (0 ∷ []) []
-unfolding slice_places slice_step slice_start slice_stop given_start given_stop add_once clamp walk_places goes_on_lem element_at given normalize
+unfolding slice_places slice_step slice_start slice_stop given_start given_stop add_once clamp walk_places goes_on element_at given normalize
 marked_rows = (
   only_start 3 1 (some (pos 9)) none (1 ∷ []) (2 ∷ 0 ∷ []) refl other_answers.0 (omega arith) (λ h. h.high.lt),
   only_start 3 0 (some (negsuc 8)) (some (negsuc 8)) (0 ∷ []) [] refl other_answers.1 (omega arith) (λ h. h.low.le),
@@ -44,7 +44,7 @@ marked_rows = (
 
 -- The condition's ends are sharp: already [3::-2] and [-4::-1], a place past the end and one before the front, are not the RFC's.
 pub sharp_ends : OnlyStartFails 3 (some (pos 3)) none (some (negsuc 1)) (1 ∷ []) (2 ∷ 0 ∷ []) × OnlyStartFails 3 (some (negsuc 3)) none (some (negsuc 0)) (0 ∷ []) []
-unfolding slice_places slice_step slice_start slice_stop given_start given_stop add_once clamp walk_places goes_on_lem element_at rfc_places rfc_loop given normalize bounds_of minimum maximum loop_down index_of
+unfolding slice_places slice_step slice_start slice_stop given_start given_stop add_once clamp walk_places goes_on element_at rfc_places rfc_loop given normalize bounds_of minimum maximum loop_down index_of
 sharp_ends = (
   only_start 3 1 (some (pos 3)) none (1 ∷ []) (2 ∷ 0 ∷ []) refl refl (omega arith) (λ h. h.high.lt),
   only_start 3 0 (some (negsuc 3)) none (0 ∷ []) [] refl refl (omega arith) (λ h. h.low.le),

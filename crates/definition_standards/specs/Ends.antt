@@ -4,7 +4,7 @@ use Rattle.std.proofs.Common.{zero-le, ap, arith, ltb-true, ltb-false, lt-ltb, l
 use Rattle.std.proofs.Math.Option.{Option}
 use Rattle.std.proofs.Math.IntN.{sub_ℕ}
 use Rattle.std.specs.Int.Signed.{lt_z}
-use Rattle.definition.specs.Slices.{add_once, clamp, element_at, slice_step, given_start, given_stop, slice_start, slice_stop, goes_on_lem, walk_places, slice_places}
+use Rattle.definition.specs.Slices.{add_once, clamp, element_at, slice_step, given_start, given_stop, slice_start, slice_stop, goes_on, walk_places, slice_places}
 use Rattle.definition_standards.specs.Walks.{steps_below, none_below, at_least}
 
 -- ---- upwards
@@ -16,7 +16,7 @@ stop_passed n i (negsuc e) h k = refl
 
 -- from i, n - i steps are enough, and more add nothing
 ends_up : (f g n i k : ℕ) (b : ℤ) → lt_z (pos n) b ≡ false → n ≤ i + f → n ≤ i + g → walk_places f n (pos i) b (pos (suc k)) ≡ walk_places g n (pos i) b (pos (suc k))
-unfolding walk_places goes_on_lem
+unfolding walk_places goes_on
 ends_up zero zero n i k b h x y = refl
 ends_up zero (suc g) n i k b h x y = rw (stop_passed n i b (omega arith) h) refl
 ends_up (suc f) zero n i k b h x y = rw (stop_passed n i b (omega arith) h) refl
@@ -26,7 +26,7 @@ ends_up (suc f) (suc g) n i k b h x y = ap (λ (r : List ℕ). cond (lt_z (pos i
 
 -- from below f to a stop of -1 or more, f steps are enough, and more add nothing
 ends_down : (f g n k : ℕ) (i b : ℤ) → lt_z i (pos f) ≡ true → lt_z i (pos g) ≡ true → lt_z b (negsuc 0) ≡ false → walk_places f n i b (negsuc k) ≡ walk_places g n i b (negsuc k)
-unfolding walk_places goes_on_lem
+unfolding walk_places goes_on
 ends_down zero zero n k i b p q h = refl
 ends_down zero (suc g) n k (negsuc j) b p q h = rw (none_below b j h) refl
 ends_down zero (suc g) n k (pos m) b p q h = absurd (omega (arith, ltb-true m 0 p))
@@ -72,7 +72,7 @@ brought_up n (pos k) = rw (le-ltb k 0 zero-le) (by (ltb n k))
 
 -- a step of 0 walks nowhere
 halts : (f n : ℕ) (i b : ℤ) → walk_places f n i b (pos zero) ≡ []
-unfolding walk_places goes_on_lem
+unfolding walk_places goes_on
 halts zero n i b = refl
 halts (suc f) n i b = refl
 

@@ -2,7 +2,7 @@
 use Rattle.std.specs.Prelude.{ℕ, suc, ◌≡◌, refl, map, ℤ, pos, negsuc, ◌≤ℤ◌, ◌<ℤ◌}
 use Rattle.std.proofs.Math.Option.{Option, none, some}
 use Rattle.std.proofs.Common.{arith, lt-ltb, ltb→lt}
-use Rattle.definition.specs.Slices.{clamp, slice_step, given_start, given_stop, slice_start, slice_stop, goes_on_lem, walk_places, slice_places}
+use Rattle.definition.specs.Slices.{clamp, slice_step, given_start, given_stop, slice_start, slice_stop, goes_on, walk_places, slice_places}
 use Rattle.definition.specs.StandardSlices.{given, start_of, end_of, normalize, normal_start, bounds_of, loop_down, rfc_loop, index_of, rfc_places}
 use Rattle.definition_standards.specs.Walks.{bound_down, added_normalized, same_up, same_down, same_empty}
 
@@ -28,7 +28,7 @@ positive n k a b =
 
 -- A slice with a step of 0 is the RFC's: both select nothing.
 pub by_zero : (n : ℕ) (a b : Option ℤ) → slice_places n a b (some (pos 0)) ≡ rfc_places n a b (some (pos 0))
-unfolding slice_places rfc_places rfc_loop slice_step given walk_places goes_on_lem
+unfolding slice_places rfc_places rfc_loop slice_step given walk_places goes_on
 by_zero n a b = refl
 
 -- from y, normalised, and by a negative step, the walk is the loop to any stop

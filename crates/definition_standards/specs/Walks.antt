@@ -4,7 +4,7 @@ use Rattle.std.specs.Prelude.{ℕ, zero, suc, ◌+◌, ◌-◌, ◌≤◌, ◌<�
 use Rattle.std.proofs.Common.{zero-le, sym, ap, ◌∙◌, arith, ltb-true, ltb-false, lt-ltb, le-ltb}
 use Rattle.std.proofs.Math.IntN.{sub_ℕ}
 use Rattle.std.specs.Int.Signed.{lt_z}
-use Rattle.definition.specs.Slices.{add_once, element_at, clamp, goes_on_lem, walk_places}
+use Rattle.definition.specs.Slices.{add_once, element_at, clamp, goes_on, walk_places}
 use Rattle.definition.specs.StandardSlices.{minimum, maximum, normalize, index_of, loop_up, loop_down}
 
 -- "n added once" is Normalize
@@ -35,7 +35,7 @@ unfolding clamp
 clamp_kept lo h m e g = rw (e, le-ltb h m g)
 
 -- where a walk or a loop does not begin, it takes nothing
-walk_none : (f n : ℕ) (i b s : ℤ) → goes_on_lem s i b ≡ false → walk_places f n i b s ≡ []
+walk_none : (f n : ℕ) (i b s : ℤ) → goes_on s i b ≡ false → walk_places f n i b s ≡ []
 unfolding walk_places
 walk_none zero n i b s h = refl
 walk_none (suc f) n i b s h = rw h
@@ -49,7 +49,7 @@ loop_none (suc f) i b s h = rw h
 
 -- from a place up to a stop of at most n, every place is an element's
 walk_loop_up : (f n i e k : ℕ) → e ≤ n → walk_places f n (pos i) (pos e) (pos (suc k)) ≡ map index_of (loop_up f (pos i) (pos e) (pos (suc k)))
-unfolding walk_places goes_on_lem element_at loop_up index_of
+unfolding walk_places goes_on element_at loop_up index_of
 walk_loop_up zero n i e k h = refl
 walk_loop_up (suc f) n i e k h = go (ltb i e) refl (walk_loop_up f n (i + suc k) e k h)
   where
@@ -72,7 +72,7 @@ brings n (pos k) = rw (le-ltb k 0 zero-le) (go (ltb n k) refl)
 
 -- a stop below 0 is the stop 0 for a walk upwards, and any other is the same
 stop_up : (f n i k : ℕ) (z : ℤ) → walk_places f n (pos i) (clamp (negsuc 0) (pos n) z) (pos (suc k)) ≡ walk_places f n (pos i) (bound_up n z) (pos (suc k))
-unfolding clamp minimum maximum goes_on_lem
+unfolding clamp minimum maximum goes_on
 stop_up f n i k (pos m) = rw (le-ltb m 0 zero-le)
 stop_up f n i k (negsuc j) = rw (le-ltb n 0 zero-le) (go (ltb 0 j) ∙ sym (walk_none f n (pos i) (pos 0) (pos (suc k)) (le-ltb i 0 zero-le)))
   where
@@ -107,7 +107,7 @@ none_below (negsuc e) j h = le-ltb j e (omega (arith, ltb-false 0 e h))
 
 -- from a place of the list down to a stop of at least -1, every place is an element's
 walk_loop_down : (f n k : ℕ) (i b : ℤ) → lt_z i (pos n) ≡ true → lt_z b (negsuc 0) ≡ false → walk_places f n i b (negsuc k) ≡ map index_of (loop_down f i b (negsuc k))
-unfolding walk_places goes_on_lem element_at loop_down index_of
+unfolding walk_places goes_on element_at loop_down index_of
 walk_loop_down zero n k i b g h = refl
 walk_loop_down (suc f) n k (negsuc j) b g h = rw (none_below b j h)
 walk_loop_down (suc f) n k (pos m) b g h =
@@ -133,7 +133,7 @@ at_least h (negsuc j) = go (ltb 0 j) refl
 
 -- a stop of n is no other than the stop n - 1 for a walk downwards from n - 1 or less, for it takes nothing
 stop_down : (f p m k : ℕ) (z : ℤ) → m ≤ p → walk_places f (suc p) (pos m) (clamp (negsuc 0) (pos (suc p)) z) (negsuc k) ≡ map index_of (loop_down f (pos m) (clamp (negsuc 0) (pos p) z) (negsuc k))
-unfolding clamp goes_on_lem
+unfolding clamp goes_on
 stop_down f p m k (negsuc j) h = walk_loop_down f (suc p) k (pos m) (clamp (negsuc 0) (pos p) (negsuc j)) (lt-ltb m (suc p) (omega arith)) (at_least p (negsuc j))
 stop_down f p m k (pos e) h = go (ltb p e) refl
   where
@@ -176,7 +176,7 @@ minus_one_alone (negsuc (suc j)) = rw (lt-ltb 0 (suc j) (omega arith))
 
 -- a walk downwards takes nothing from an empty list
 empty_walk_lem : (k : ℕ) (b : ℤ) → walk_places 1 0 (pos 0) b (negsuc k) ≡ []
-unfolding walk_places element_at goes_on_lem
+unfolding walk_places element_at goes_on
 empty_walk_lem k b = go (lt_z b (pos 0))
   where
     go : (t : Bool) → ◌≡◌ {A = List ℕ} (cond t [] []) []

@@ -9,7 +9,7 @@ use Rattle.definition.specs.Forms.{Literal}
 use Rattle.definition.specs.Forms.Operator.{eq}
 use Rattle.definition.specs.Plans.{operator_byte}
 use Rattle.definition.specs.Tables.{node_count, node_at, kind_at}
-use Rattle.definition.specs.Compare.{Value, Fraction, node_value, compare_values, same, is_some, is_null, same_boolean, boolean_of, same_number_lem, number_of, same_text, text_of, list_of, map_of}
+use Rattle.definition.specs.Compare.{Value, Fraction, node_value, compare_values, same, is_some, is_null, same_boolean, boolean_of, same_number, number_of, same_text, text_of, list_of, map_of}
 use Rattle.definition.specs.Evaluation.{literal_value}
 use Rattle.table_laws.specs.Accepted.{Accepted}
 use Rattle.table_laws.specs.Nodes.{Kind, kind_of}
@@ -99,7 +99,7 @@ pub constant_none : (b kind : ℕ) → (b ≡ 0 → ⊥) → (b ≡ 1 → ⊥) �
 constant_none b kind n m = rw (ne_eqb b 0 n, ne_eqb b 1 m)
 
 same_no : (v : Value) → eqb (value_kind v) 1 ≡ same v (Value.boolean false)
-unfolding same is_null same_boolean boolean_of same_number_lem number_of same_text text_of list_of map_of
+unfolding same is_null same_boolean boolean_of same_number number_of same_text text_of list_of map_of
 same_no Value.nothing = refl
 same_no Value.null = refl
 same_no (Value.boolean false) = refl
@@ -111,7 +111,7 @@ same_no (Value.list ks) = refl
 same_no (Value.map ks) = refl
 
 same_yes : (v : Value) → eqb (value_kind v) 2 ≡ same v (Value.boolean true)
-unfolding same is_null same_boolean boolean_of same_number_lem number_of same_text text_of list_of map_of
+unfolding same is_null same_boolean boolean_of same_number number_of same_text text_of list_of map_of
 same_yes Value.nothing = refl
 same_yes Value.null = refl
 same_yes (Value.boolean false) = refl
@@ -123,7 +123,7 @@ same_yes (Value.list ks) = refl
 same_yes (Value.map ks) = refl
 
 same_null : (v : Value) → eqb (value_kind v) 0 ≡ same v Value.null
-unfolding same is_null same_boolean boolean_of same_number_lem number_of same_text text_of list_of map_of
+unfolding same is_null same_boolean boolean_of same_number number_of same_text text_of list_of map_of
 same_null Value.nothing = refl
 same_null Value.null = refl
 same_null (Value.boolean false) = refl

@@ -11,7 +11,7 @@ use Rattle.definition.specs.Bytes.{same_bytes}
 use Rattle.definition.specs.Values.{Kids, many}
 use Rattle.definition.specs.Forms.Operator.{eq, ne, lt, le, gt, ge}
 use Rattle.definition.specs.Plans.{operator_byte}
-use Rattle.definition.specs.Compare.{Value, Fraction, compare_values, same, less, less_or_same, is_less, is_some, is_boolean, is_null, boolean_of, same_boolean, same_number_lem, same_text, number_of, text_of, numbers_less, texts_less, list_of, map_of, same_elements, same_members, whole_fraction, float_fraction, order_fractions}
+use Rattle.definition.specs.Compare.{Value, Fraction, compare_values, same, less, less_or_same, is_less, is_some, is_boolean, is_null, boolean_of, same_boolean, same_number, same_text, number_of, text_of, numbers_less, texts_less, list_of, map_of, same_elements, same_members, whole_fraction, float_fraction, order_fractions}
 use Rattle.number_order.specs.Exact.{answer, order_of}
 use Rattle.std.specs.declared.cmp.Ordering.{Ordering as Order}
 use Rattle.std.specs.declared.cmp.Ordering.TheVariants.{Less, Equal, Greater}
@@ -64,7 +64,7 @@ pub record IsNumber (v : Value) (a : Fraction) : Type 0 where
   pub no_map : map_of v ≡ none
   pub no_null : is_null v ≡ false
   pub there : is_some v ≡ true
-  pub equals : (w : Value) → same v w ≡ same_number_lem a w
+  pub equals : (w : Value) → same v w ≡ same_number a w
 
 pub integer_is : (z : ℤ) → IsNumber (Value.integer z) (whole_fraction z)
 unfolding number_of text_of boolean_of is_boolean list_of map_of is_null is_some same
@@ -82,7 +82,7 @@ integer_at z y e = subst (λ (x : ℤ). IsNumber (Value.integer z) (whole_fracti
 
 module _ {v w : Value} {a b : Fraction} (i : IsNumber v a) (j : IsNumber w b) where
   numbers_same : compare_is_eq (order_fractions a b) ≡ same v w
-  unfolding same_number_lem
+  unfolding same_number
   numbers_same = sym (ap (λ (o : Option Fraction). elim o [ none ↦ false | some c ↦ compare_is_eq (order_fractions a c) ]) j.number) ∙ sym (i.equals w)
 
   numbers_less_lem : (is_less (order_fractions a b) || false) ≡ less v w
@@ -145,7 +145,7 @@ module _ {w : Value} {b : Fraction} (j : IsNumber w b) where
 
   module _ (v : Value) (n : number_of v ≡ none) (s : is_some v ≡ true) where
     number_same : same w v ≡ false
-    unfolding same_number_lem
+    unfolding same_number
     number_same = j.equals v ∙ ap (λ (o : Option Fraction). elim o [ none ↦ false | some c ↦ compare_is_eq (order_fractions b c) ]) n
 
     other_less : less v w ≡ false

@@ -10,7 +10,7 @@ use Rattle.definition.specs.Forms.Operator.{eq, ne, lt, le, gt, ge}
 use Rattle.definition.specs.QueryForms.{literal_right}
 use Rattle.definition.specs.Plans.{code_segments, code_literal, pool_literal}
 use Rattle.definition.specs.Tables.{node_count, node_at, kind_at, payload, low_word, high_word}
-use Rattle.definition.specs.Compare.{Value, node_value, compare_values, same, less, less_or_same, is_some, is_null, boolean_of, same_boolean, same_number_lem, same_text, number_of, text_of, numbers_less, texts_less, list_of, map_of}
+use Rattle.definition.specs.Compare.{Value, node_value, compare_values, same, less, less_or_same, is_some, is_null, boolean_of, same_boolean, same_number, same_text, number_of, text_of, numbers_less, texts_less, list_of, map_of}
 use Rattle.definition.specs.Evaluation.{literal_value, eval_segments, first_value}
 use Rattle.basics.specs.Bools.{and_left, and_right}
 use Rattle.eval_items.specs.OpLaws.{right_kind_else, right_kind_is}
@@ -45,7 +45,7 @@ compares_as {v} {v'} {w} {w'} op b i j c = λ o e. c o e ∙ ap (λ (x : Value).
 -- ---- nothing compares
 
 pub none_same : (w : Value) → same w Value.nothing ≡ false
-unfolding same is_null same_boolean boolean_of same_number_lem number_of same_text text_of list_of map_of
+unfolding same is_null same_boolean boolean_of same_number number_of same_text text_of list_of map_of
 none_same Value.nothing = refl
 none_same Value.null = refl
 none_same (Value.boolean b) = refl

@@ -17,7 +17,7 @@ use Rattle.definition.specs.Forms.Query.{query}
 use Rattle.definition.specs.Forms.Test.{exists, compare, regex, not_value, both, either}
 use Rattle.definition.specs.Forms.Argument.{literal, singular, value}
 use Rattle.definition.specs.Forms.Function.{count_of, length_of, value_of}
-use Rattle.definition.specs.QueryForms.{query_right, test_right, argument_right_lem, function_right}
+use Rattle.definition.specs.QueryForms.{query_right, test_right, argument_right, function_right}
 use Rattle.definition.specs.Plans.{start_kind, scope_kind, pooled, code_literal, framed, pool_query, pool_test, pool_argument, pool_function, code_query, code_test, code_argument, code_function}
 use Rattle.definition.specs.Evaluation.{truth, eval_query, eval_test, eval_argument, eval_function}
 use Rattle.basics.specs.Bools.{and_left, and_right}
@@ -130,10 +130,10 @@ module _ (P L : List ℕ) (e : ℕ) (R N : Json) (want : Bool) where
   comes_right w b K q k a h p r l = (record { holds = h; pool = p; right = r; behind = tt; fits = refl }, l)
 
   mutual
-    unfolding ComesTo argument_ops code_argument pool_argument argument_right_lem eval_argument code_op pool_op op_right Behind AskBehind does effect result_by result takes top put Fits table Next kind
+    unfolding ComesTo argument_ops code_argument pool_argument argument_right eval_argument code_op pool_op op_right Behind AskBehind does effect result_by result takes top put Fits table Next kind
 
     -- an argument leaves its value on the stack
-    comes_argument : (a : Argument) (K : List Op) (q k : ℕ) (acc : Bool) (st : List Value) → Holds P q (code_argument a k) → Holds L k (pool_argument a) → argument_right_lem a ≡ true → length st < registers → Next K
+    comes_argument : (a : Argument) (K : List Op) (q k : ℕ) (acc : Bool) (st : List Value) → Holds P q (code_argument a k) → Holds L k (pool_argument a) → argument_right a ≡ true → length st < registers → Next K
         → ComesTo P L e R N want K (q + length (code_argument a k)) (k + length (pool_argument a)) (held acc (eval_argument a R N ∷ st)) → ComesTo P L e R N want (argument_ops a K) q k (held acc st)
     comes_argument (literal l) K q k acc st h p r s n t = (record { holds = h; pool = p; right = r; behind = tt; fits = (omega arith, omega arith) }, t)
     comes_argument (singular f) K q k acc st h p r s n t =
@@ -153,7 +153,7 @@ module _ (P L : List ℕ) (e : ℕ) (R N : Json) (want : Bool) where
 
   -- two arguments and an operation that takes both and gives an answer
   comes_two : (a b : Argument) (o : Operation) (K : List Op) (q k : ℕ) (acc : Bool)
-      → Holds P q (code_argument a k ++ (code_argument b (k + length (pool_argument a)) ++ ((table o).kind ∷ (table o).body))) → Holds L k (pool_argument a ++ pool_argument b) → (argument_right_lem a && argument_right_lem b) ≡ true
+      → Holds P q (code_argument a k ++ (code_argument b (k + length (pool_argument a)) ++ ((table o).kind ∷ (table o).body))) → Holds L k (pool_argument a ++ pool_argument b) → (argument_right a && argument_right b) ≡ true
       → ask_of (table o).kind ≡ for_first → Fits (result_by (table o).does (held acc (eval_argument b R N ∷ eval_argument a R N ∷ []))) (takes (table o).does) (eval_argument b R N ∷ eval_argument a R N ∷ [])
       → ComesTo P L e R N want K (q + length (code_argument a k ++ (code_argument b (k + length (pool_argument a)) ++ ((table o).kind ∷ (table o).body)))) (k + length (pool_argument a ++ pool_argument b))
       (effect (table o).does (held acc (eval_argument b R N ∷ eval_argument a R N ∷ [])))
@@ -167,8 +167,8 @@ module _ (P L : List ℕ) (e : ℕ) (R N : Json) (want : Bool) where
       let co : List ℕ = (table o).kind ∷ (table o).body in
       let h2 = holds_second P q ca (cb ++ co) h in
       let x = eval_argument a R N in
-      comes_argument a (argument_ops b (plain_op o ∷ K)) q k acc [] (holds_first P q ca (cb ++ co) h) (holds_first L k pa pb p) (and_left (argument_right_lem a) (argument_right_lem b) r) (omega arith) (next_argument b _)
-      (comes_argument b (plain_op o ∷ K) (q + length ca) (k + length pa) acc (x ∷ []) (holds_first P _ cb co h2) (holds_second L k pa pb p) (and_right (argument_right_lem a) (argument_right_lem b) r) (omega arith) n
+      comes_argument a (argument_ops b (plain_op o ∷ K)) q k acc [] (holds_first P q ca (cb ++ co) h) (holds_first L k pa pb p) (and_left (argument_right a) (argument_right b) r) (omega arith) (next_argument b _)
+      (comes_argument b (plain_op o ∷ K) (q + length ca) (k + length pa) acc (x ∷ []) (holds_first P _ cb co h2) (holds_second L k pa pb p) (and_right (argument_right a) (argument_right b) r) (omega arith) n
       (comes_plain o K (q + length ca + length cb) (k + length pa + length pb) acc (eval_argument b R N ∷ x ∷ []) (omega (arith, holds_in L k (pa ++ pb) p, length-append pa pb)) (holds_second P _ cb co h2) i
       (comes_at K _ _ _ _ _ (omega (arith, length-append ca (cb ++ co), length-append cb co)) (omega (arith, length-append pa pb)) l)))
 

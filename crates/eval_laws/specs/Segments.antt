@@ -1,7 +1,7 @@
 -- Evaluation segment by segment goes depth first: segments over appended lists of nodes. Assumes nothing.
 use Rattle.std.specs.Prelude.{ℕ, ◌≡◌, refl, List, [], ◌∷◌, ◌++◌, map}
 use Rattle.std.proofs.Common.{sym, ap, ◌∙◌, append-nil, append_assoc}
-use Rattle.definition.specs.Values.{Json, Kids, id_of, to_list, children, descend, descend_all_lem}
+use Rattle.definition.specs.Values.{Json, Kids, id_of, to_list, children, descend, descend_all}
 use Rattle.definition.specs.Values.Kids.{nil, more}
 use Rattle.definition.specs.Forms.{Segments, Selectors}
 use Rattle.definition.specs.Forms.Segments.{end, child, descendant}
@@ -51,10 +51,10 @@ segments_descendant ss q r n = rw append-nil
 
 -- ---- descent: the node, then each child's descent
 
-descend_all : (ks : Kids) → descend_all_lem ks ≡ flat descend (to_list ks)
+descends_all : (ks : Kids) → descend_all ks ≡ flat descend (to_list ks)
 unfolding descend flat to_list
-descend_all nil = refl
-descend_all (more k j ks) = ap (λ (l : List Json). descend j ++ l) (descend_all ks)
+descends_all nil = refl
+descends_all (more k j ks) = ap (λ (l : List Json). descend j ++ l) (descends_all ks)
 
 pub descend_children : (n : Json) → descend n ≡ n ∷ flat descend (children n)
 unfolding descend children flat
@@ -63,5 +63,5 @@ descend_children (Json.boolean i b) = refl
 descend_children (Json.integer i z) = refl
 descend_children (Json.float i x) = refl
 descend_children (Json.text i s) = refl
-descend_children (Json.list i ks) = ap (λ (l : List Json). Json.list i ks ∷ l) (descend_all ks)
-descend_children (Json.map i ks) = ap (λ (l : List Json). Json.map i ks ∷ l) (descend_all ks)
+descend_children (Json.list i ks) = ap (λ (l : List Json). Json.list i ks ∷ l) (descends_all ks)
+descend_children (Json.map i ks) = ap (λ (l : List Json). Json.map i ks ∷ l) (descends_all ks)

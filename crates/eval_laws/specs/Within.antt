@@ -6,7 +6,7 @@ use mathlib.Core.List.{List, [], ◌∷◌, ◌++◌}
 use Rattle.std.proofs.Math.Bool.{true, false}
 use Rattle.std.proofs.Math.Option.{Option, none, some}
 use Rattle.definition.specs.Bytes.{same_bytes}
-use Rattle.definition.specs.Values.{Json, Kids, id_of, to_list, lookup, children, elements, members, descend, descend_all_lem}
+use Rattle.definition.specs.Values.{Json, Kids, id_of, to_list, lookup, children, elements, members, descend, descend_all}
 use Rattle.definition.specs.Values.Kids.{nil, more}
 use Rattle.definition.specs.Tables.{node_at, node_count, first_child, child_count}
 use Rattle.definition.specs.Slices.{index_places, slice_places}
@@ -123,9 +123,9 @@ module _ (T X : List ℕ) where
       all_descend (Json.list i ks) a = (a, all_below_lem ks (all_children (Json.list i ks) a))
       all_descend (Json.map i ks) a = (a, all_below_lem ks (all_children (Json.map i ks) a))
 
-      all_below_lem : (ks : Kids) → AllIn T X (to_list ks) → AllIn T X (descend_all_lem ks)
+      all_below_lem : (ks : Kids) → AllIn T X (to_list ks) → AllIn T X (descend_all ks)
       all_below_lem nil a = tt
-      all_below_lem (more k x ks) a = all_append (descend x) (descend_all_lem ks) (all_descend x a.0) (all_below_lem ks a.1)
+      all_below_lem (more k x ks) a = all_append (descend x) (descend_all ks) (all_descend x a.0) (all_below_lem ks a.1)
 
     all_selector : (s : Selector) (r x : Json) → In T X x → AllIn T X (eval_selector s r x)
     unfolding eval_selector

@@ -13,7 +13,7 @@ use Rattle.std.specs.Float.Ieee.Scale.{finite}
 use Rattle.definition.specs.Bytes.{part, signed64, same_bytes, order_bytes}
 use Rattle.definition.specs.Values.{Kids}
 use Rattle.definition.specs.Tables.{node_count, kind_at, kind_float, kind_text, kind_list, kind_map, payload, low_word, high_word, child_count, node_at}
-use Rattle.definition.specs.Compare.{Value, Fraction, node_value, number_of, text_of, same, same_number_lem, same_text, same_boolean, is_null, is_some, is_boolean, boolean_of, less, is_less, numbers_less, texts_less, order_fractions, whole_fraction, float_fraction}
+use Rattle.definition.specs.Compare.{Value, Fraction, node_value, number_of, text_of, same, same_number, same_text, same_boolean, is_null, is_some, is_boolean, boolean_of, less, is_less, numbers_less, texts_less, order_fractions, whole_fraction, float_fraction}
 use Rattle.definition.specs.Evaluation.{truth, length_of_value}
 use Rattle.definition_bytes.specs.Same.{part_length}
 use Rattle.table_laws.specs.Accepted.{Accepted}
@@ -290,8 +290,8 @@ rank_less (Value.text s) w = less_texts s (text_of w)
 rank_less (Value.list ks) w = refl
 rank_less (Value.map ks) w = refl
 
-equal_numbers : (a : Fraction) (w : Value) → is_rank_equal (rank_numbers (some a) (number_of w)) ≡ same_number_lem a w
-unfolding same_number_lem
+equal_numbers : (a : Fraction) (w : Value) → is_rank_equal (rank_numbers (some a) (number_of w)) ≡ same_number a w
+unfolding same_number
 equal_numbers a w = go (number_of w)
   where
     go : (o : Option Fraction) → is_rank_equal (rank_numbers (some a) o) ≡ elim o [ none ↦ false | some b ↦ compare_is_eq (order_fractions a b) ]

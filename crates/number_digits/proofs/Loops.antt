@@ -7,7 +7,7 @@ use native.Mathlib.Nat.{add-zero}
 use native.Mathlib.Omega.{arith}
 use lib.ListN.{length, drop, get_or, length-append, drop_of_length-le}
 use Rattle.definition.specs.Bytes.{every}
-use Rattle.definition.specs.Lexical.{is_digit_lem}
+use Rattle.definition.specs.Lexical.{is_digit}
 use Rattle.definition.specs.Literals.{decimal_from}
 use Rattle.basics.specs.Lists.{drop_at}
 use Rattle.basics.specs.Reads.{StartsNot}
@@ -36,7 +36,7 @@ kept_once a d = omega arith
 
 pub record Passed (s : List ℕ) (from start acc i : ℕ) : Type 0 where
   pub digits : List ℕ
-  pub good : every is_digit_lem digits ≡ true
+  pub good : every is_digit digits ≡ true
   pub text : drop from s ≡ digits ++ drop i s
   pub value : acc ≡ min limit (decimal_from start digits)
   pub count : i ≡ from + length digits
@@ -49,14 +49,14 @@ begin s from start h l = record { digits = []; good = refl; text = refl; value =
 
 module _ (s : List ℕ) (from start acc i : ℕ) (P : Passed s from start acc i) where
   -- A digit is passed.
-  pub pass : i < length s → is_digit_lem (get_or s i 0) ≡ true → Passed s from start (min limit (acc * 10 + (get_or s i 0 - 48))) (i + 1)
+  pub pass : i < length s → is_digit (get_or s i 0) ≡ true → Passed s from start (min limit (acc * 10 + (get_or s i 0 - 48))) (i + 1)
   pass h t =
       let c = get_or s i 0 in
       let ds = P.digits in
       let n = P.count in
       record {
         digits = ds ++ c ∷ [];
-        good = every_end is_digit_lem ds c P.good t;
+        good = every_end is_digit ds c P.good t;
         text = P.text ∙ ap (λ (r : List ℕ). ds ++ r) (drop_at s i h) ∙ sym (append_assoc ds (c ∷ []) (drop (i + 1) s));
         value = ap (λ (a : ℕ). min limit (a * 10 + (c - 48))) P.value ∙ kept_once (decimal_from start ds) (c - 48) ∙ ap (min limit) (sym (decimal_end start ds c));
         count = omega (arith, length-append ds (c ∷ []));
@@ -64,13 +64,13 @@ module _ (s : List ℕ) (from start acc i : ℕ) (P : Passed s from start acc i)
       }
 
   -- The loop stops where no digit stands.
-  stop : StartsNot is_digit_lem (drop i s) → DigitRun s from start i acc
+  stop : StartsNot is_digit (drop i s) → DigitRun s from start i acc
   stop t = record { digits = P.digits; good = P.good; text = P.text; stop = t; value = P.value; count = P.count; to = P.to }
 
   pub at_end : length s ≤ i → DigitRun s from start i acc
   unfolding StartsNot
   at_end h = stop (rw (drop_of_length-le s h) tt)
 
-  pub stops : i < length s → is_digit_lem (get_or s i 0) ≡ false → DigitRun s from start i acc
+  pub stops : i < length s → is_digit (get_or s i 0) ≡ false → DigitRun s from start i acc
   unfolding StartsNot
   stops h n = stop (rw (drop_at s i h) n)

@@ -8,7 +8,7 @@ use borrow.Author.Tests.{le-leb, leb-true}
 use lib.Dec.{leb}
 use Rattle.number_integers.specs.Tests.{both}
 use Rattle.definition.specs.Bytes.{every}
-use Rattle.definition.specs.Lexical.{Natural, is_digit_lem, is_digit1}
+use Rattle.definition.specs.Lexical.{Natural, is_digit, is_digit1}
 use Rattle.definition.specs.Literals.{decimal, decimal_from, natural_digits}
 use Rattle.basics.specs.Reads.{StartsNot}
 use Rattle.number_digits.specs.Unsigned.{Unsigned, zero_unsigned, natural_unsigned, spell_unsigned, unsigned_digits}
@@ -19,10 +19,10 @@ use Rattle.number_digits.specs.Unsigned.{Unsigned, zero_unsigned, natural_unsign
 pub digit1_bounds : (c : ℕ) → is_digit1 c ≡ true → (49 ≤ c) × (c ≤ 57)
 digit1_bounds c e = let b = both (leb 0x31 c) (leb c 0x39) e in (leb-true 0x31 c b.0, leb-true c 0x39 b.1)
 
-pub digit1_digit : (c : ℕ) → is_digit1 c ≡ true → is_digit_lem c ≡ true
+pub digit1_digit : (c : ℕ) → is_digit1 c ≡ true → is_digit c ≡ true
 digit1_digit c e = let b = digit1_bounds c e in rw (le-leb 0x30 c (omega arith), le-leb c 0x39 b.1) refl
 
-pub digit_bounds : (c : ℕ) → is_digit_lem c ≡ true → (48 ≤ c) × (c ≤ 57)
+pub digit_bounds : (c : ℕ) → is_digit c ≡ true → (48 ≤ c) × (c ≤ 57)
 digit_bounds c e = let b = both (leb 0x30 c) (leb c 0x39) e in (leb-true 0x30 c b.0, leb-true c 0x39 b.1)
 
 -- A text that begins with a byte which passes a test does not begin with none that does.
@@ -50,13 +50,13 @@ pub unsigned_run : (u : Unsigned) (r : List ℕ) → spell_unsigned u r ≡ unsi
 unsigned_run zero_unsigned r = refl
 unsigned_run (natural_unsigned n) r = refl
 
-pub unsigned_good : (u : Unsigned) → every is_digit_lem (unsigned_digits u) ≡ true
+pub unsigned_good : (u : Unsigned) → every is_digit (unsigned_digits u) ≡ true
 unsigned_good zero_unsigned = refl
 unsigned_good (natural_unsigned n) = rw (digit1_digit n.first n.is_first) n.are_more
 
 -- Two of them that spell one text, with no digit behind them, have the same digits and the same rest.
-pub unsigned_only : (u v : Unsigned) (r q : List ℕ) → StartsNot is_digit_lem r → StartsNot is_digit_lem q → spell_unsigned u r ≡ spell_unsigned v q → (unsigned_digits u ≡ unsigned_digits v) × (r ≡ q)
-unsigned_only u v r q m n e = same_run is_digit_lem (unsigned_digits u) (unsigned_digits v) r q (unsigned_good u) (unsigned_good v) m n (sym (unsigned_run u r) ∙ e ∙ unsigned_run v q)
+pub unsigned_only : (u v : Unsigned) (r q : List ℕ) → StartsNot is_digit r → StartsNot is_digit q → spell_unsigned u r ≡ spell_unsigned v q → (unsigned_digits u ≡ unsigned_digits v) × (r ≡ q)
+unsigned_only u v r q m n e = same_run is_digit (unsigned_digits u) (unsigned_digits v) r q (unsigned_good u) (unsigned_good v) m n (sym (unsigned_run u r) ∙ e ∙ unsigned_run v q)
 
 -- ---- numbers above 0
 

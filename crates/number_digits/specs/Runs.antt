@@ -2,7 +2,7 @@
 use Rattle.std.specs.Prelude.{◌≡◌, Bool, true, false, List, ◌∷◌, ◌++◌, ℕ, ◌+◌, ◌≤◌, min, length, drop}
 use Rattle.definition.specs.Bytes.{every}
 use Rattle.definition.specs.Limits.{literal_limit}
-use Rattle.definition.specs.Lexical.{is_digit_lem}
+use Rattle.definition.specs.Lexical.{is_digit}
 use Rattle.definition.specs.Literals.{decimal_from}
 use Rattle.basics.specs.Reads.{StartsNot}
 
@@ -18,9 +18,9 @@ limit = literal_limit
 -- All digits of s from a place on end at `end`, and behind the number `start` they write v, kept at the limit.
 pub record DigitRun (s : List ℕ) (from start end v : ℕ) : Type 0 where
   pub digits : List ℕ
-  pub good : every is_digit_lem digits ≡ true
+  pub good : every is_digit digits ≡ true
   pub text : drop from s ≡ digits ++ drop end s
-  pub stop : StartsNot is_digit_lem (drop end s)
+  pub stop : StartsNot is_digit (drop end s)
   pub value : v ≡ min limit (decimal_from start digits)
   pub count : end ≡ from + length digits
   pub to : end ≤ length s

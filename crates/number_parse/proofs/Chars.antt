@@ -8,7 +8,7 @@ use borrow.Author.Tests.{ne_eqb, eqb-true}
 use lib.Dec.{eqb}
 use lib.ListN.{length, drop, get_or, drop_of_length-le}
 use Rattle.number_integers.specs.Tests.{neither}
-use Rattle.definition.specs.Lexical.{is_digit_lem, is_e}
+use Rattle.definition.specs.Lexical.{is_digit, is_e}
 use Rattle.basics.specs.Lists.{drop_at}
 use Rattle.basics.specs.Bools.{or_cases as either}
 use Rattle.basics.specs.Reads.{StartsNot}
@@ -32,17 +32,17 @@ starts_less p q [] k n = tt
 starts_less p q (c ∷ r) k n = k c n
 
 -- What follows a number begins with no digit, no point and no letter.
-pub no_digit : (r : List ℕ) → StartsNot is_number_char r → StartsNot is_digit_lem r
-no_digit r n = starts_less is_number_char is_digit_lem r (λ c e. (neither (is_digit_lem c) (is_point c || is_e c) e).0) n
+pub no_digit : (r : List ℕ) → StartsNot is_number_char r → StartsNot is_digit r
+no_digit r n = starts_less is_number_char is_digit r (λ c e. (neither (is_digit c) (is_point c || is_e c) e).0) n
 
 pub no_point : (r : List ℕ) → StartsNot is_number_char r → StartsNot is_point r
-no_point r n = starts_less is_number_char is_point r (λ c e. (neither (is_point c) (is_e c) (neither (is_digit_lem c) (is_point c || is_e c) e).1).0) n
+no_point r n = starts_less is_number_char is_point r (λ c e. (neither (is_point c) (is_e c) (neither (is_digit c) (is_point c || is_e c) e).1).0) n
 
 pub no_letter : (r : List ℕ) → StartsNot is_number_char r → StartsNot is_e r
-no_letter r n = starts_less is_number_char is_e r (λ c e. (neither (is_point c) (is_e c) (neither (is_digit_lem c) (is_point c || is_e c) e).1).1) n
+no_letter r n = starts_less is_number_char is_e r (λ c e. (neither (is_point c) (is_e c) (neither (is_digit c) (is_point c || is_e c) e).1).1) n
 
 -- A letter is no digit and no point.
-pub letter_digit : (c : ℕ) → is_e c ≡ true → is_digit_lem c ≡ false
+pub letter_digit : (c : ℕ) → is_e c ≡ true → is_digit c ≡ false
 letter_digit c e = ⊎_elim (λ (h : eqb c 101 ≡ true). rw (eqb-true c 101 h) refl) (λ (h : eqb c 69 ≡ true). rw (eqb-true c 69 h) refl) (either (eqb c 101) (eqb c 69) e)
 
 pub letter_point : (c : ℕ) → is_e c ≡ true → is_point c ≡ false

@@ -5,7 +5,7 @@ use mathlib.Core.List.{List, ◌∷◌}
 use Prim.Native.Nat.{ℕ, ◌+◌, ◌≤◌, ◌<◌}
 use native.Mathlib.Omega.{arith}
 use lib.ListN.{length, drop}
-use Rattle.definition.specs.Lexical.{Exponent, Sign, Digits, is_digit_lem, is_e, spell_sign, spell_digits, spell_exponent}
+use Rattle.definition.specs.Lexical.{Exponent, Sign, Digits, is_digit, is_e, spell_sign, spell_digits, spell_exponent}
 use Rattle.definition.specs.Lexical.Sign.{no_sign, plus_sign, minus_sign}
 use Rattle.definition.specs.Lexical.Exponent.{no_exponent, exponent}
 use Rattle.definition.specs.Literals.{decimal, decimal_from, exponent_value}
@@ -108,7 +108,7 @@ module _ (s : List ℕ) (at from : ℕ) (g : Sign) (L : LetterAt s at) (low : at
         value = D.value;
       })
 
-  bad : (place : ℕ) → from ≤ place → place ≤ length s → StartsNot is_digit_lem (drop from s) → ExponentAnswer s at (Err place)
+  bad : (place : ℕ) → from ≤ place → place ≤ length s → StartsNot is_digit (drop from s) → ExponentAnswer s at (Err place)
   bad place f t n = bad_exponent {place = place} (omega arith) t (record { none = go })
     where
       go : (x : Exponent) (r : List ℕ) → AfterExponent x r → drop at s ≡ spell_exponent x r → ⊥

@@ -11,7 +11,7 @@ use mir.Syntax.{w64}
 use mir.Val.{SFits}
 use Rattle.std.specs.Prelude.{Result, Ok, Err, MatchResult, IsErrAnd}
 use Rattle.definition.specs.Limits.{max_int}
-use Rattle.definition.specs.Lexical.{Int, Whole, is_digit_lem, spell_int, spell_whole}
+use Rattle.definition.specs.Lexical.{Int, Whole, is_digit, spell_int, spell_whole}
 use Rattle.definition.specs.Lexical.Int.{zero_int, plain_int, minus_int}
 use Rattle.definition.specs.Lexical.Whole.{int_whole, minus_zero}
 use Rattle.definition.specs.Literals.{decimal, decimal_from, natural_digits, int_value, in_range, whole_digits, is_minus}
@@ -35,7 +35,7 @@ small_fits true n h = minus_fits n (omega arith)
 
 -- ---- an int that stands there
 
-module _ (s : List ℕ) (at end : ℕ) (i : Int) (from : at < end) (to : end ≤ length s) (text : drop at s ≡ spell_int i (drop end s)) (stop : StartsNot is_digit_lem (drop end s)) where
+module _ (s : List ℕ) (at end : ℕ) (i : Int) (from : at < end) (to : end ≤ length s) (text : drop at s ≡ spell_int i (drop end s)) (stop : StartsNot is_digit (drop end s)) where
   -- It is the only one.
   there : IntAt s at end i
   there = record { from = from; to = to; reads = record { eq = text; only = λ j r m f. int_only i j (drop end s) r stop m (sym text ∙ f) }; may = stop }
@@ -96,7 +96,7 @@ module _ (s : List ℕ) (at : ℕ) where
             let e : 0 ≡ min limit (decimal (natural_digits k)) = sym z ∙ W.value ∙ ap (λ (ds : List ℕ). min limit (decimal ds)) b in
             omega arith
 
-        go : (j : Int) (r : List ℕ) → StartsNot is_digit_lem r → drop at s ≡ spell_int j r → ⊥
+        go : (j : Int) (r : List ℕ) → StartsNot is_digit r → drop at s ≡ spell_int j r → ⊥
         go j r m e =
             let k = whole_only W.tree (int_whole j) (drop w.end s) r W.stop m (sym W.text ∙ e) in
             at_zero j k.0 k.1

@@ -4,7 +4,7 @@ use mathlib.Core.Bool.{Bool, true, false}
 use mathlib.Core.List.{List, ◌∷◌}
 use Prim.Native.Nat.{ℕ}
 use native.Mathlib.Omega.{arith}
-use Rattle.definition.specs.Lexical.{Int, Whole, is_digit_lem, spell_int, spell_whole}
+use Rattle.definition.specs.Lexical.{Int, Whole, is_digit, spell_int, spell_whole}
 use Rattle.definition.specs.Lexical.Int.{zero_int, plain_int, minus_int}
 use Rattle.definition.specs.Lexical.Whole.{int_whole, minus_zero}
 use Rattle.definition.specs.Literals.{decimal, decimal_from, int_value, whole_digits, is_minus}
@@ -34,7 +34,7 @@ sign_only false true u v r q e = absurd (no_minus u r (spell_unsigned v q) e)
 sign_only true false u v r q e = absurd (no_minus v q (spell_unsigned u r) (sym e))
 
 -- Two texts of this form, with no digit behind them, have the same sign, the same digits and the same rest.
-signed_only : (a b : Bool) (u v : Unsigned) (r q : List ℕ) → StartsNot is_digit_lem r → StartsNot is_digit_lem q → with_sign a (spell_unsigned u r) ≡ with_sign b (spell_unsigned v q)
+signed_only : (a b : Bool) (u v : Unsigned) (r q : List ℕ) → StartsNot is_digit r → StartsNot is_digit q → with_sign a (spell_unsigned u r) ≡ with_sign b (spell_unsigned v q)
     → (a ≡ b) × (unsigned_digits u ≡ unsigned_digits v) × (r ≡ q)
 signed_only a b u v r q m n e =
     let k = sign_only a b u v r q e in
@@ -65,7 +65,7 @@ int_value_lem (plain_int n) = refl
 int_value_lem (minus_int n) = refl
 
 -- Two ints that spell one text, with no digit behind them, have the same value and the same rest.
-pub int_only : (i j : Int) (r q : List ℕ) → StartsNot is_digit_lem r → StartsNot is_digit_lem q → spell_int i r ≡ spell_int j q → (int_value j ≡ int_value i) × (q ≡ r)
+pub int_only : (i j : Int) (r q : List ℕ) → StartsNot is_digit r → StartsNot is_digit q → spell_int i r ≡ spell_int j q → (int_value j ≡ int_value i) × (q ≡ r)
 int_only i j r q m n e =
     let k = signed_only (int_sign i) (int_sign j) (int_unsigned i) (int_unsigned j) r q m n (sym (int_spelled i r) ∙ e ∙ int_spelled j q) in (
       int_value_lem j ∙ ap (λ (t : Bool). signed t (decimal (unsigned_digits (int_unsigned j)))) (sym k.0) ∙ ap (λ (ds : List ℕ). signed (int_sign i) (decimal ds)) (sym k.1) ∙ sym (int_value_lem i),
@@ -114,7 +114,7 @@ whole_of_lem true zero_unsigned = refl
 whole_of_lem true (natural_unsigned n) = refl
 
 -- Two of them that spell one text, with no digit behind them, have the same sign, the same digits and the same rest.
-pub whole_only : (w v : Whole) (r q : List ℕ) → StartsNot is_digit_lem r → StartsNot is_digit_lem q → spell_whole w r ≡ spell_whole v q → (is_minus w ≡ is_minus v) × (whole_digits w ≡ whole_digits v) × (r ≡ q)
+pub whole_only : (w v : Whole) (r q : List ℕ) → StartsNot is_digit r → StartsNot is_digit q → spell_whole w r ≡ spell_whole v q → (is_minus w ≡ is_minus v) × (whole_digits w ≡ whole_digits v) × (r ≡ q)
 whole_only w v r q m n e =
     let k = signed_only (is_minus w) (is_minus v) (whole_unsigned w) (whole_unsigned v) r q m n (sym (whole_spelled w r) ∙ e ∙ whole_spelled v q) in
     (k.0, whole_digits_lem w ∙ k.1 ∙ sym (whole_digits_lem v), k.2)

@@ -6,8 +6,8 @@ use Prim.Native.Nat.{ℕ, ◌^◌, ◌<◌}
 use native.Mathlib.Omega.{arith}
 use lib.ListN.{length, drop, length-drop}
 use Rattle.std.specs.Prelude.{Ok, Err}
-use Rattle.definition.specs.Lexical.{Number, Fraction, Exponent, is_digit_lem, spell_whole, spell_fraction, spell_exponent, spell_number}
-use Rattle.definition.specs.Lexical.Fraction.{no_fraction_lem, fraction}
+use Rattle.definition.specs.Lexical.{Number, Fraction, Exponent, is_digit, spell_whole, spell_fraction, spell_exponent, spell_number}
+use Rattle.definition.specs.Lexical.Fraction.{no_fraction, fraction}
 use Rattle.definition.specs.Lexical.Exponent.{no_exponent, exponent}
 use Rattle.definition.specs.Literals.{decimal, whole_digits, is_minus, numeral}
 use Rattle.basics.specs.Reads.{StartsNot}
@@ -39,7 +39,7 @@ exponent_at (exponent_end x) = x
 -- ---- what follows each part of a number
 
 -- An exponent, or what follows the number, begins with no digit and with no point.
-exponent_digit : (x : Exponent) (r : List ℕ) → StartsNot is_number_char r → StartsNot is_digit_lem (spell_exponent x r)
+exponent_digit : (x : Exponent) (r : List ℕ) → StartsNot is_number_char r → StartsNot is_digit (spell_exponent x r)
 unfolding StartsNot
 exponent_digit no_exponent r n = no_digit r n
 exponent_digit (exponent e h g d) r n = letter_digit e h
@@ -50,13 +50,13 @@ exponent_point no_exponent r n = no_point r n
 exponent_point (exponent e h g d) r n = letter_point e h
 
 -- So what follows each part is what may follow it.
-after_whole : (f : Fraction) (x : Exponent) (r : List ℕ) → StartsNot is_number_char r → StartsNot is_digit_lem (spell_fraction f (spell_exponent x r))
+after_whole : (f : Fraction) (x : Exponent) (r : List ℕ) → StartsNot is_number_char r → StartsNot is_digit (spell_fraction f (spell_exponent x r))
 unfolding StartsNot
-after_whole no_fraction_lem x r n = exponent_digit x r n
+after_whole no_fraction x r n = exponent_digit x r n
 after_whole (fraction d) x r n = refl
 
 after_fraction : (f : Fraction) (x : Exponent) (r : List ℕ) → StartsNot is_number_char r → AfterFraction f (spell_exponent x r)
-after_fraction no_fraction_lem x r n = exponent_point x r n
+after_fraction no_fraction x r n = exponent_point x r n
 after_fraction (fraction d) x r n = exponent_digit x r n
 
 after_exponent : (x : Exponent) (r : List ℕ) → StartsNot is_number_char r → AfterExponent x r
@@ -112,8 +112,8 @@ module _ (s : List ℕ) (at : ℕ) where
 
   module _ (a : ℕ) (negative : Bool) (n : ℕ) (W : WholeAt s at a negative n) where
     -- Nor is there one where a fraction goes wrong,
-    pub no_fraction : (place : ℕ) → FractionAnswer s a n (Err place) → NumberAnswer s at (Err place)
-    no_fraction place (bad_fraction f t k) =
+    pub wrong_fraction : (place : ℕ) → FractionAnswer s a n (Err place) → NumberAnswer s at (Err place)
+    wrong_fraction place (bad_fraction f t k) =
         no_number_lem {place = place} (omega (arith, W.from)) t (record { none = λ u r m e. k.none u.frac (spell_exponent u.exp r) (after_fraction u.frac u.exp r m) (whole_same s at a negative n W u r m e).2 })
 
     module _ (b places k : ℕ) (F : FractionAt s a n b places k) where

@@ -8,7 +8,7 @@ use borrow.Author.Tests.{lt-ltb}
 use lib.IntN.{ℤ, pos, ◌-ℤ◌, +ℤ_idr}
 use lib.ListN.{length}
 use Rattle.definition.specs.Lexical.{Number, Fraction, Exponent}
-use Rattle.definition.specs.Lexical.Fraction.{no_fraction_lem, fraction}
+use Rattle.definition.specs.Lexical.Fraction.{no_fraction, fraction}
 use Rattle.definition.specs.Lexical.Exponent.{no_exponent, exponent}
 use Rattle.definition.specs.Literals.{decimal, decimal_from, digits_of, whole_digits, is_minus, exponent_value, float_numeral, whole_numeral, numeral, numeral_of}
 use Rattle.basics.specs.Bools.{or_true}
@@ -28,8 +28,8 @@ with_fraction s g n p e = rw (lt-ltb 0 (suc p) (omega arith), or_true g) refl
 
 pub by_parts : (s : Bool) (ds : List ℕ) (f : Fraction) (x : Exponent) → numeral_of s ds f x ≡ numeral_by s (decimal (ds ++ fraction_digits f)) (length (fraction_digits f)) (has_exponent x) (exponent_value x)
 unfolding numeral_of fraction_digits
-by_parts s ds no_fraction_lem no_exponent = ap (λ (es : List ℕ). whole_numeral s (decimal es)) (sym (append-nil ds))
-by_parts s ds no_fraction_lem (exponent e h g d) =
+by_parts s ds no_fraction no_exponent = ap (λ (es : List ℕ). whole_numeral s (decimal es)) (sym (append-nil ds))
+by_parts s ds no_fraction (exponent e h g d) =
     ap (λ (es : List ℕ). float_numeral s (decimal es) (exponent_value (exponent e h g d))) (sym (append-nil ds))
     ∙ ap (float_numeral s (decimal (ds ++ []))) (sym (+ℤ_idr (exponent_value (exponent e h g d))))
 by_parts s ds (fraction d) x = with_fraction s (has_exponent x) (decimal (ds ++ digits_of d)) (length d.more) (exponent_value x)

@@ -8,7 +8,7 @@ use lib.ListN.{length, drop}
 use native.Mathlib.Nat.{add-zero}
 use Rattle.std.specs.Prelude.{Ok, Err}
 use Rattle.std.specs.Int.{from_bool}
-use Rattle.definition.specs.Lexical.{is_digit_lem}
+use Rattle.definition.specs.Lexical.{is_digit}
 use Rattle.definition.specs.Literals.{decimal, is_minus}
 use Rattle.basics.specs.Reads.{StartsNot}
 use Rattle.number_digits.specs.Runs.{Is, limit}
@@ -18,7 +18,7 @@ use Rattle.number_parse.specs.Parts.{WholeAnswer, whole_end, bad_whole}
 use Rattle.number_parse.proofs.Signed.{with_sign, no_minus, whole_unsigned, whole_of, whole_spelled, whole_digits_lem, whole_sign, whole_of_lem}
 
 -- The digits before a fraction, from their sign and the number behind it.
-module _ (s : List ℕ) (at end : ℕ) (t : Bool) (u : Unsigned) (from : at < end) (to : end ≤ length s) (text : drop at s ≡ with_sign t (spell_unsigned u (drop end s))) (stop : StartsNot is_digit_lem (drop end s)) where
+module _ (s : List ℕ) (at end : ℕ) (t : Bool) (u : Unsigned) (from : at < end) (to : end ≤ length s) (text : drop at s ≡ with_sign t (spell_unsigned u (drop end s))) (stop : StartsNot is_digit (drop end s)) where
   there : (n : ℕ) → n ≡ min limit (decimal (unsigned_digits u)) → WholeAnswer s at (Ok (record { end = end; negative = t; value = n }))
   there n e =
       let w = whole_of t u in
@@ -34,7 +34,7 @@ module _ (s : List ℕ) (at end : ℕ) (t : Bool) (u : Unsigned) (from : at < en
       })
 
 -- No digits before a fraction, where no number stands behind the sign that is there.
-none_there : (s : List ℕ) (at place : ℕ) → at ≤ place → place ≤ length s → ((b : Bool) (u : Unsigned) (r : List ℕ) → StartsNot is_digit_lem r → drop at s ≡ with_sign b (spell_unsigned u r) → ⊥) → WholeAnswer s at (Err place)
+none_there : (s : List ℕ) (at place : ℕ) → at ≤ place → place ≤ length s → ((b : Bool) (u : Unsigned) (r : List ℕ) → StartsNot is_digit r → drop at s ≡ with_sign b (spell_unsigned u r) → ⊥) → WholeAnswer s at (Err place)
 none_there s at place f t k = bad_whole f t (record { none = λ w r m e. k (is_minus w) (whole_unsigned w) r m (e ∙ whole_spelled w r) })
 
 -- ---- behind a minus, or where there is none

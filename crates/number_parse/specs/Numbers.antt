@@ -1,6 +1,6 @@
 -- What `parse_number` promises: a `number` of the grammar that no digit, "." or "e" follows, with what it stands for; or that none stands there.
 use Rattle.std.specs.Prelude.{◌≡◌, Bool, true, false, ◌||◌, List, ℕ, ◌≤◌, ◌<◌, length, drop, Result, Ok, Err}
-use Rattle.definition.specs.Lexical.{Number, is_digit_lem, is_e, spell_number}
+use Rattle.definition.specs.Lexical.{Number, is_digit, is_e, spell_number}
 use Rattle.definition.specs.Literals.{Numeral, numeral}
 use Rattle.basics.specs.Reads.{Reads, ReadsNone, StartsNot}
 use Rattle.number_literals.specs.Values.{meaning}
@@ -9,7 +9,7 @@ use Rattle.number_parse.specs.declared.NumberRead.{NumberRead}
 
 -- the characters that could go on with a number: a digit, "." and "e" in either case
 abbrev pub is_number_char : ℕ → Bool
-is_number_char c = is_digit_lem c || (is_point c || is_e c)
+is_number_char c = is_digit c || (is_point c || is_e c)
 
 -- whether none of them stands at a place
 abbrev pub Ends : List ℕ → ℕ → Bool → Type 0

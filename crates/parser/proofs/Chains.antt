@@ -12,7 +12,7 @@ use lib.Dec.{eqb}
 use lib.ListN.{length, drop}
 use Rattle.definition.specs.Grammar as G
 use Rattle.definition.specs.Grammar.{spell_logical_or, spell_more_and, spell_more_or, spell_argument, spell_literal, spell_operator}
-use Rattle.definition.specs.Grammar.Argument.{literal_argument_lem}
+use Rattle.definition.specs.Grammar.Argument.{literal_argument}
 use Rattle.compile_writes.specs.Laws.{effect_assoc}
 use Rattle.basics.specs.Reads.{ReadsNone, StartsNot}
 use Rattle.parser_scan.specs.Text.{hd, Is, Both, Skipped}
@@ -115,11 +115,11 @@ literal_of (query_operand q) e = absurd (true≢false (sym e ∙ query_some q))
 literal_of (function_operand x) e = absurd (true≢false (sym e ∙ function_some x))
 
 -- a literal alone writes what it writes as an operand, and 0 is told of it
-literal_argument : (x : Operand) (y : G.Literal) (p : ℕ) → x ≡ literal_operand y → write_argument (literal_argument_lem y) p ≡ write_operand x p
+argument_by_literal : (x : Operand) (y : G.Literal) (p : ℕ) → x ≡ literal_operand y → write_argument (literal_argument y) p ≡ write_operand x p
 unfolding write_argument
-literal_argument x y p e = ap (λ (z : Operand). write_operand z p) (sym e)
+argument_by_literal x y p e = ap (λ (z : Operand). write_operand z p) (sym e)
 
-literal_sort_lem : (y : G.Literal) → 0 ≡ sort_number (sort_argument (literal_argument_lem y))
+literal_sort_lem : (y : G.Literal) → 0 ≡ sort_number (sort_argument (literal_argument y))
 unfolding sort_argument
 literal_sort_lem y = refl
 
@@ -146,11 +146,11 @@ module _ {s : List ℕ} {a : Cursor} (u : Is s a.at 0x28 false) (v : Is s a.at 0
     argument_at_literal z k n =
         let y = literal_of h.tree (ap (λ (i : ℕ). eqb i 0) (sym h.flag ∙ z)) in
         record {
-          tree = literal_argument_lem y.0;
+          tree = literal_argument y.0;
           reads = argument_literal a.pool h.reads y.1 (subst (ReadsNone spell_operator (StartsNot (eqb 0x3D))) k.rest n) u v;
           from = h.from;
           to = h.to;
-          done = done_is (literal_argument h.tree y.0 a.pool y.1) h.done;
+          done = done_is (argument_by_literal h.tree y.0 a.pool y.1) h.done;
           flag = literal_sort_lem y.0;
           utf8 = h.utf8;
         }

@@ -16,7 +16,7 @@ use Rattle.definition.specs.Literals.{text_bytes}
 use Rattle.definition.specs.Grammar.{spell_logical_or, spell_bracketed, spell_selectors, spell_selector}
 use Rattle.definition.specs.Grammar.Bracketed.{bracketed}
 use Rattle.definition.specs.Grammar.Selector.{name_selector, wildcard_selector, slice_selector, index_selector, filter_selector}
-use Rattle.definition.specs.Grammar.Selectors.{no_selector, more_selectors_lem}
+use Rattle.definition.specs.Grammar.Selectors.{no_selector, more_selectors}
 use Rattle.definition.specs.Plans.{two}
 use Rattle.parser_follow.specs.Blanks.{split_blanks}
 use Rattle.basics.specs.Reads.{Reads, ReadsNone, Wrote}
@@ -54,7 +54,7 @@ selector_spends (filter_selector b e) r = omega (arith, length-append b.bytes (s
 count_spends : (xs : G.Selectors) (r : List ℕ) → count_more xs + length r ≤ length (spell_selectors xs r)
 unfolding count_more
 count_spends no_selector r = omega arith
-count_spends (more_selectors_lem b c x xs) r =
+count_spends (more_selectors b c x xs) r =
     let h = count_spends xs r in
     let g = selector_spends x (spell_selectors xs r) in
     omega (arith, length-append b.bytes (0x2C ∷ (c.bytes ++ spell_selector x (spell_selectors xs r))), length-append c.bytes (spell_selector x (spell_selectors xs r)))

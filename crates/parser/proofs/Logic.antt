@@ -13,10 +13,10 @@ use Rattle.definition.specs.Utf8.{is_utf8}
 use Rattle.definition.specs.Plans.{two}
 use Rattle.definition.specs.Grammar as G
 use Rattle.definition.specs.Grammar.{spell_logical_or, spell_more_or, spell_logical_and, spell_more_and, spell_basic, spell_arguments}
-use Rattle.definition.specs.Grammar.LogicalOr.{logical_or_lem}
-use Rattle.definition.specs.Grammar.LogicalAnd.{logical_and_lem}
-use Rattle.definition.specs.Grammar.MoreOr.{no_or_lem}
-use Rattle.definition.specs.Grammar.MoreAnd.{no_and_lem}
+use Rattle.definition.specs.Grammar.LogicalOr.{logical_or}
+use Rattle.definition.specs.Grammar.LogicalAnd.{logical_and}
+use Rattle.definition.specs.Grammar.MoreOr.{no_or}
+use Rattle.definition.specs.Grammar.MoreAnd.{no_and}
 use Rattle.compile_writes.specs.Laws.{effect_assoc}
 use Rattle.basics.specs.Lists.{drop_at}
 use Rattle.basics.specs.Reads.{Reads, ReadsNone, Wrote}
@@ -216,9 +216,9 @@ judgement v = record { verdict = v; beyond = false }
 
 -- ---- *( S "&&" S basic-expr )
 
-no_and : (a : Bool) (σ : Sort) (p f : ℕ) → sort_number σ ≡ f → me_more_and σ a p no_and_lem ≡ (empty, f)
+and_ends : (a : Bool) (σ : Sort) (p f : ℕ) → sort_number σ ≡ f → me_more_and σ a p no_and ≡ (empty, f)
 unfolding write_more_and sort_more_and skip
-no_and a σ p f e = ap (λ (n : ℕ). (empty, n)) e
+and_ends a σ p f e = ap (λ (n : ℕ). (empty, n)) e
 
 -- what is known at the head of the loop
 pub record AndLoop (sort : ℕ) (asked : Bool) (s P P' Q Q' : List ℕ) (a b : Cursor) (kind : ℕ) : Type 0 where
@@ -235,7 +235,7 @@ module _ {sort kind : ℕ} {asked : Bool} {s P P' Q Q' : List ℕ} {a b : Cursor
   -- no operator stands there
   pub and_end : {e : ℕ} → Skipped s b.at e → Both s e 0x26 0x26 false → AndPost (Ok (b, kind)) P' Q'
   unfolding ands
-  and_end k n = next {b = b} {f = kind} (loop_end (ands asked) lp.loop (λ s₁ e. n s₁ (k.rest ∙ e)) (no_and asked (sort_of kind) b.pool kind (number_sort kind lp.small)))
+  and_end k n = next {b = b} {f = kind} (loop_end (ands asked) lp.loop (λ s₁ e. n s₁ (k.rest ∙ e)) (and_ends asked (sort_of kind) b.pool kind (number_sort kind lp.small)))
 
   module _ {P₁ P₂ : List ℕ} {left hd : Cursor} (r : Ready 0x26 22 (test_tail (sort_of kind)) s P' P₁ P₂ Q' b left hd) where
     -- an operator with no operand behind it
@@ -271,9 +271,9 @@ module _ {sort kind : ℕ} {asked : Bool} {s P P' Q Q' : List ℕ} {a b : Cursor
 
 -- ---- *( S "||" S logical-and-expr )
 
-no_or : (a : Bool) (σ : Sort) (p f : ℕ) → sort_number σ ≡ f → me_more_or σ a p no_or_lem ≡ (empty, f)
+or_ends : (a : Bool) (σ : Sort) (p f : ℕ) → sort_number σ ≡ f → me_more_or σ a p no_or ≡ (empty, f)
 unfolding write_more_or sort_more_or skip
-no_or a σ p f e = ap (λ (n : ℕ). (empty, n)) e
+or_ends a σ p f e = ap (λ (n : ℕ). (empty, n)) e
 
 -- what is known at the head of the loop
 pub record OrLoop (sort : ℕ) (asked : Bool) (s P P' Q Q' : List ℕ) (a b : Cursor) (kind : ℕ) : Type 0 where
@@ -290,7 +290,7 @@ module _ {sort kind : ℕ} {asked : Bool} {s P P' Q Q' : List ℕ} {a b : Cursor
   -- no operator stands there
   pub or_end : {e : ℕ} → Skipped s b.at e → Both s e 0x7C 0x7C false → OrPost (Ok (b, kind)) P' Q'
   unfolding ors
-  or_end k n = next {b = b} {f = kind} (loop_end (ors asked) lp.loop (λ s₁ e. n s₁ (k.rest ∙ e)) (no_or asked (sort_of kind) b.pool kind (number_sort kind lp.small)))
+  or_end k n = next {b = b} {f = kind} (loop_end (ors asked) lp.loop (λ s₁ e. n s₁ (k.rest ∙ e)) (or_ends asked (sort_of kind) b.pool kind (number_sort kind lp.small)))
 
   module _ {P₁ P₂ : List ℕ} {left hd : Cursor} (r : Ready 0x7C 23 (test_tail (sort_of kind)) s P' P₁ P₂ Q' b left hd) where
     -- an operator with no operand behind it
@@ -340,7 +340,7 @@ module _ {s P P' L L' : List ℕ} {a n : Cursor} {f : ℕ} (h : Read spell_basic
       let d : Done P' P'' L' L'' o b (write_more_and u (sort_basic x) asked (a.pool + length (write_basic x a.pool).pool)) = subst (λ (c : ℕ). Done P' P'' L' L'' o b (write_more_and u (sort_basic x) asked c)) p q'.done in
       let w : v ≡ compared_verdict asked (sort_basic x) = e ∙ ap (compared_verdict asked) σ in
       next {b = b} {f = g} (record {
-        tree = logical_and_lem x u;
+        tree = logical_and x u;
         reads = and_reads asked a.pool h.reads
             (subst (λ (c : ℕ). Reads spell_more_and (me_more_and (sort_basic x) asked c) (After 3) (drop n.at s) u (drop b.at s)) p (subst (λ (c : ℕ). Reads spell_more_and (me_more_and (sort_basic x) asked o.pool) (After 3) (drop c s) u (drop b.at s)) j.0 q'.reads));
         from = omega (arith, h.from, q'.from, j.0);
@@ -367,7 +367,7 @@ module _ (asked : Bool) {s P P' L L' : List ℕ} {a n : Cursor} {f : ℕ} (h : R
       subst (λ (z : Sort). Read spell_more_or (λ t. write_more_or t z asked) (λ t. sort_number (sort_more_or t z)) 4 s P' P'' L' L'' n b g) (read_sort sort_and_lem h) q in
       let u : G.MoreOr = q'.tree in
       next {b = b} {f = g} (record {
-        tree = logical_or_lem x u;
+        tree = logical_or x u;
         reads = or_reads asked a.pool h.reads (subst (λ (c : ℕ). Reads spell_more_or (me_more_or (sort_and_lem x) asked c) (After 4) (drop n.at s) u (drop b.at s)) p q'.reads);
         from = omega (arith, h.from, q'.from);
         to = q'.to;

@@ -1,7 +1,7 @@
 -- What may follow a tree of the grammar: the byte after blanks, by what it begins. Assumes nothing.
 use Rattle.std.specs.Prelude.{Bool, cond, ◌||◌, List, [], ◌∷◌, ◌≡◌, ℕ, ◌≤◌, ◌<◌, eqb, leb}
 use Rattle.std.proofs.Common.{arith}
-use Rattle.definition.specs.Lexical.{is_blank, is_alpha, is_digit_lem}
+use Rattle.definition.specs.Lexical.{is_blank, is_alpha, is_digit}
 
 -- the first byte, or 256 at the end
 abbrev pub hd : List ℕ → ℕ
@@ -15,7 +15,7 @@ unblank (c ∷ s) = cond (is_blank c) (unblank s) (c ∷ s)
 
 -- the bytes of name-char in UTF-8
 abbrev pub is_name_byte : ℕ → Bool
-is_name_byte c = is_alpha c || (eqb c 0x5F || (is_digit_lem c || leb 0x80 c))
+is_name_byte c = is_alpha c || (eqb c 0x5F || (is_digit c || leb 0x80 c))
 
 -- `.` or `[`: what a segment begins with
 abbrev pub is_segment_byte : ℕ → Bool

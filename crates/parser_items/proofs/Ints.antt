@@ -11,7 +11,7 @@ use lib.ListN.{length, drop}
 use mir.Syntax.{w64}
 use mir.Val.{to_z, of_z}
 use Rattle.definition.specs.Bytes.{every, unsigned64}
-use Rattle.definition.specs.Lexical.{is_blank, is_digit_lem, is_digit1, Natural, Int, Bound, Blanks, spell_blanks, spell_natural, spell_int, spell_bound}
+use Rattle.definition.specs.Lexical.{is_blank, is_digit, is_digit1, Natural, Int, Bound, Blanks, spell_blanks, spell_natural, spell_int, spell_bound}
 use Rattle.definition.specs.Lexical.Int.{zero_int, plain_int, minus_int}
 use Rattle.definition.specs.Lexical.Bound.{no_bound, bound}
 use Rattle.definition.specs.Literals.{int_value, in_range}
@@ -37,7 +37,7 @@ use Rattle.parser_items.proofs.Bits.{range_bits}
 -- ---- the first byte of an int
 
 -- a digit that may begin a number is a digit
-pub first_digit : (c : ℕ) → is_digit1 c ≡ true → is_digit_lem c ≡ true
+pub first_digit : (c : ℕ) → is_digit1 c ≡ true → is_digit c ≡ true
 first_digit c e =
     let l = inside_low 0x31 0x39 c e in
     let h = inside_high 0x31 0x39 c e in
@@ -86,7 +86,7 @@ after_no_int {k} i r l e a =
 
 -- ---- UTF-8 behind an int
 
-pub digit_ascii : (c : ℕ) → is_digit_lem c ≡ true → c < 0x80
+pub digit_ascii : (c : ℕ) → is_digit c ≡ true → c < 0x80
 digit_ascii c e = let h = inside_high 0x30 0x39 c e in omega arith
 
 -- bytes of a class of ASCII in front of a text leave it UTF-8, or not, as it was
@@ -97,7 +97,7 @@ every_utf8 p f (c ∷ a) r e =
     utf8_ascii c (a ++ r) (f c t.0) ∙ every_utf8 p f a r t.1
 
 pub natural_utf8 : (n : Natural) (r : List ℕ) → is_utf8 (spell_natural n r) ≡ is_utf8 r
-natural_utf8 n r = utf8_ascii n.first (n.more ++ r) (digit_ascii n.first (first_digit n.first n.is_first)) ∙ every_utf8 is_digit_lem digit_ascii n.more r n.are_more
+natural_utf8 n r = utf8_ascii n.first (n.more ++ r) (digit_ascii n.first (first_digit n.first n.is_first)) ∙ every_utf8 is_digit digit_ascii n.more r n.are_more
 
 pub int_utf8 : (i : Int) (r : List ℕ) → is_utf8 (spell_int i r) ≡ is_utf8 r
 int_utf8 zero_int r = utf8_ascii 0x30 r (omega arith)
@@ -118,10 +118,10 @@ pub starts_blanks : (p : ℕ → Bool) → ((c : ℕ) → p c ≡ true → Inner
 starts_blanks p f b r h = starts_bytes p f b.bytes r b.good h
 
 -- what begins no int begins with no digit
-pub starts_digit : (r : List ℕ) → StartsNot is_int_start r → StartsNot is_digit_lem r
+pub starts_digit : (r : List ℕ) → StartsNot is_int_start r → StartsNot is_digit r
 unfolding StartsNot
 starts_digit [] h = tt
-starts_digit (c ∷ r) h = by_test (is_digit_lem c) (λ t. absurd (true≢false (rw t at h))) (λ f. f)
+starts_digit (c ∷ r) h = by_test (is_digit c) (λ t. absurd (true≢false (rw t at h))) (λ f. f)
 
 -- ---- the field of an int
 
@@ -138,7 +138,7 @@ int_next (N.next_int t h e r) = (t, h, e, r)
 int_out : {s : List ℕ} {a e : ℕ} → IntAnswer s a (Err (error.OutOfRange e)) → (i : Int) × IntAt s a e i × (in_range (int_value i) ≡ false)
 int_out (N.out_int t h r) = (t, h, r)
 
-int_nothing : {s : List ℕ} {a i : ℕ} → IntAnswer s a (Err (error.Nothing i)) → ReadsNone spell_int (StartsNot is_digit_lem) (drop a s)
+int_nothing : {s : List ℕ} {a i : ℕ} → IntAnswer s a (Err (error.Nothing i)) → ReadsNone spell_int (StartsNot is_digit) (drop a s)
 int_nothing (N.no_int l h r) = r
 
 module _ {s : List ℕ} {a : ℕ} {r : Result IntRead IntError} (h : IntAnswer s a r) where
@@ -148,7 +148,7 @@ module _ {s : List ℕ} {a : ℕ} {r : Result IntRead IntError} (h : IntAnswer s
   pub out_of : {e : ℕ} → r ≡ Err (error.OutOfRange e) → (i : Int) × IntAt s a e i × (in_range (int_value i) ≡ false)
   out_of q = int_out (rw q at h)
 
-  pub nothing_of : {i : ℕ} → r ≡ Err (error.Nothing i) → ReadsNone spell_int (StartsNot is_digit_lem) (drop a s)
+  pub nothing_of : {i : ℕ} → r ≡ Err (error.Nothing i) → ReadsNone spell_int (StartsNot is_digit) (drop a s)
   nothing_of q = int_nothing (rw q at h)
 
 -- ---- the int that was read, as a piece
@@ -168,7 +168,7 @@ unfolding kept_int verdict_int
 there_out h k = record { int = h.0; is = h.1; skipped = k; field = rw h.2 }
 
 -- none
-pub there_none : (s : List ℕ) (a : ℕ) {e : ℕ} → ReadsNone spell_int (StartsNot is_digit_lem) (drop a s) → NoInt s a (record { end = e; at = a; value = None })
+pub there_none : (s : List ℕ) (a : ℕ) {e : ℕ} → ReadsNone spell_int (StartsNot is_digit) (drop a s) → NoInt s a (record { end = e; at = a; value = None })
 there_none s a n = record { reads = n; at = refl; field = refl }
 
 -- ---- a bound: an int with the blanks behind it, or nothing
@@ -188,7 +188,7 @@ module _ {s : List ℕ} {a : ℕ} {p : Piece} where
   given_only : (h : IntThere s a p) (t' : Bound) (r' : List ℕ) → StartsNot is_int_start r' → drop a s ≡ spell_bound t' r' → (bound_field t' ≡ int_field h.int) × (unblank r' ≡ unblank (drop p.at s))
   given_only h no_bound r' m q = absurd (int_starts h.int (drop p.end s) (rw (sym q ∙ h.is.reads.eq) at m))
   given_only h (bound i b) r' m q =
-      let o = h.is.reads.only i (spell_blanks b r') (starts_blanks is_digit_lem inner_digit b r' (starts_digit r' m)) q in
+      let o = h.is.reads.only i (spell_blanks b r') (starts_blanks is_digit inner_digit b r' (starts_digit r' m)) q in
       (field_same i h.int o.0, sym (unblank_blanks b r') ∙ ap unblank o.1 ∙ sym (unblank_twice (drop p.end s)) ∙ ap unblank (sym h.skipped.rest))
 
   bound_given : IntThere s a p → BoundThere s a p
@@ -207,7 +207,7 @@ module _ {s : List ℕ} {a : ℕ} {p : Piece} where
 
   absent_only : (h : NoInt s a p) (t' : Bound) (r' : List ℕ) → StartsNot is_int_start r' → drop a s ≡ spell_bound t' r' → (bound_field t' ≡ no_field) × (unblank r' ≡ unblank (drop p.at s))
   absent_only h no_bound r' m q = (refl, rw h.at (ap unblank (sym q)))
-  absent_only h (bound i b) r' m q = absurd (h.reads.none i (spell_blanks b r') (starts_blanks is_digit_lem inner_digit b r' (starts_digit r' m)) q)
+  absent_only h (bound i b) r' m q = absurd (h.reads.none i (spell_blanks b r') (starts_blanks is_digit inner_digit b r' (starts_digit r' m)) q)
 
   bound_absent : NoInt s a p → BoundThere s a p
   bound_absent h =

@@ -15,9 +15,9 @@ use mir.Val.{SFits, to_z, of_z}
 use mir.ValLaws.{to_z-of_z}
 use Rattle.definition.specs.Bytes.{little_endian, unsigned64}
 use Rattle.definition.specs.Lexical as X
-use Rattle.definition.specs.Lexical.{is_blank, is_digit_lem, is_e, Digits, Whole, Fraction, Exponent, Number, spell_digits, spell_whole, spell_fraction, spell_sign, spell_exponent, spell_number, spell_text}
+use Rattle.definition.specs.Lexical.{is_blank, is_digit, is_e, Digits, Whole, Fraction, Exponent, Number, spell_digits, spell_whole, spell_fraction, spell_sign, spell_exponent, spell_number, spell_text}
 use Rattle.definition.specs.Lexical.Whole.{int_whole, minus_zero}
-use Rattle.definition.specs.Lexical.Fraction.{no_fraction_lem, fraction}
+use Rattle.definition.specs.Lexical.Fraction.{no_fraction, fraction}
 use Rattle.definition.specs.Lexical.Sign.{no_sign, plus_sign, minus_sign}
 use Rattle.definition.specs.Lexical.Exponent.{no_exponent, exponent}
 use Rattle.definition.specs.Literals.{Numeral, numeral, text_bytes}
@@ -71,7 +71,7 @@ letter_ascii c e = by_test (eqb c 0x65) (λ t. let q = eqb-true c 0x65 t in omeg
 -- neither a blank nor a byte of a level above 1 goes on with a number
 number_apart : (c : ℕ) → is_number_char c ≡ true → (is_blank c ≡ false) × (level_of c ≤ 1)
 number_apart c e =
-    by_test (is_digit_lem c) (λ t. let i = inner_digit c t in (i.solid, rw i.unlevelled (omega arith))) (λ f.
+    by_test (is_digit c) (λ t. let i = inner_digit c t in (i.solid, rw i.unlevelled (omega arith))) (λ f.
     by_test (is_point c) (λ t. let q : c ≡ 0x2E = eqb-true c 0x2E t in rw q (refl, omega arith)) (λ g.
     by_test (eqb c 0x65) (λ t. let q : c ≡ 0x65 = eqb-true c 0x65 t in rw q (refl, omega arith)) (λ h.
     let q : c ≡ 0x45 = eqb-true c 0x45 (rw (f, g, h) at e) in rw q (refl, omega arith))))
@@ -83,14 +83,14 @@ after_number r a = after_starts is_number_char r number_apart a
 -- ---- UTF-8 behind a number
 
 digits_utf8 : (d : Digits) (r : List ℕ) → is_utf8 (spell_digits d r) ≡ is_utf8 r
-digits_utf8 d r = utf8_ascii d.first (d.more ++ r) (digit_ascii d.first d.is_first) ∙ every_utf8 is_digit_lem digit_ascii d.more r d.are_more
+digits_utf8 d r = utf8_ascii d.first (d.more ++ r) (digit_ascii d.first d.is_first) ∙ every_utf8 is_digit digit_ascii d.more r d.are_more
 
 whole_utf8 : (w : Whole) (r : List ℕ) → is_utf8 (spell_whole w r) ≡ is_utf8 r
 whole_utf8 (int_whole i) r = int_utf8 i r
 whole_utf8 minus_zero r = utf8_ascii 0x2D (0x30 ∷ r) (omega arith) ∙ utf8_ascii 0x30 r (omega arith)
 
 fraction_utf8 : (f : Fraction) (r : List ℕ) → is_utf8 (spell_fraction f r) ≡ is_utf8 r
-fraction_utf8 no_fraction_lem r = refl
+fraction_utf8 no_fraction r = refl
 fraction_utf8 (fraction d) r = utf8_ascii 0x2E (spell_digits d r) (omega arith) ∙ digits_utf8 d r
 
 sign_utf8 : (s : X.Sign) (r : List ℕ) → is_utf8 (spell_sign s r) ≡ is_utf8 r

@@ -9,7 +9,7 @@ use native.Mathlib.Omega.{arith}
 use lib.ListN.{length, drop}
 use Rattle.definition.specs.Bytes.{little_endian}
 use Rattle.definition.specs.Lexical as X
-use Rattle.definition.specs.Lexical.{is_digit_lem, Int, Bound, Slice, spell_blanks, spell_int, spell_bound, spell_step, spell_slice}
+use Rattle.definition.specs.Lexical.{is_digit, Int, Bound, Slice, spell_blanks, spell_int, spell_bound, spell_step, spell_slice}
 use Rattle.definition.specs.Lexical.Bound.{no_bound, bound}
 use Rattle.definition.specs.Lexical.Step.{no_step, colon, step}
 use Rattle.definition.specs.Utf8.{is_utf8}
@@ -251,7 +251,7 @@ module _ {s : List ℕ} (a : Cursor) (no : NoText s a.at) where
         by : (c : Bound) (l : List ℕ) → drop a.at s ≡ spell_bound c (0x3A ∷ l) → ⊥
         by no_bound l q = int_not h.int (drop p.end s) 0x3A l refl q h.is.reads.eq
         by (bound j b) l q =
-            let o = h.is.reads.only j (spell_blanks b (0x3A ∷ l)) (starts_blanks is_digit_lem inner_digit b (0x3A ∷ l) (starts_digit (0x3A ∷ l) (colon_starts l))) q in
+            let o = h.is.reads.only j (spell_blanks b (0x3A ∷ l)) (starts_blanks is_digit inner_digit b (0x3A ∷ l) (starts_digit (0x3A ∷ l) (colon_starts l))) q in
             colonNot l (h.skipped.rest ∙ ap unblank (sym o.1) ∙ unblank_blanks b (0x3A ∷ l))
 
     -- where neither a colon nor an int stands, there is neither
@@ -260,7 +260,7 @@ module _ {s : List ℕ} (a : Cursor) (no : NoText s a.at) where
       where
         bounded : (c : Bound) (l : List ℕ) → drop a.at s ≡ spell_bound c (0x3A ∷ l) → ⊥
         bounded no_bound l q = colonNot l (rw h.at q)
-        bounded (bound j b) l q = h.reads.none j (spell_blanks b (0x3A ∷ l)) (starts_blanks is_digit_lem inner_digit b (0x3A ∷ l) (starts_digit (0x3A ∷ l) (colon_starts l))) q
+        bounded (bound j b) l q = h.reads.none j (spell_blanks b (0x3A ∷ l)) (starts_blanks is_digit inner_digit b (0x3A ∷ l) (starts_digit (0x3A ∷ l) (colon_starts l))) q
 
         none : (t : Plain) (r : List ℕ) → After 4 r → drop a.at s ≡ spell_plain t r → ⊥
         none (text_plain t) r m e = no_quoted s a.at no.double no.single t r e

@@ -5,7 +5,7 @@ use Rattle.std.proofs.Common.{sym, ◌∙◌, arith, ne_eqb, eqb-true, leb-true,
 use Rattle.std.proofs.lemmas.Bool.{false≢true, not-true}
 use Rattle.std.proofs.Math.Bool.{and-eq-true_iff}
 use Rattle.definition.specs.Bytes.{every, within}
-use Rattle.definition.specs.Lexical.{is_blank, is_lcalpha, is_digit_lem, is_function_char}
+use Rattle.definition.specs.Lexical.{is_blank, is_lcalpha, is_digit, is_function_char}
 use Rattle.definition.specs.Utf8.{is_utf8, is_utf8_from, after_byte}
 use Rattle.parser_follow.specs.Blanks.{unblank_byte}
 use Rattle.basics.specs.Reads.{StartsNot}
@@ -73,15 +73,15 @@ inner_one x c m e =
     inner_within x x c m (inside x x c (omega arith) (omega arith))
 
 -- a digit
-pub inner_digit : (c : ℕ) → is_digit_lem c ≡ true → Inner c
+pub inner_digit : (c : ℕ) → is_digit c ≡ true → Inner c
 inner_digit c e = inner_within 0x30 0x39 c refl e
 
 -- a digit or a minus: what an int begins with
 abbrev pub is_int_start : ℕ → Bool
-is_int_start c = is_digit_lem c || eqb c 0x2D
+is_int_start c = is_digit c || eqb c 0x2D
 
 pub inner_int : (c : ℕ) → is_int_start c ≡ true → Inner c
-inner_int c e = by_test (is_digit_lem c) (λ t. inner_digit c t) (λ f. inner_one 0x2D c refl (rw f at e))
+inner_int c e = by_test (is_digit c) (λ t. inner_digit c t) (λ f. inner_one 0x2D c refl (rw f at e))
 
 -- a character of a function name
 pub inner_word : (c : ℕ) → is_function_char c ≡ true → Inner c
@@ -95,7 +95,7 @@ inner_name c h e =
     by_test (within 0x41 0x5A c) (λ t. inner_within 0x41 0x5A c refl t) (λ f.
     by_test (is_lcalpha c) (λ t. inner_within 0x61 0x7A c refl t) (λ g.
     by_test (eqb c 0x5F) (λ t. inner_one 0x5F c refl t) (λ k.
-    by_test (is_digit_lem c) (λ t. inner_digit c t) (λ d.
+    by_test (is_digit c) (λ t. inner_digit c t) (λ d.
     inner_within 0x80 0xFF c refl (inside 0x80 0xFF c (leb-true 0x80 c (rw (f, g, k, d) at e)) (omega arith))))))
 
 -- ---- what follows begins with none of them
@@ -108,8 +108,8 @@ pub after_inner : (p : ℕ → Bool) {k : ℕ} (r : List ℕ) → ((c : ℕ) →
 after_inner p {k} r f a = after_starts p r (λ c e. ((f c e).solid, rw (f c e).unlevelled (omega arith))) a
 
 -- what follows a tree begins with no digit
-pub after_digit : {k : ℕ} (r : List ℕ) → After k r → StartsNot is_digit_lem r
-after_digit r a = after_inner is_digit_lem r inner_digit a
+pub after_digit : {k : ℕ} (r : List ℕ) → After k r → StartsNot is_digit r
+after_digit r a = after_inner is_digit r inner_digit a
 
 -- it begins no int
 pub after_int : {k : ℕ} (r : List ℕ) → After k r → StartsNot is_int_start r

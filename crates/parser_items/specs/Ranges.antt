@@ -2,7 +2,7 @@
 use Rattle.std.specs.Prelude.{◌≡◌, Bool, true, false, List, ◌∷◌, ◌++◌, ℕ, ◌+◌, ◌≤◌, length, drop, Option, Some, None, is_some}
 use Rattle.definition.specs.Bytes.{little_endian}
 use Rattle.definition.specs.Lexical as X
-use Rattle.definition.specs.Lexical.{Int, Bound, is_digit_lem, spell_int, spell_step}
+use Rattle.definition.specs.Lexical.{Int, Bound, is_digit, spell_int, spell_step}
 use Rattle.definition.specs.Lexical.Bound.{no_bound, bound}
 use Rattle.definition.specs.Plans.{eight}
 use Rattle.definition.specs.Utf8.{is_utf8}
@@ -58,7 +58,7 @@ pub record IntThere (s : List ℕ) (a : ℕ) (p : Piece) : Type 0 where
   pub field : field_of p ≡ int_field int
 
 pub record NoInt (s : List ℕ) (a : ℕ) (p : Piece) : Type 0 where
-  pub reads : ReadsNone spell_int (StartsNot is_digit_lem) (drop a s)
+  pub reads : ReadsNone spell_int (StartsNot is_digit) (drop a s)
   pub at : p.at ≡ a
   pub field : field_of p ≡ no_field
 

@@ -3,11 +3,11 @@ use Rattle.std.specs.Prelude.{◌≡◌, refl, true, false, ◌⊎◌, List, [],
 use Rattle.std.proofs.Common.{sym, ap, subst, ◌∙◌, true≢false, inl, inr, ⊎_elim, add_assoc, arith, lit≤}
 use Rattle.definition.specs.Grammar as G
 use Rattle.definition.specs.Grammar.{spell_argument, spell_logical_or, spell_more_and, spell_more_or, spell_literal, spell_operator}
-use Rattle.definition.specs.Grammar.LogicalAnd.{logical_and_lem}
-use Rattle.definition.specs.Grammar.LogicalOr.{logical_or_lem}
-use Rattle.definition.specs.Grammar.MoreAnd.{no_and_lem}
-use Rattle.definition.specs.Grammar.MoreOr.{no_or_lem}
-use Rattle.definition.specs.Grammar.Argument.{literal_argument_lem, query_argument, logical_argument, function_argument}
+use Rattle.definition.specs.Grammar.LogicalAnd.{logical_and}
+use Rattle.definition.specs.Grammar.LogicalOr.{logical_or}
+use Rattle.definition.specs.Grammar.MoreAnd.{no_and}
+use Rattle.definition.specs.Grammar.MoreOr.{no_or}
+use Rattle.definition.specs.Grammar.Argument.{literal_argument, query_argument, logical_argument, function_argument}
 use Rattle.compile_writes.specs.Laws.{effect_assoc}
 use Rattle.basics.specs.Reads.{Reads, ReadsNone, StartsNot}
 use Rattle.compile_writes.specs.Effects.{Effect, join, join_marks, seq, skip}
@@ -36,7 +36,7 @@ unfolding write_argument sort_argument
 argument_logical p {s} {l} c n d = record { fill = logical_argument; fwd = λ u r e. e; cod = λ u. refl; bwd = bwd }
   where
     bwd : (t' : G.Argument) (r' : List ℕ) → After 4 r' → s ≡ spell_argument t' r' → (u' : G.LogicalOr) × (s ≡ spell_logical_or u' r') × (me_argument p t' ≡ me_or false p u')
-    bwd (literal_argument_lem x) r' f e = absurd (begins_not c (begins_more literal_operand_lem (literal_begins x r')) n (sym e ∙ d))
+    bwd (literal_argument x) r' f e = absurd (begins_not c (begins_more literal_operand_lem (literal_begins x r')) n (sym e ∙ d))
     bwd (query_argument q) r' f e = absurd (begins_not c (query_begins q r') n (sym e ∙ d))
     bwd (logical_argument x) r' f e = (x, e, refl)
     bwd (function_argument x) r' f e = absurd (begins_not c (begins_more literal_operand_lem (begins_more lower_literal (function_begins x r'))) n (sym e ∙ d))
@@ -132,14 +132,14 @@ me_chain p t = chain_by p (me_operated p (operated t)) t.rest.ands t.rest.ors
 
 -- the logical expression of a chain
 abbrev to_or : Chain → G.LogicalOr
-to_or t = logical_or_lem (logical_and_lem (basic_of (operated t)).tree t.rest.ands) t.rest.ors
+to_or t = logical_or (logical_and (basic_of (operated t)).tree t.rest.ands) t.rest.ors
 
 unmarked : (e : Effect) → join (record { plan = []; pool = []; marks = record { verdict = 0; beyond = false } }) e ≡ e
 unfolding join join_marks
 unmarked e = refl
 
 -- what is written for a chain of `&&` straight in an argument
-and_writes : (p : ℕ) (b : G.Basic) (u : G.MoreAnd) → write_and_lem (logical_and_lem b u) false p ≡ join (write_basic b p) (write_more_and u (sort_basic b) false (p + length (write_basic b p).pool))
+and_writes : (p : ℕ) (b : G.Basic) (u : G.MoreAnd) → write_and_lem (logical_and b u) false p ≡ join (write_basic b p) (write_more_and u (sort_basic b) false (p + length (write_basic b p).pool))
 unfolding compared_verdict
 and_writes p b u = write_and false p b u ∙ ap (join (write_basic b p)) (unmarked _)
 
@@ -147,25 +147,25 @@ and_writes p b u = write_and false p b u ∙ ap (join (write_basic b p)) (unmark
 abbrev chain_sorted : ℕ → Effect → Sort → G.MoreAnd → G.MoreOr → Effect × ℕ
 chain_sorted p e σ u v = (join e (join (write_more_and u σ false (p + length e.pool)) (write_more_or v (sort_more_and u σ) false (p + length e.pool + length (write_more_and u σ false (p + length e.pool)).pool))), sort_number (sort_more_or v (sort_more_and u σ)))
 
-or_writes : (p : ℕ) (b : G.Basic) (u : G.MoreAnd) (v : G.MoreOr) → write_or_lem (logical_or_lem (logical_and_lem b u) v) false p ≡ (chain_sorted p (write_basic b p) (sort_basic b) u v).0
+or_writes : (p : ℕ) (b : G.Basic) (u : G.MoreAnd) (v : G.MoreOr) → write_or_lem (logical_or (logical_and b u) v) false p ≡ (chain_sorted p (write_basic b p) (sort_basic b) u v).0
 or_writes p b u v =
     let σ = sort_basic b in
     let e = write_basic b p in
     let w = write_more_and u σ false (p + length e.pool) in
     let a = and_writes p b u in
     let q : p + length (join e w).pool ≡ p + length e.pool + length w.pool = ap (λ n. p + n) (join_pool e w) ∙ sym (add_assoc p (length e.pool) (length w.pool)) in
-    write_or false p (logical_and_lem b u) v
-    ∙ ap (λ z. join z (write_more_or v (sort_and_lem (logical_and_lem b u)) false (p + length z.pool))) a
+    write_or false p (logical_and b u) v
+    ∙ ap (λ z. join z (write_more_or v (sort_and_lem (logical_and b u)) false (p + length z.pool))) a
     ∙ ap (λ τ. join (join e w) (write_more_or v τ false (p + length (join e w).pool))) (sort_and b u)
     ∙ ap (λ n. join (join e w) (write_more_or v (sort_more_and u σ) false n)) q
     ∙ effect_assoc e w _
 
 -- a logical expression straight in an argument, from what is known of its first operand
-or_means : (p : ℕ) (b : G.Basic) (u : G.MoreAnd) (v : G.MoreOr) → me_or false p (logical_or_lem (logical_and_lem b u) v) ≡ chain_by p (me_basic p b) u v
+or_means : (p : ℕ) (b : G.Basic) (u : G.MoreAnd) (v : G.MoreOr) → me_or false p (logical_or (logical_and b u) v) ≡ chain_by p (me_basic p b) u v
 or_means p b u v =
     let x = or_writes p b u v in
-    let y : sort_number (sort_or_lem (logical_or_lem (logical_and_lem b u) v)) ≡ sort_number (sort_more_or v (sort_more_and u (sort_basic b))) = ap sort_number (sort_or (logical_and_lem b u) v ∙ ap (sort_more_or v) (sort_and b u)) in
-    let z : me_or false p (logical_or_lem (logical_and_lem b u) v) ≡ chain_sorted p (write_basic b p) (sort_basic b) u v = λ i. (x i, y i) in
+    let y : sort_number (sort_or_lem (logical_or (logical_and b u) v)) ≡ sort_number (sort_more_or v (sort_more_and u (sort_basic b))) = ap sort_number (sort_or (logical_and b u) v ∙ ap (sort_more_or v) (sort_and b u)) in
+    let z : me_or false p (logical_or (logical_and b u) v) ≡ chain_sorted p (write_basic b p) (sort_basic b) u v = λ i. (x i, y i) in
     z ∙ ap (λ τ. chain_sorted p (write_basic b p) τ u v) (sym (sort_of_lem (sort_basic b)))
 
 -- ---- from a chain to an argument and back
@@ -176,9 +176,9 @@ argument_means p t = or_means p (basic_of (operated t)).tree t.rest.ands t.rest.
 
 -- an operand alone as a chain
 abbrev single : (x : Operand) → eqb (operand_flag x) 0 ≡ false → Chain
-single x e = record { operand = x; rest = record { head = record { tree = alone; allowed = some_allowed (operand_flag x) e }; ands = no_and_lem; ors = no_or_lem } }
+single x e = record { operand = x; rest = record { head = record { tree = alone; allowed = some_allowed (operand_flag x) e }; ands = no_and; ors = no_or } }
 
-alone_writes : (p : ℕ) (e : Effect) (n : ℕ) → chain_by p (join e (skip (p + length e.pool)), n) no_and_lem no_or_lem ≡ (e, sort_number (sort_of n))
+alone_writes : (p : ℕ) (e : Effect) (n : ℕ) → chain_by p (join e (skip (p + length e.pool)), n) no_and no_or ≡ (e, sort_number (sort_of n))
 unfolding write_more_and write_more_or sort_more_and sort_more_or
 alone_writes p e n =
     let a = join_skip e (p + length e.pool) in
@@ -198,7 +198,7 @@ function_alone : (p : ℕ) (x : G.Function) → me_argument p (function_argument
 unfolding write_argument sort_argument
 function_alone p x = (λ i. (write_function x p, sort_number (sym (sort_of_lem (sort_function x)) i))) ∙ sym (single_means p (function_operand x) (function_some x))
 
-literal_means : (p : ℕ) (y : G.Literal) → me_argument p (literal_argument_lem y) ≡ me_operand p (literal_operand y)
+literal_means : (p : ℕ) (y : G.Literal) → me_argument p (literal_argument y) ≡ me_operand p (literal_operand y)
 unfolding write_argument sort_argument
 literal_means p y = refl
 
@@ -208,16 +208,16 @@ logical_means p e = refl
 
 -- where neither a parenthesis nor a negation stands: a literal alone, or a chain
 module _ (p : ℕ) {s : List ℕ} (a : (l : List ℕ) → s ≡ 0x28 ∷ l → ⊥) (b : (l : List ℕ) → s ≡ 0x21 ∷ l → ⊥) where
-  chain_of_lem : (t' : G.Argument) (r' : List ℕ) → After 4 r' → s ≡ spell_argument t' r' → ((y : G.Literal) × (t' ≡ literal_argument_lem y)) ⊎ ((u' : Chain) × (s ≡ spell_chain u' r') × (me_argument p t' ≡ me_chain p u'))
-  chain_of_lem (literal_argument_lem x) r' f e = inl (x, refl)
+  chain_of_lem : (t' : G.Argument) (r' : List ℕ) → After 4 r' → s ≡ spell_argument t' r' → ((y : G.Literal) × (t' ≡ literal_argument y)) ⊎ ((u' : Chain) × (s ≡ spell_chain u' r') × (me_argument p t' ≡ me_chain p u'))
+  chain_of_lem (literal_argument x) r' f e = inl (x, refl)
   chain_of_lem (query_argument q) r' f e = inr (single (query_operand q) (query_some q), e, query_alone p q)
   chain_of_lem (function_argument x) r' f e = inr (single (function_operand x) (function_some x), e, function_alone p x)
-  chain_of_lem (logical_argument (logical_or_lem (logical_and_lem x u) v)) r' f e =
+  chain_of_lem (logical_argument (logical_or (logical_and x u) v)) r' f e =
       let h = (basic_operated p a b).bwd x (spell_more_and u (spell_more_or v r')) (chain_follow u v r' f).0 e in
       inr (
         record { operand = h.0.operand; rest = record { head = h.0.behind; ands = u; ors = v } },
         h.1,
-        logical_means p (logical_or_lem (logical_and_lem x u) v) ∙ or_means p x u v ∙ ap (λ m. chain_by p m u v) h.2,
+        logical_means p (logical_or (logical_and x u) v) ∙ or_means p x u v ∙ ap (λ m. chain_by p m u v) h.2,
       )
 
   -- where no literal stands alone: a chain
@@ -297,10 +297,10 @@ module _ (p : ℕ) {s r : List ℕ} {x : Operand} (o : Reads spell_operand (me_o
 
   -- a literal that no operator follows is a literal alone
   pub argument_literal : {y : G.Literal} → x ≡ literal_operand y → ReadsNone spell_operator (StartsNot (eqb 0x3D)) (unblank r) → ((l : List ℕ) → s ≡ 0x28 ∷ l → ⊥) → ((l : List ℕ) → s ≡ 0x21 ∷ l → ⊥)
-      → Reads spell_argument (me_argument p) (After 4) s (literal_argument_lem y) r
+      → Reads spell_argument (me_argument p) (After 4) s (literal_argument y) r
   argument_literal {y} i n a b = record { eq = o.eq ∙ ap (λ z. spell_operand z r) i; only = only }
     where
-      only : (t' : G.Argument) (r' : List ℕ) → After 4 r' → s ≡ spell_argument t' r' → (me_argument p t' ≡ me_argument p (literal_argument_lem y)) × (r' ≡ r)
+      only : (t' : G.Argument) (r' : List ℕ) → After 4 r' → s ≡ spell_argument t' r' → (me_argument p t' ≡ me_argument p (literal_argument y)) × (r' ≡ r)
       only t' r' f e =
           ⊎_elim
           (λ z.

@@ -5,8 +5,8 @@ use Rattle.definition.specs.Lexical.{Blanks, spell_blanks}
 use Rattle.definition.specs.Grammar as G
 use Rattle.definition.specs.Grammar.{spell_argument, spell_arguments, spell_more_arguments}
 use Rattle.definition.specs.Grammar.Arguments.{no_argument, arguments}
-use Rattle.definition.specs.Grammar.MoreArguments.{no_more, more_arguments_lem}
-use Rattle.definition.specs.Grammar.Argument.{literal_argument_lem, query_argument, logical_argument, function_argument}
+use Rattle.definition.specs.Grammar.MoreArguments.{no_more, more_arguments}
+use Rattle.definition.specs.Grammar.Argument.{literal_argument, query_argument, logical_argument, function_argument}
 use Rattle.definition.specs.Grammar.FilterQuery.{rel_query, abs_query}
 use Rattle.parser_follow.specs.Blanks.{unblank_blanks}
 use Rattle.basics.specs.Reads.{Reads, ReadsNone}
@@ -32,7 +32,7 @@ abbrev pub me_arguments : ℕ → G.Arguments → Effect × ℕ
 me_arguments p t = (write_arguments t p, arguments_from 0 (sorts_of t))
 
 pub argument_start : (x : G.Argument) (r : List ℕ) → unblank (spell_argument x r) ≡ spell_argument x r
-argument_start (literal_argument_lem l) r = literal_start l r
+argument_start (literal_argument l) r = literal_start l r
 argument_start (query_argument (rel_query xs)) r = refl
 argument_start (query_argument (abs_query xs)) r = refl
 argument_start (logical_argument e) r = or_start e r
@@ -40,14 +40,14 @@ argument_start (function_argument f) r = function_start f r
 
 -- ---- further arguments
 
-pub more_arguments : (n p : ℕ) (b c : Blanks) (x : G.Argument) (xs : G.MoreArguments)
-    → me_more_arguments n p (more_arguments_lem b c x xs) ≡ (join (write_argument x p) (write_more_arguments xs (p + length (write_argument x p).pool)), arguments_from (one_more_lem n (sort_number (sort_argument x))) (sorts_more xs))
+pub arguments_go_on : (n p : ℕ) (b c : Blanks) (x : G.Argument) (xs : G.MoreArguments)
+    → me_more_arguments n p (more_arguments b c x xs) ≡ (join (write_argument x p) (write_more_arguments xs (p + length (write_argument x p).pool)), arguments_from (one_more_lem n (sort_number (sort_argument x))) (sorts_more xs))
 unfolding write_more_arguments seq sorts_more arguments_from
-more_arguments n p b c x xs = refl
+arguments_go_on n p b c x xs = refl
 
-pub view : (l : G.MoreArguments) → (l ≡ no_more) ⊎ ((b : Blanks) × (c : Blanks) × (i : G.Argument) × (l' : G.MoreArguments) × (l ≡ more_arguments_lem b c i l'))
+pub view : (l : G.MoreArguments) → (l ≡ no_more) ⊎ ((b : Blanks) × (c : Blanks) × (i : G.Argument) × (l' : G.MoreArguments) × (l ≡ more_arguments b c i l'))
 view no_more = inl refl
-view (more_arguments_lem b c i l) = inr (b, c, i, l, refl)
+view (more_arguments b c i l) = inr (b, c, i, l, refl)
 
 unfoldable pub furthers : Rep spell_argument me_argument 4 spell_more_arguments me_more_arguments 5 0x2C
 furthers = record {
@@ -55,7 +55,7 @@ furthers = record {
   byte = λ r. (r, refl);
   same = λ e. cc;
   nil = no_more;
-  more = more_arguments_lem;
+  more = more_arguments;
   sp_nil = λ r. refl;
   sp_more = λ b c i l r. refl;
   view = view;
@@ -66,13 +66,13 @@ furthers = record {
   from = λ n p. p;
   does = λ n p m. m.0;
   then = λ n m. one_more_lem n m.1;
-  me_more = more_arguments;
+  me_more = arguments_go_on;
 }
 
 -- what may follow the list may follow each argument
 further_follow : (u : G.MoreArguments) (r : List ℕ) → After 5 r → After 4 (spell_more_arguments u r)
 further_follow no_more r a = after_weaken 4 5 (lit≤ tt) a
-further_follow (more_arguments_lem b c x u) r a = after_blanks 4 b 0x2C _ refl (lit< tt)
+further_follow (more_arguments b c x u) r a = after_blanks 4 b 0x2C _ refl (lit< tt)
 
 -- ---- all arguments
 

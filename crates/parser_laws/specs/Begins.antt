@@ -1,7 +1,7 @@
 -- The byte that a tree begins with, by its rule.
 use Rattle.std.specs.Prelude.{◌≡◌, refl, Bool, true, false, ◌||◌, List, ◌∷◌, ℕ, eqb}
 use Rattle.std.proofs.Common.{sym, subst, ◌∙◌, true≢false, arith}
-use Rattle.definition.specs.Lexical.{is_digit_lem, is_digit1, is_lcalpha, Natural, Int, Whole, Number, Text, Quote, own_byte, spell_int, spell_whole, spell_number, spell_text}
+use Rattle.definition.specs.Lexical.{is_digit, is_digit1, is_lcalpha, Natural, Int, Whole, Number, Text, Quote, own_byte, spell_int, spell_whole, spell_number, spell_text}
 use Rattle.utf8_laws.specs.Bytes.{inside, inside_low, inside_high}
 use Rattle.definition.specs.Lexical.Int.{zero_int, plain_int, minus_int}
 use Rattle.definition.specs.Lexical.Whole.{int_whole, minus_zero}
@@ -10,15 +10,15 @@ use Rattle.definition.specs.Grammar as G
 use Rattle.definition.specs.Grammar.{spell_literal, spell_filter_query, spell_comparable, spell_basic, spell_test, spell_function, spell_logical_or, spell_argument}
 use Rattle.definition.specs.Grammar.Singular.{rel_singular, abs_singular}
 use Rattle.definition.specs.Grammar.Literal.{number_literal, text_literal, true_literal, false_literal, null_literal}
-use Rattle.definition.specs.Grammar.LogicalAnd.{logical_and_lem}
-use Rattle.definition.specs.Grammar.LogicalOr.{logical_or_lem}
+use Rattle.definition.specs.Grammar.LogicalAnd.{logical_and}
+use Rattle.definition.specs.Grammar.LogicalOr.{logical_or}
 use Rattle.definition.specs.Grammar.Basic.{paren_basic, not_paren, comparison, test_basic, not_test}
 use Rattle.definition.specs.Grammar.Paren.{paren}
 use Rattle.definition.specs.Grammar.Test.{query_test, function_test}
 use Rattle.definition.specs.Grammar.FilterQuery.{rel_query, abs_query}
-use Rattle.definition.specs.Grammar.Comparable.{literal_comparable, singular_comparable, function_comparable_lem}
+use Rattle.definition.specs.Grammar.Comparable.{literal_comparable, singular_comparable, function_comparable}
 use Rattle.definition.specs.Grammar.Function.{function}
-use Rattle.definition.specs.Grammar.Argument.{literal_argument_lem, query_argument, logical_argument, function_argument}
+use Rattle.definition.specs.Grammar.Argument.{literal_argument, query_argument, logical_argument, function_argument}
 use Rattle.basics.specs.Bools.{or_first, or_second}
 
 -- s begins with a byte that passes a test
@@ -42,7 +42,7 @@ begins_more f b = record { byte = b.byte; rest = b.rest; good = f b.byte b.good;
 
 -- `"` and `'`, `-` and digits: the literals that are no words
 abbrev pub is_constant_byte : ℕ → Bool
-is_constant_byte c = eqb c 0x22 || (eqb c 0x27 || (eqb c 0x2D || is_digit_lem c))
+is_constant_byte c = eqb c 0x22 || (eqb c 0x27 || (eqb c 0x2D || is_digit c))
 
 -- and words
 abbrev pub is_literal_byte : ℕ → Bool
@@ -61,7 +61,7 @@ is_basic_byte c = eqb c 0x28 || (eqb c 0x21 || is_operand_byte c)
 natural_begins : (n : Natural) (r : List ℕ) → Begins is_constant_byte (n.first ∷ r)
 natural_begins n r = record { byte = n.first; rest = r; good = or_second (eqb n.first 0x22) _ (or_second (eqb n.first 0x27) _ (or_second (eqb n.first 0x2D) _ (digit1 n.first n.is_first))); is = refl }
   where
-    digit1 : (c : ℕ) → is_digit1 c ≡ true → is_digit_lem c ≡ true
+    digit1 : (c : ℕ) → is_digit1 c ≡ true → is_digit c ≡ true
     digit1 c e = inside 0x30 0x39 c (omega (arith, inside_low 0x31 0x39 c e)) (inside_high 0x31 0x39 c e)
 
 pub int_begins : (i : Int) (r : List ℕ) → Begins is_constant_byte (spell_int i r)
@@ -113,7 +113,7 @@ pub comparable_begins : (x : G.Comparable) (r : List ℕ) → Begins is_operand_
 comparable_begins (literal_comparable l) r = begins_more literal_operand_lem (literal_begins l r)
 comparable_begins (singular_comparable (rel_singular xs)) r = record { byte = 0x40; rest = _; good = refl; is = refl }
 comparable_begins (singular_comparable (abs_singular xs)) r = record { byte = 0x24; rest = _; good = refl; is = refl }
-comparable_begins (function_comparable_lem f) r = begins_more literal_operand_lem (begins_more lower_literal (function_begins f r))
+comparable_begins (function_comparable f) r = begins_more literal_operand_lem (begins_more lower_literal (function_begins f r))
 
 pub test_begins : (t : G.Test) (r : List ℕ) → Begins is_operand_byte (spell_test t r)
 test_begins (query_test q) r = query_begins q r
@@ -127,10 +127,10 @@ basic_begins (test_basic t) r = begins_more operand_basic (test_begins t r)
 basic_begins (not_test b t) r = record { byte = 0x21; rest = _; good = refl; is = refl }
 
 pub or_begins : (e : G.LogicalOr) (r : List ℕ) → Begins is_basic_byte (spell_logical_or e r)
-or_begins (logical_or_lem (logical_and_lem x xs) ys) r = basic_begins x _
+or_begins (logical_or (logical_and x xs) ys) r = basic_begins x _
 
 pub argument_begins : (x : G.Argument) (r : List ℕ) → Begins is_basic_byte (spell_argument x r)
-argument_begins (literal_argument_lem l) r = begins_more operand_basic (begins_more literal_operand_lem (literal_begins l r))
+argument_begins (literal_argument l) r = begins_more operand_basic (begins_more literal_operand_lem (literal_begins l r))
 argument_begins (query_argument q) r = begins_more operand_basic (query_begins q r)
 argument_begins (logical_argument e) r = or_begins e r
 argument_begins (function_argument f) r = begins_more operand_basic (begins_more literal_operand_lem (begins_more lower_literal (function_begins f r)))

@@ -5,7 +5,7 @@ use Rattle.std.proofs.Math.Dec.{eqb-suc-zero}
 use Rattle.definition.specs.Lexical.{Blanks, is_blank, spell_blanks}
 use Rattle.definition.specs.Grammar.{Bracketed, Selector, Selectors, spell_bracketed, spell_selector, spell_selectors}
 use Rattle.definition.specs.Grammar.Bracketed.{bracketed}
-use Rattle.definition.specs.Grammar.Selectors.{no_selector, more_selectors_lem}
+use Rattle.definition.specs.Grammar.Selectors.{no_selector, more_selectors}
 use Rattle.definition.specs.Plans.{two}
 use Rattle.basics.specs.Lists.{same_tail}
 use Rattle.parser_follow.specs.Blanks.{split_blanks, unblank_blanks}
@@ -50,7 +50,7 @@ count_from_zero xs ys e = rw (zero-add, zero-add) at e
 pub no_more : (xs : Selectors) → count_more xs ≡ 0 → xs ≡ no_selector
 unfolding count_more
 no_more no_selector e = refl
-no_more (more_selectors_lem b c x xs) e = absurd (omega arith)
+no_more (more_selectors b c x xs) e = absurd (omega arith)
 
 module _ (p : ℕ) {s r r₁ : List ℕ} {x : Selector} {xs : Selectors} (o : Loosely spell_selector (me_selector p) (After 4) s x r) (o' : Loosely spell_selectors (me_selectors 0 (p + length (write_selector x p).pool)) (After 5) r xs r₁) where
   -- what is known of another list of selectors that is spelled there
@@ -101,8 +101,8 @@ bracketed_number b x xs c = go (is_plain_selector x) xs (is_empty b) (is_empty c
     go true no_selector true true = refl
     go true no_selector true false = refl
     go true no_selector false g = refl
-    go true (more_selectors_lem b' c' x' ys) true g = rw eqb-suc-zero
-    go true (more_selectors_lem b' c' x' ys) false g = rw eqb-suc-zero
+    go true (more_selectors b' c' x' ys) true g = rw eqb-suc-zero
+    go true (more_selectors b' c' x' ys) false g = rw eqb-suc-zero
     go false ys true g = refl
     go false ys false g = refl
 

@@ -6,7 +6,7 @@ use Rattle.definition.specs.Grammar as G
 use Rattle.definition.specs.Grammar.{spell_comparable}
 use Rattle.definition.specs.Grammar.FilterQuery.{rel_query, abs_query}
 use Rattle.definition.specs.Grammar.Singular.{rel_singular, abs_singular}
-use Rattle.definition.specs.Grammar.Comparable.{literal_comparable, singular_comparable, function_comparable_lem}
+use Rattle.definition.specs.Grammar.Comparable.{literal_comparable, singular_comparable, function_comparable}
 use Rattle.definition.specs.Walk.{Named, named}
 use Rattle.parser_follow.specs.Blanks.{split_blanks, unblank_blanks}
 use Rattle.basics.specs.Reads.{Reads, ReadsNone}
@@ -29,13 +29,13 @@ abbrev pub to_operand : G.Comparable → Operand
 to_operand (literal_comparable l) = literal_operand l
 to_operand (singular_comparable (rel_singular xs)) = query_operand (rel_query (embed xs))
 to_operand (singular_comparable (abs_singular xs)) = query_operand (abs_query (embed xs))
-to_operand (function_comparable_lem f) = function_operand f
+to_operand (function_comparable f) = function_operand f
 
 pub comparable_spells : (x : G.Comparable) (r : List ℕ) → spell_comparable x r ≡ spell_operand (to_operand x) r
 comparable_spells (literal_comparable l) r = refl
 comparable_spells (singular_comparable (rel_singular xs)) r = ap (λ z. 0x40 ∷ z) (sym (embed_spells xs r))
 comparable_spells (singular_comparable (abs_singular xs)) r = ap (λ z. 0x24 ∷ z) (sym (embed_spells xs r))
-comparable_spells (function_comparable_lem f) r = refl
+comparable_spells (function_comparable f) r = refl
 
 from_writes : (start p : ℕ) (f g : Writer) → ((q : ℕ) → f q ≡ g q) → write_from start f p ≡ write_from start g p
 unfolding write_from
@@ -46,7 +46,7 @@ unfolding write_comparable write_singular write_filter_query
 comparable_writes (literal_comparable l) p = refl
 comparable_writes (singular_comparable (rel_singular xs)) p = from_writes 0x02 p _ _ (λ q. sym (embed_writes xs q))
 comparable_writes (singular_comparable (abs_singular xs)) p = from_writes 0x01 p _ _ (λ q. sym (embed_writes xs q))
-comparable_writes (function_comparable_lem f) p = refl
+comparable_writes (function_comparable f) p = refl
 
 -- the flag tells the sort, and that it may be compared
 pub comparable_flag : (x : G.Comparable) → sort_of (operand_flag (to_operand x)) ≡ sort_comparable x
@@ -54,11 +54,11 @@ unfolding sort_comparable
 comparable_flag (literal_comparable l) = refl
 comparable_flag (singular_comparable (rel_singular xs)) = rw (embed_tight xs)
 comparable_flag (singular_comparable (abs_singular xs)) = rw (embed_tight xs)
-comparable_flag (function_comparable_lem f) = sort_of_lem (sort_function f)
+comparable_flag (function_comparable f) = sort_of_lem (sort_function f)
 
-function_comparable : (f : G.Function) → is_comparable (sort_number (sort_function f)) ≡ true
+comparable_by_function : (f : G.Function) → is_comparable (sort_number (sort_function f)) ≡ true
 unfolding sort_function named_sort
-function_comparable (G.Function.function n b xs c) = go (named (function_bytes n))
+comparable_by_function (G.Function.function n b xs c) = go (named (function_bytes n))
   where
     go : (m : Named) → is_comparable (sort_number (named_sort m)) ≡ true
     go Named.count = refl
@@ -72,7 +72,7 @@ pub comparable_is : (x : G.Comparable) → is_comparable (operand_flag (to_opera
 comparable_is (literal_comparable l) = refl
 comparable_is (singular_comparable (rel_singular xs)) = rw (embed_tight xs)
 comparable_is (singular_comparable (abs_singular xs)) = rw (embed_tight xs)
-comparable_is (function_comparable_lem f) = function_comparable f
+comparable_is (function_comparable f) = comparable_by_function f
 
 -- ---- and an operand of such a flag is a comparable
 
@@ -116,7 +116,7 @@ comparable_of (query_operand (abs_query xs)) e =
       writes = λ p. from_writes 0x01 p _ _ y.writes;
       sort = rw t;
     }
-comparable_of (function_operand f) e = record { side = function_comparable_lem f; spells = λ r. refl; writes = λ p. refl; sort = sort_of_lem (sort_function f) }
+comparable_of (function_operand f) e = record { side = function_comparable f; spells = λ r. refl; writes = λ p. refl; sort = sort_of_lem (sort_function f) }
 
 -- ---- S comparable, behind an operator
 

@@ -9,13 +9,13 @@ use Rattle.definition.specs.Grammar as G
 use Rattle.definition.specs.Grammar.{spell_literal, spell_comparable, spell_basic, spell_test, spell_function, spell_logical_and, spell_logical_or}
 use Rattle.definition.specs.Grammar.Singular.{rel_singular, abs_singular}
 use Rattle.definition.specs.Grammar.Literal.{number_literal, text_literal, true_literal, false_literal, null_literal}
-use Rattle.definition.specs.Grammar.LogicalAnd.{logical_and_lem}
-use Rattle.definition.specs.Grammar.LogicalOr.{logical_or_lem}
+use Rattle.definition.specs.Grammar.LogicalAnd.{logical_and}
+use Rattle.definition.specs.Grammar.LogicalOr.{logical_or}
 use Rattle.definition.specs.Grammar.Basic.{paren_basic, not_paren, comparison, test_basic, not_test}
 use Rattle.definition.specs.Grammar.Paren.{paren}
 use Rattle.definition.specs.Grammar.Test.{query_test, function_test}
 use Rattle.definition.specs.Grammar.FilterQuery.{rel_query, abs_query}
-use Rattle.definition.specs.Grammar.Comparable.{literal_comparable, singular_comparable, function_comparable_lem}
+use Rattle.definition.specs.Grammar.Comparable.{literal_comparable, singular_comparable, function_comparable}
 use Rattle.definition.specs.Grammar.Function.{function}
 use Rattle.utf8_laws.specs.Bytes.{inside_low}
 use Rattle.parser_follow.specs.Follow.{unblank}
@@ -58,7 +58,7 @@ pub comparable_start : (x : G.Comparable) (r : List ℕ) → unblank (spell_comp
 comparable_start (literal_comparable l) r = literal_start l r
 comparable_start (singular_comparable (rel_singular xs)) r = refl
 comparable_start (singular_comparable (abs_singular xs)) r = refl
-comparable_start (function_comparable_lem f) r = function_start f r
+comparable_start (function_comparable f) r = function_start f r
 
 pub test_start : (t : G.Test) (r : List ℕ) → unblank (spell_test t r) ≡ spell_test t r
 test_start (query_test (rel_query xs)) r = refl
@@ -73,7 +73,7 @@ basic_start (test_basic t) r = test_start t r
 basic_start (not_test b t) r = refl
 
 pub and_start : (x : G.LogicalAnd) (r : List ℕ) → unblank (spell_logical_and x r) ≡ spell_logical_and x r
-and_start (logical_and_lem x xs) r = basic_start x _
+and_start (logical_and x xs) r = basic_start x _
 
 pub or_start : (x : G.LogicalOr) (r : List ℕ) → unblank (spell_logical_or x r) ≡ spell_logical_or x r
-or_start (logical_or_lem x xs) r = and_start x _
+or_start (logical_or x xs) r = and_start x _

@@ -4,7 +4,7 @@ use Rattle.std.proofs.Math.Path.{refl, ap, subst}
 use Rattle.std.proofs.Common.{sym, ◌∙◌, true≢false, inl, inr, ⊎_elim, arith, ne_eqb, eqb-true, le-leb}
 use mathlib.Core.List.{List, [], ◌∷◌}
 use Rattle.std.proofs.lemmas.Bool.{lt-leb}
-use Rattle.definition.specs.Lexical.{is_digit_lem, is_lcalpha, is_function_char, FunctionName, function_bytes, spell_function_name}
+use Rattle.definition.specs.Lexical.{is_digit, is_lcalpha, is_function_char, FunctionName, function_bytes, spell_function_name}
 use Rattle.definition.specs.Grammar.FilterQuery.{rel_query, abs_query}
 use Rattle.definition.specs.Grammar.Function.{function}
 use Rattle.definition.specs.Grammar.Literal.{number_literal, text_literal, true_literal, false_literal, null_literal}
@@ -56,7 +56,7 @@ word_level c e =
     ⊎_elim
     (λ a. (no_level c (omega (arith, eqb-true c 0x5F a)) (inr (omega (arith, eqb-true c 0x5F a))) (inr (omega (arith, eqb-true c 0x5F a))) (omega (arith, eqb-true c 0x5F a)), omega (arith, eqb-true c 0x5F a)))
     (λ a. (no_level c (omega (arith, inside_low 0x30 0x39 c a)) (inl (omega (arith, inside_high 0x30 0x39 c a))) (inr (omega (arith, inside_high 0x30 0x39 c a))) (omega (arith, inside_high 0x30 0x39 c a)), omega (arith, inside_low 0x30 0x39 c a)))
-    (or_cases (eqb c 0x5F) (is_digit_lem c) b))
+    (or_cases (eqb c 0x5F) (is_digit c) b))
     (or_cases (is_lcalpha c) _ e)
 
 -- what may follow a tree begins with no byte of a word
@@ -106,7 +106,7 @@ module _ {s s₁ : List ℕ} {w : FunctionName} (o : Reads spell_function_name f
       true≢false (sym b.good ∙ ap p g ∙ f w.first w.is_first)
 
 -- a small letter begins no number and no quoted text
-letter_digit : (c : ℕ) → is_lcalpha c ≡ true → is_digit_lem c ≡ false
+letter_digit : (c : ℕ) → is_lcalpha c ≡ true → is_digit c ≡ false
 letter_digit c e = rw (le-leb 0x30 c (omega (arith, inside_low 0x61 0x7A c e)), lt-leb c 0x39 (omega (arith, inside_low 0x61 0x7A c e)))
 
 letter_constant : (c : ℕ) → is_lcalpha c ≡ true → is_constant_byte c ≡ false

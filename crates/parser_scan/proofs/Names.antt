@@ -9,7 +9,7 @@ use borrow.Author.Tests.{lt-ltb, lt-leb, le-leb, ne_eqb, ltb-true, ltb-false}
 use lib.Dec.{eqb, ltb}
 use lib.ListN.{length, drop, get_or, length-append, drop_of_length-le}
 use Rattle.definition.specs.Bytes.{part}
-use Rattle.definition.specs.Lexical.{is_alpha, is_digit_lem, is_lcalpha, is_function_char, FunctionName, name_bytes, spell_name, spell_function_name}
+use Rattle.definition.specs.Lexical.{is_alpha, is_digit, is_lcalpha, is_function_char, FunctionName, name_bytes, spell_name, spell_function_name}
 use Rattle.definition.specs.Utf8.{encode, encode_all, is_utf8}
 use Rattle.basics.specs.Lists.{drop_at}
 use Rattle.basics.specs.Reads.{ReadsNone, StartsNot}
@@ -33,7 +33,7 @@ name_byte_lem c =
     by_test (ltb c 0x80)
     (λ t.
     let h : c < 0x80 = ltb-true c 0x80 t in
-    rw (t, lt-leb 0x80 c h, lt-leb 0xE000 c (omega arith)) (sym (below (is_alpha c) (eqb c 0x5F) (is_digit_lem c))))
+    rw (t, lt-leb 0x80 c h, lt-leb 0xE000 c (omega arith)) (sym (below (is_alpha c) (eqb c 0x5F) (is_digit c))))
     (λ f. rw (f, le-leb 0x80 c (ltb-false c 0x80 f)) (simp or-true))
 
 front_same : (s : List ℕ) → front is_name_byte s ≡ front name_byte s
@@ -45,7 +45,7 @@ behind_same [] = refl
 behind_same (c ∷ s) = rw (name_byte_lem c, behind_same s)
 
 -- a byte of a name that is no digit may begin one
-name_first : (c : ℕ) → is_digit_lem c ≡ false → is_name_byte c ≡ true → first_byte c ≡ true
+name_first : (c : ℕ) → is_digit c ≡ false → is_name_byte c ≡ true → first_byte c ≡ true
 name_first c d e =
     by_test (ltb c 0x80)
     (λ t.
@@ -54,7 +54,7 @@ name_first c d e =
     (λ f. rw f)
 
 -- a digit begins no name
-digit_first : (c : ℕ) → is_digit_lem c ≡ true → first_byte c ≡ false
+digit_first : (c : ℕ) → is_digit c ≡ true → first_byte c ≡ false
 digit_first c e =
     let l = inside_low 0x30 0x39 c e in
     let h = inside_high 0x30 0x39 c e in
@@ -71,7 +71,7 @@ other_first c e =
     by_test (ltb c 0x80)
     (λ t.
     let h : c < 0x80 = ltb-true c 0x80 t in
-    rw (t, lt-leb 0x80 c h, lt-leb 0xE000 c (omega arith)) (either_false (is_alpha c) (eqb c 0x5F) (is_digit_lem c) (rw (lt-leb 0x80 c h) at e)))
+    rw (t, lt-leb 0x80 c h, lt-leb 0xE000 c (omega arith)) (either_false (is_alpha c) (eqb c 0x5F) (is_digit c) (rw (lt-leb 0x80 c h) at e)))
     (λ f. absurd (true≢false (sym (name_byte_lem c ∙ rw f) ∙ e)))
 
 -- ---- a name at a place
@@ -83,7 +83,7 @@ module _ (s : List ℕ) (a : ℕ) where
     none = λ t r m q. true≢false (sym (name_begins t (get_or s a 0) r (drop (a + 1) s) (sym q ∙ drop_at s a h)) ∙ e);
   }
 
-  pub no_name_digit : a < length s → is_digit_lem (get_or s a 0) ≡ true → ReadsNone spell_name (StartsNot is_name_byte) (drop a s)
+  pub no_name_digit : a < length s → is_digit (get_or s a 0) ≡ true → ReadsNone spell_name (StartsNot is_name_byte) (drop a s)
   no_name_digit h e = no_name h (digit_first (get_or s a 0) e)
 
   pub no_name_other : a < length s → is_name_byte (get_or s a 0) ≡ false → ReadsNone spell_name (StartsNot is_name_byte) (drop a s)
@@ -101,7 +101,7 @@ module _ (s : List ℕ) (a : ℕ) where
   }
 
   -- a byte of a name that is no digit and the run of such bytes behind it is the name
-  pub name_at : {r : ℕ} → is_utf8 (drop a s) ≡ true → a < length s → is_digit_lem (get_or s a 0) ≡ false → is_name_byte (get_or s a 0) ≡ true → Run is_name_byte s (a + 1) r → NameAt s a r
+  pub name_at : {r : ℕ} → is_utf8 (drop a s) ≡ true → a < length s → is_digit (get_or s a 0) ≡ false → is_name_byte (get_or s a 0) ≡ true → Run is_name_byte s (a + 1) r → NameAt s a r
   name_at {r} u h d e j =
       let f : first_byte (get_or s a 0) ≡ true = name_first (get_or s a 0) d e in
       let k : Run is_name_byte s a r = run_first is_name_byte s h e j in

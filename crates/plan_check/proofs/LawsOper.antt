@@ -12,14 +12,14 @@ use Rattle.definition.specs.Forms.{Literal, Segments, is_singular}
 use Rattle.definition.specs.Forms as F
 use Rattle.definition.specs.Forms.Start.{root, current}
 use Rattle.definition.specs.Forms.Query.{query}
-use Rattle.definition.specs.QueryForms.{argument_right_lem, nesting, nesting_argument}
+use Rattle.definition.specs.QueryForms.{argument_right, nesting, nesting_argument}
 use Rattle.definition.specs.Plans.{start_kind, pool_query, pool_argument, code_argument}
 use Rattle.basics.specs.Bools.{and_left, and_right, both_true}
 use Rattle.basics.specs.Lists.{same_tail}
 use Rattle.plan_laws.specs.Parts.{Spelt, move}
 use Rattle.plan_laws.specs.Leaves.{literals, literal_begins}
 use Rattle.plan_laws.specs.Queries.{segments_part, into_query, from_query, start_low}
-use Rattle.plan_laws.specs.Operands.{Operand, pool_operand, nesting_operand, sort_operand, operand_part, Basis, basis_literal, basis_query, as_operand, basis_part, into_literal, from_literal, into_basis, from_basis, Call, calls_right, sort_calls, calls_part, called_all, all_calls, into_operand, from_operand, argument_operand, argument_code, argument_pool, argument_nest, argument_right, as_argument}
+use Rattle.plan_laws.specs.Operands.{Operand, pool_operand, nesting_operand, sort_operand, operand_part, Basis, basis_literal, basis_query, as_operand, basis_part, into_literal, from_literal, into_basis, from_basis, Call, calls_right, sort_calls, calls_part, called_all, all_calls, into_operand, from_operand, argument_operand, argument_code, argument_pool, argument_nest, argument_stays_right, as_argument}
 use Rattle.plan_laws.specs.Relations.{relation_code, relation_deep, relations, relation_low, relation_no_call}
 use Rattle.plan_items.specs.Readings.{Kind, Read, NoPart, Post, next, stop, AnyRoom, PostCalls}
 use Rattle.plan_items.specs.declared.Got.{Got}
@@ -116,20 +116,20 @@ oper_none x = stop (record { none = λ y r m u. let i = into_operand u in x.none
 pub record InSide (h σ room : ℕ) (s l : List ℕ) (p : ℕ) (x : Side) (r m : List ℕ) : Type 0 where
   pub operand : Spelt operand_part room s l p (argument_operand x.argument) (relation_code x.relation ++ r) m
   pub left : 1 ≤ σ
-  pub right : argument_right_lem x.argument ≡ true
+  pub right : argument_right x.argument ≡ true
   pub deep : relation_deep x.relation + max h (nesting_argument x.argument) ≤ room
 
 pub into_side : (h σ : ℕ) {room p : ℕ} {s l r m : List ℕ} {x : Side} → Spelt (side_part h σ) room s l p x r m → InSide h σ room s l p x r m
 into_side h σ {room} {p} {r = r} {m = m} {x = x} u =
     let a = x.argument in
     let tail = relation_code x.relation in
-    let y = and_right (ltb 0 σ) (argument_right_lem a) u.right in
+    let y = and_right (ltb 0 σ) (argument_right a) u.right in
     let c = le-max_right h (nesting_argument a) in
     let d : relation_deep x.relation + max h (nesting_argument a) ≤ room = u.low in
     let n = argument_nest a in
     record {
-      operand = record { plan = u.plan ∙ append_assoc (code_argument a p) tail r ∙ ap (λ o. o ++ (tail ++ r)) (argument_code a p); pool = u.pool ∙ ap (λ o. o ++ m) (argument_pool a); right = (argument_right a y).0; low = omega arith; may = relation_no_call x.relation r };
-      left = ltb-true 0 σ (and_left (ltb 0 σ) (argument_right_lem a) u.right);
+      operand = record { plan = u.plan ∙ append_assoc (code_argument a p) tail r ∙ ap (λ o. o ++ (tail ++ r)) (argument_code a p); pool = u.pool ∙ ap (λ o. o ++ m) (argument_pool a); right = (argument_stays_right a y).0; low = omega arith; may = relation_no_call x.relation r };
+      left = ltb-true 0 σ (and_left (ltb 0 σ) (argument_right a) u.right);
       right = y;
       deep = d;
     }
@@ -163,7 +163,7 @@ module _ {S L : List ℕ} {room at p : ℕ} (h σ : ℕ) where
       none = λ x r m u.
           let i = into_side h σ u in
           let j = (read_same once_operand w rd i.operand).sort in
-          let k = (argument_right x.argument i.right).1 in
+          let k = (argument_stays_right x.argument i.right).1 in
           omega arith;
     })
 

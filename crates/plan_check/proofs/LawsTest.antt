@@ -9,12 +9,12 @@ use lib.Dec.{ltb}
 use lib.ListN.{length, drop, length-append, length-drop, drop_of_length-le}
 use Rattle.definition.specs.Forms.{Query, Function, Argument, Test, is_singular}
 use Rattle.definition.specs.Forms.Argument.{literal, singular, value}
-use Rattle.definition.specs.QueryForms.{argument_right_lem, nesting_argument, nesting_function, nesting_test}
+use Rattle.definition.specs.QueryForms.{argument_right, nesting_argument, nesting_function, nesting_test}
 use Rattle.definition.specs.Plans.{pool_argument, pool_test}
 use Rattle.basics.specs.Lists.{not_cons, same_tail}
 use Rattle.plan_laws.specs.Parts.{Spelt, move}
 use Rattle.plan_laws.specs.Queries.{is_nil, test_part, framed_part}
-use Rattle.plan_laws.specs.Operands.{Operand, lit, qry, fun, pool_operand, operand_right, nesting_operand, sort_operand, operand_part, argument_operand, argument_pool, argument_nest, argument_right, argument_same, as_argument}
+use Rattle.plan_laws.specs.Operands.{Operand, lit, qry, fun, pool_operand, operand_right, nesting_operand, sort_operand, operand_part, argument_operand, argument_pool, argument_nest, argument_stays_right, argument_same, as_argument}
 use Rattle.plan_laws.specs.Relations.{related, relation_deep, related_pool, related_nest}
 use Rattle.plan_laws.specs.Tests.{Base, base_exists, base_pair, base_not, as_test, base_part, BaseOf, of_exists, of_not, of_pair, base_of, base_from, argument_no_test, Ops, op_end, op_not, op_right, right_kind, applied, nesting_ops, ops_part, pool_ops, nesting_grows, into_right, from_right, into_not, from_not, into_nothing, right_differ, applied_pool, applied_nest, into_test, from_test}
 use Rattle.plan_items.specs.Readings.{Kind, Asks, Read, NoPart, Post, next, stop}
@@ -47,8 +47,8 @@ side_operand (lit l) = refl
 side_operand (qry q) = refl
 side_operand (fun f) = refl
 
-side_right : (x : Operand) → operand_right x ≡ true → 1 ≤ sort_operand x → argument_right_lem (as_side x) ≡ true
-side_right x h a = let v = as_argument x h a in ap argument_right_lem (argument_same (as_side x) v.argument (side_operand x ∙ sym v.is)) ∙ v.right
+side_right : (x : Operand) → operand_right x ≡ true → 1 ≤ sort_operand x → argument_right (as_side x) ≡ true
+side_right x h a = let v = as_argument x h a in ap argument_right (argument_same (as_side x) v.argument (side_operand x ∙ sym v.is)) ∙ v.right
 
 -- a query is the operand of the sorts 0 and 1, a function that of the sort 3
 query_of : (x : Operand) → sort_operand x ≤ 1 → (q : Query) × (x ≡ qry q)
@@ -96,7 +96,7 @@ module _ {S L : List ℕ} {room at p : ℕ} (w : Short S L) {a : Got} (rd : Read
       back (of_not f h u) = absurd (kind_not e 0x18 n (sym (read_same once_operand w rd u).plan))
       back (of_pair o c d rc rd' n u v) =
           let j = read_same once_operand w rd u in
-          let s = (argument_right c rc).1 in
+          let s = (argument_stays_right c rc).1 in
           let t = j.sort in
           let q : a.h ≡ nesting_argument c = j.nest ∙ sym (argument_nest c) in
           (record { argument = d; relation = o }, from_side a.h a.sort (record { operand = behind_same j v; left = omega arith; right = rd'; deep = subst (λ (k : ℕ). relation_deep o + max k (nesting_argument d) ≤ room) (sym q) n }))
@@ -104,10 +104,10 @@ module _ {S L : List ℕ} {room at p : ℕ} (w : Short S L) {a : Got} (rd : Read
       pl : pool_argument left ≡ pool_operand rd.form
       pl = argument_pool left ∙ ap pool_operand (side_operand rd.form)
 
-      pool : (x : Side) → ltb 0 a.sort && argument_right_lem x.argument ≡ true → a.p + length (pool_argument x.argument) ≡ p + length (pool_test (related x.relation left x.argument))
+      pool : (x : Side) → ltb 0 a.sort && argument_right x.argument ≡ true → a.p + length (pool_argument x.argument) ≡ p + length (pool_test (related x.relation left x.argument))
       pool x _ = let g = rd.grown in let i = ap length pl in let j = length-append (pool_argument left) (pool_argument x.argument) in let k = ap length (related_pool x.relation left x.argument) in omega arith
 
-      nest : (x : Side) → ltb 0 a.sort && argument_right_lem x.argument ≡ true → relation_deep x.relation + max a.h (nesting_argument x.argument) ≡ nesting_test (related x.relation left x.argument)
+      nest : (x : Side) → ltb 0 a.sort && argument_right x.argument ≡ true → relation_deep x.relation + max a.h (nesting_argument x.argument) ≡ nesting_test (related x.relation left x.argument)
       nest x _ = deep x ∙ sym (related_nest x.relation left x.argument)
 
   pub base_side : {r : Option Got} → (k ≡ 0x18 → ⊥) → Post (side_part a.h a.sort) room S L a.at a.p r → Post base_part room S L at p r

@@ -5,7 +5,7 @@ use Rattle.plan_items.specs.declared.Got.{Got}
 use Rattle.std.specs.Prelude.{Option, Some, None}
 use Rattle.definition.specs.Forms.{Segments, Selectors, Argument, many_selectors}
 use Rattle.definition.specs.Forms.Selectors.{one, and}
-use Rattle.definition.specs.QueryForms.{selectors_right, segments_right, argument_right_lem, nesting_selectors, nesting_segments, nesting_argument}
+use Rattle.definition.specs.QueryForms.{selectors_right, segments_right, argument_right, nesting_selectors, nesting_segments, nesting_argument}
 use Rattle.definition.specs.Plans.{pool_selectors, pool_segments, pool_argument, code_selectors, code_segments, code_argument}
 use Rattle.plan_laws.specs.Parts.{Part}
 use Rattle.plan_laws.specs.Queries.{sort_selector, sort_segments}
@@ -39,7 +39,7 @@ pub record Side : Type 0 where
 
 -- the same behind a first value of the sort σ that nests h deep
 abbrev pub side_part : ℕ → ℕ → Part Side
-side_part h σ = record { code = λ x p. code_argument x.argument p ++ relation_code x.relation; pool = λ x. pool_argument x.argument; right = λ x. ltb 0 σ && argument_right_lem x.argument; nest = λ x. relation_deep x.relation + max h (nesting_argument x.argument); sort = λ x. 0; may = λ r. true }
+side_part h σ = record { code = λ x p. code_argument x.argument p ++ relation_code x.relation; pool = λ x. pool_argument x.argument; right = λ x. ltb 0 σ && argument_right x.argument; nest = λ x. relation_deep x.relation + max h (nesting_argument x.argument); sort = λ x. 0; may = λ r. true }
 
 -- The end of a test of the operand a, whose 18 stands at its end: a query's test, or a value function's test with its 15, or neither.
 pub data Tested (S : List ℕ) (a : Got) (room : ℕ) : Option Got → Type 0 where

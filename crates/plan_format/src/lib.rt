@@ -2,7 +2,6 @@
 // Each stands here once, for all that read and write plans.
 //
 //   kinds       the kinds of items
-//   wide        the same as words, for what holds a kind in a word
 //   operators   the body of compare
 //   words       the body of a constant
 //   lengths     how long bodies and items are
@@ -15,6 +14,5 @@ pub mod heads;
 pub mod kinds;
 pub mod lengths;
 pub mod operators;
-pub mod wide;
 pub mod words;
 mod written;

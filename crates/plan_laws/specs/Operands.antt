@@ -9,7 +9,7 @@ use Rattle.definition.specs.Forms.{Literal, Query, Argument, Function, is_singul
 use Rattle.definition.specs.Forms.Query.{query}
 use Rattle.definition.specs.Forms.Argument.{literal, singular, value}
 use Rattle.definition.specs.Forms.Function.{count_of, length_of, value_of}
-use Rattle.definition.specs.QueryForms.{literal_right, query_right, argument_right_lem, function_right, nesting, nesting_argument, nesting_function}
+use Rattle.definition.specs.QueryForms.{literal_right, query_right, argument_right, function_right, nesting, nesting_argument, nesting_function}
 use Rattle.definition.specs.Plans.{start_kind, pool_literal, pool_query, pool_argument, pool_function, code_literal, code_query, code_argument, code_function}
 use Rattle.basics.specs.Bools.{and_left, and_right, both_true}
 use Rattle.plan_laws.specs.Parts.{Part, Spelt, Unique, plan_rest}
@@ -178,7 +178,7 @@ singular_of true h = refl
 singular_of false h = h
 
 pub one_call : (c : Call) (x : Operand) → allowed (sort_operand x) c ≡ true → operand_right x ≡ true → OneCall c x
-unfolding code_function code_argument pool_function pool_argument function_right argument_right_lem nesting_function nesting_argument
+unfolding code_function code_argument pool_function pool_argument function_right argument_right nesting_function nesting_argument
 one_call call_count (lit l) a h = absurd (false≢true a)
 one_call call_count (qry q) a h = record { code = λ p. refl; pool = refl; right = h; nest = omega arith; sort = refl }
 one_call call_count (fun f) a h = absurd (false≢true a)
@@ -230,14 +230,14 @@ one_or_none true = refl
 one_or_none false = refl
 
 mutual
-  unfolding function_right argument_right_lem
+  unfolding function_right argument_right
 
   calls_on : (f : Function) (cs : List Call) → calls_right 3 cs ≡ true → function_right f ≡ true → Calls (called_all cs (fun f))
   calls_on (count_of q) cs a h = record { basis = basis_query q; calls = call_count ∷ cs; is = refl; allow = both_true (one_or_none (is_singular q)) a; right = h }
   calls_on (value_of q) cs a h = record { basis = basis_query q; calls = call_value ∷ cs; is = refl; allow = both_true (one_or_none (is_singular q)) a; right = h }
   calls_on (length_of x) cs a h = length_on x cs a h
 
-  length_on : (x : Argument) (cs : List Call) → calls_right 3 cs ≡ true → argument_right_lem x ≡ true → Calls (called_all cs (fun (length_of x)))
+  length_on : (x : Argument) (cs : List Call) → calls_right 3 cs ≡ true → argument_right x ≡ true → Calls (called_all cs (fun (length_of x)))
   length_on (literal l) cs a h = record { basis = basis_literal l; calls = call_length ∷ cs; is = refl; allow = a; right = h }
   length_on (singular q) cs a h = record { basis = basis_query q; calls = call_length ∷ cs; is = refl; allow = both_true (ap (λ b. ltb 0 (cond b 1 0)) (and_left (is_singular q) (query_right q) h)) a; right = and_right (is_singular q) (query_right q) h }
   length_on (value f) cs a h = calls_on f (call_length ∷ cs) a h
@@ -359,24 +359,24 @@ argument_nest (literal l) = refl
 argument_nest (singular q) = refl
 argument_nest (value f) = refl
 
-pub argument_right : (a : Argument) → argument_right_lem a ≡ true → (operand_right (argument_operand a) ≡ true) × (1 ≤ sort_operand (argument_operand a))
-unfolding argument_right_lem
-argument_right (literal l) h = (h, omega arith)
-argument_right (singular q) h = (and_right (is_singular q) (query_right q) h, rw (and_left (is_singular q) (query_right q) h) (omega arith))
-argument_right (value f) h = (h, omega arith)
+pub argument_stays_right : (a : Argument) → argument_right a ≡ true → (operand_right (argument_operand a) ≡ true) × (1 ≤ sort_operand (argument_operand a))
+unfolding argument_right
+argument_stays_right (literal l) h = (h, omega arith)
+argument_stays_right (singular q) h = (and_right (is_singular q) (query_right q) h, rw (and_left (is_singular q) (query_right q) h) (omega arith))
+argument_stays_right (value f) h = (h, omega arith)
 
 -- an operand whose sort is not 0 is an argument
 pub record AsArgument (x : Operand) : Type 0 where
   pub argument : Argument
   pub is : argument_operand argument ≡ x
-  pub right : argument_right_lem argument ≡ true
+  pub right : argument_right argument ≡ true
 
 singular_by : (b : Bool) → 1 ≤ cond b 1 0 → b ≡ true
 singular_by true h = refl
 singular_by false h = absurd (omega arith)
 
 pub as_argument : (x : Operand) → operand_right x ≡ true → 1 ≤ sort_operand x → AsArgument x
-unfolding argument_right_lem
+unfolding argument_right
 as_argument (lit l) h a = record { argument = literal l; is = refl; right = h }
 as_argument (qry q) h a = record { argument = singular q; is = refl; right = both_true (singular_by (is_singular q) a) h }
 as_argument (fun f) h a = record { argument = value f; is = refl; right = h }

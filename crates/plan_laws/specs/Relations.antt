@@ -5,7 +5,7 @@ use Rattle.std.proofs.Common.{arith, sym, ap, ◌∙◌}
 use Rattle.regex_definition.specs.Scope.{Scope, whole, part}
 use Rattle.definition.specs.Forms.{Operator, Test, Argument}
 use Rattle.definition.specs.Forms.Test.{compare, regex}
-use Rattle.definition.specs.QueryForms.{argument_right_lem, test_right, nesting_argument, nesting_test}
+use Rattle.definition.specs.QueryForms.{argument_right, test_right, nesting_argument, nesting_test}
 use Rattle.definition.specs.Plans.{operator_byte, scope_kind, pool_argument, pool_test, code_argument, code_test}
 use Rattle.basics.specs.Lists.{differ}
 use Rattle.plan_laws.specs.Parts.{Part, Unique}
@@ -50,7 +50,7 @@ unfolding pool_test
 related_pool (compares o) a b = refl
 related_pool (matches c) a b = refl
 
-pub related_right : (x : Relation) (a b : Argument) → test_right (related x a b) ≡ (argument_right_lem a && argument_right_lem b)
+pub related_right : (x : Relation) (a b : Argument) → test_right (related x a b) ≡ (argument_right a && argument_right b)
 unfolding test_right
 related_right (compares o) a b = refl
 related_right (matches c) a b = refl

@@ -6,13 +6,13 @@ use Rattle.std.proofs.Math.Bool.{and_assoc, and-true}
 use Rattle.definition.specs.Limits.{max_plan}
 use Rattle.definition.specs.Forms.{Query, Test, Argument, Function}
 use Rattle.definition.specs.Forms.Test.{exists, compare, regex, not, not_value, both, either}
-use Rattle.definition.specs.QueryForms.{argument_right_lem, test_right, nesting_argument, nesting_function, nesting_test}
+use Rattle.definition.specs.QueryForms.{argument_right, test_right, nesting_argument, nesting_function, nesting_test}
 use Rattle.definition.specs.Plans.{two, framed, pool_argument, pool_test, code_query, code_argument, code_function, code_test}
 use Rattle.basics.specs.Bools.{and_left, and_right, both_true}
 use Rattle.basics.specs.Lists.{differ, not_cons, same_tail}
 use Rattle.plan_laws.specs.Parts.{Part, Spelt, Unique, plan_left, pool_left, plan_rest, pool_rest, move, next_same}
 use Rattle.plan_laws.specs.Queries.{is_nil, nil_is, test_part, framed_part, unique_framed}
-use Rattle.plan_laws.specs.Operands.{Operand, qry, fun, code_operand, pool_operand, operand_part, unique_operand, operand_begins, no_call, argument_operand, argument_code, argument_pool, argument_nest, argument_right, argument_same}
+use Rattle.plan_laws.specs.Operands.{Operand, qry, fun, code_operand, pool_operand, operand_part, unique_operand, operand_begins, no_call, argument_operand, argument_code, argument_pool, argument_nest, argument_stays_right, argument_same}
 use Rattle.plan_laws.specs.Relations.{Relation, compares, matches, related, relation_code, relation_deep, related_code, related_pool, related_right, related_nest, relation_no_call, relation_same}
 
 -- ---- what a test begins with: a test of a query, a test of two values, or `!` before a value function
@@ -34,7 +34,7 @@ base_part = record { code = λ b. code_test (as_test b); pool = λ b. pool_test 
 pub data BaseOf (room : ℕ) (s l : List ℕ) (p : ℕ) (r m : List ℕ) : Base → Type 0 where
   of_exists : (q : Query) → Spelt operand_part room s l p (qry q) (0x18 ∷ r) m → BaseOf room s l p r m (base_exists q)
   of_not : (f : Function) → suc (nesting_function f) ≤ room → Spelt operand_part room s l p (fun f) (0x18 ∷ 0x15 ∷ r) m → BaseOf room s l p r m (base_not f)
-  of_pair : {s₁ l₁ : List ℕ} (x : Relation) (a b : Argument) → argument_right_lem a ≡ true → argument_right_lem b ≡ true → relation_deep x + max (nesting_argument a) (nesting_argument b) ≤ room → Spelt operand_part room s l p (argument_operand a) s₁ l₁ →
+  of_pair : {s₁ l₁ : List ℕ} (x : Relation) (a b : Argument) → argument_right a ≡ true → argument_right b ≡ true → relation_deep x + max (nesting_argument a) (nesting_argument b) ≤ room → Spelt operand_part room s l p (argument_operand a) s₁ l₁ →
       Spelt operand_part room s₁ l₁ (p + length (pool_operand (argument_operand a))) (argument_operand b) (relation_code x ++ r) m → BaseOf room s l p r m (base_pair x a b)
 
 -- what begins with a kind in 01..13 is no call
@@ -52,11 +52,11 @@ base_of {p = p} {r = r} (base_not f) u = let z = u.low in of_not f z (record { p
 base_of {room} {p} {r = r} {m = m} (base_pair x a b) u =
     let q = p + length (pool_argument a) in
     let q' = p + length (pool_operand (argument_operand a)) in
-    let right : (argument_right_lem a && argument_right_lem b) ≡ true = sym (related_right x a b) ∙ u.right in
-    let ra = and_left (argument_right_lem a) (argument_right_lem b) right in
-    let rb = and_right (argument_right_lem a) (argument_right_lem b) right in
-    let ha = argument_right a ra in
-    let hb = argument_right b rb in
+    let right : (argument_right a && argument_right b) ≡ true = sym (related_right x a b) ∙ u.right in
+    let ra = and_left (argument_right a) (argument_right b) right in
+    let rb = and_right (argument_right a) (argument_right b) right in
+    let ha = argument_stays_right a ra in
+    let hb = argument_stays_right b rb in
     let d : relation_deep x + max (nesting_argument a) (nesting_argument b) ≤ room = let l = u.low in omega (arith, related_nest x a b) in
     let y = le-max_left (nesting_argument a) (nesting_argument b) in
     let z = le-max_right (nesting_argument a) (nesting_argument b) in

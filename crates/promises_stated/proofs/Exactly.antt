@@ -7,7 +7,7 @@ use Rattle.std.proofs.Math.Logic.{inl, inr}
 use Rattle.definition.specs.Forms.{Query}
 use Rattle.definition.specs.Tables.{check_table, tree}
 use Rattle.definition.specs.Tables.Checked.{accepted}
-use Rattle.definition.specs.TableOutcomes.{TableOutcome, PartOutcome, table_outcome, part_by_lem, has_text, has_key, text_outcome, key_outcome}
+use Rattle.definition.specs.TableOutcomes.{TableOutcome, PartOutcome, table_outcome, part_by, has_text, has_key, text_outcome, key_outcome}
 use Rattle.definition.specs.Evaluation.{selected}
 use Rattle.definition.specs.Outcomes.{Reading, Reads, Translates, Spells, spelled, not_spelled, CompileOutcome, RunOutcome, Runs, refusal_of, refuse_run, compile_by, run_by}
 use Rattle.definition.specs.Outcomes.Reading.{refused, form}
@@ -56,7 +56,7 @@ table_check_first T X e =
     subst (First (table_rules T X)) (sym (ap (λ (o : TableOutcome). o.refusal) e ∙ report_number (check_table T X))) (table_first T X [] 0 (check_table T X) refl (λ a. refl))
 
 module _ (T X s : List ℕ) (b : Bool) where
-  part_first : {o : PartOutcome} → o ≡ part_by_lem (check_table T X) b s → First (part_rules (b ≡ false) T X) o.number
+  part_first : {o : PartOutcome} → o ≡ part_by (check_table T X) b s → First (part_rules (b ≡ false) T X) o.number
   part_first e =
       subst (First (part_rules (b ≡ false) T X)) (sym (ap (λ (o : PartOutcome). o.number) e ∙ part_number (check_table T X) b s))
       (table_first T X (rule 15 (b ≡ false) ∷ []) (cond b 0 15) (check_table T X) refl (λ a. part_rest T X s b b refl))

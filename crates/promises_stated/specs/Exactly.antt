@@ -10,7 +10,7 @@ use Rattle.definition.specs.Forms.{Query}
 use Rattle.definition.specs.Plans.{plan_of, pool_of}
 use Rattle.definition.specs.Tables.{Checked}
 use Rattle.definition.specs.Tables.Checked.{accepted, sized, wrong_at, text_at}
-use Rattle.definition.specs.TableOutcomes.{TableOutcome, report_table, part_by_lem, found_part, refused_part}
+use Rattle.definition.specs.TableOutcomes.{TableOutcome, report_table, part_by, found_part, refused_part}
 use Rattle.definition.specs.Outcomes.{Reading, Reads, Spells, spelled, not_spelled, CompileOutcome, RunOutcome, ChecksPlan, refusal_of, compile_by, run_by}
 use Rattle.definition.specs.Outcomes.Reading.{form}
 use Rattle.basics.specs.Bools.{and_left, and_right}
@@ -56,8 +56,8 @@ records_check_first T X e = subst (First (record_rules T X)) (sym (ap (λ (o : T
 pub texts_check_first : (T X : List ℕ) {o : TableOutcome} → ChecksTextsOnly T X o → First (text_rules T X) o.refusal
 texts_check_first T X e = subst (First (text_rules T X)) (sym (ap (λ (o : TableOutcome). o.refusal) e)) (texts_first T X)
 
-pub part_number : (c : Checked) (b : Bool) (s : List ℕ) → (part_by_lem c b s).number ≡ checked_or (cond b 0 15) c
-unfolding part_by_lem found_part refused_part
+pub part_number : (c : Checked) (b : Bool) (s : List ℕ) → (part_by c b s).number ≡ checked_or (cond b 0 15) c
+unfolding part_by found_part refused_part
 part_number accepted true s = refl
 part_number accepted false s = refl
 part_number sized b s = refl

@@ -5,7 +5,7 @@ use Rattle.regex_definition.specs.Scope.{whole}
 use Rattle.definition.specs.Limits.{max_int}
 use Rattle.definition.specs.Lexical.Int.{zero_int, plain_int}
 use Rattle.definition.specs.Lexical.Whole.{int_whole}
-use Rattle.definition.specs.Lexical.Fraction.{no_fraction_lem}
+use Rattle.definition.specs.Lexical.Fraction.{no_fraction}
 use Rattle.definition.specs.Lexical.Sign.{no_sign}
 use Rattle.definition.specs.Lexical.Exponent.{exponent}
 use Rattle.definition.specs.Lexical.Char.{plain}
@@ -16,23 +16,23 @@ use Rattle.definition.specs.Grammar.SingularSegments.{no_singular}
 use Rattle.definition.specs.Grammar.Singular.{rel_singular}
 use Rattle.definition.specs.Grammar.Literal.{number_literal, text_literal}
 use Rattle.definition.specs.Grammar.Operator.{eq_operator}
-use Rattle.definition.specs.Grammar.Segments.{no_segment, more_segments_lem}
+use Rattle.definition.specs.Grammar.Segments.{no_segment, more_segments}
 use Rattle.definition.specs.Grammar.Segment.{child_brackets, child_wild}
 use Rattle.definition.specs.Grammar.Bracketed.{bracketed}
 use Rattle.definition.specs.Grammar.Selectors.{no_selector}
 use Rattle.definition.specs.Grammar.Selector.{index_selector, filter_selector}
-use Rattle.definition.specs.Grammar.LogicalOr.{logical_or_lem}
-use Rattle.definition.specs.Grammar.MoreOr.{no_or_lem}
-use Rattle.definition.specs.Grammar.LogicalAnd.{logical_and_lem}
-use Rattle.definition.specs.Grammar.MoreAnd.{no_and_lem}
+use Rattle.definition.specs.Grammar.LogicalOr.{logical_or}
+use Rattle.definition.specs.Grammar.MoreOr.{no_or}
+use Rattle.definition.specs.Grammar.LogicalAnd.{logical_and}
+use Rattle.definition.specs.Grammar.MoreAnd.{no_and}
 use Rattle.definition.specs.Grammar.Basic.{comparison, test_basic, not_test}
 use Rattle.definition.specs.Grammar.Test.{function_test}
 use Rattle.definition.specs.Grammar.FilterQuery.{rel_query}
 use Rattle.definition.specs.Grammar.Comparable.{literal_comparable, singular_comparable}
 use Rattle.definition.specs.Grammar.Function.{function}
 use Rattle.definition.specs.Grammar.Arguments.{no_argument, arguments}
-use Rattle.definition.specs.Grammar.MoreArguments.{no_more, more_arguments_lem}
-use Rattle.definition.specs.Grammar.Argument.{literal_argument_lem, query_argument}
+use Rattle.definition.specs.Grammar.MoreArguments.{no_more, more_arguments}
+use Rattle.definition.specs.Grammar.Argument.{literal_argument, query_argument}
 use Rattle.definition.specs.Forms.{Query}
 use Rattle.definition.specs.Forms.Start.{root}
 use Rattle.definition.specs.Forms.Query.{query}
@@ -89,14 +89,14 @@ empty = by_reading (no_tree refl none_spells)
 
 -- a query of one filter, `$[?..]`
 abbrev filtered : G.Basic → G.Query
-filtered b = record { segments = more_segments_lem o (child_brackets (bracketed o (filter_selector o (logical_or_lem (logical_and_lem b no_and_lem) no_or_lem)) no_selector o)) no_segment }
+filtered b = record { segments = more_segments o (child_brackets (bracketed o (filter_selector o (logical_or (logical_and b no_and) no_or)) no_selector o)) no_segment }
 
 by_tree : (t : G.Query) (n : ℕ) → early (spell t) ≡ 0 → judge (walk t) ≡ refused n → Refuses (spell t) n
 by_tree t n h e = by_reading (rw (← e) (has_tree h t refl))
 
 -- $[9007199254740992]
 abbrev pub far_index : G.Query
-far_index = record { segments = more_segments_lem o (child_brackets (bracketed o (index_selector (plain_int (record { first = 0x39; more = 0x30 ∷ 0x30 ∷ 0x37 ∷ 0x31 ∷ 0x39 ∷ 0x39 ∷ 0x32 ∷ 0x35 ∷ 0x34 ∷ 0x37 ∷ 0x34 ∷ 0x30 ∷ 0x39 ∷ 0x39 ∷ 0x32 ∷ []; is_first = refl; are_more = refl }))) no_selector o)) no_segment }
+far_index = record { segments = more_segments o (child_brackets (bracketed o (index_selector (plain_int (record { first = 0x39; more = 0x30 ∷ 0x30 ∷ 0x37 ∷ 0x31 ∷ 0x39 ∷ 0x39 ∷ 0x32 ∷ 0x35 ∷ 0x34 ∷ 0x37 ∷ 0x34 ∷ 0x30 ∷ 0x39 ∷ 0x39 ∷ 0x32 ∷ []; is_first = refl; are_more = refl }))) no_selector o)) no_segment }
 
 pub far : Refuses (spell far_index) 4
 unfolding computes
@@ -104,7 +104,7 @@ far = by_tree far_index 4 refl refl
 
 -- $[?match('a')]
 abbrev pub one_argument : G.Query
-one_argument = filtered (test_basic (function_test (function (record { first = 0x6D; more = 0x61 ∷ 0x74 ∷ 0x63 ∷ 0x68 ∷ []; is_first = refl; are_more = refl }) o (arguments (literal_argument_lem (text_literal (record { quote = single; chars = plain 0x61 refl ∷ [] }))) no_more) o)))
+one_argument = filtered (test_basic (function_test (function (record { first = 0x6D; more = 0x61 ∷ 0x74 ∷ 0x63 ∷ 0x68 ∷ []; is_first = refl; are_more = refl }) o (arguments (literal_argument (text_literal (record { quote = single; chars = plain 0x61 refl ∷ [] }))) no_more) o)))
 
 pub typed : Refuses (spell one_argument) 5
 unfolding computes
@@ -112,7 +112,7 @@ typed = by_tree one_argument 5 refl refl
 
 -- $[?!count(@.*)], whose plan still runs: one of the starred rows (document 02, W12)
 abbrev pub negated_count : G.Query
-negated_count = filtered (not_test o (function_test (function (record { first = 0x63; more = 0x6F ∷ 0x75 ∷ 0x6E ∷ 0x74 ∷ []; is_first = refl; are_more = refl }) o (arguments (query_argument (rel_query (more_segments_lem o child_wild no_segment))) no_more) o)))
+negated_count = filtered (not_test o (function_test (function (record { first = 0x63; more = 0x6F ∷ 0x75 ∷ 0x6E ∷ 0x74 ∷ []; is_first = refl; are_more = refl }) o (arguments (query_argument (rel_query (more_segments o child_wild no_segment))) no_more) o)))
 
 pub retired : Refuses (spell negated_count) 5
 unfolding computes
@@ -128,7 +128,7 @@ unknown = by_tree no_function 6 refl refl
 
 -- $[?match('a','b')], which no refusal meets: 7 is given to no input (document 02, W4)
 abbrev pub matching : G.Query
-matching = filtered (test_basic (function_test (function (record { first = 0x6D; more = 0x61 ∷ 0x74 ∷ 0x63 ∷ 0x68 ∷ []; is_first = refl; are_more = refl }) o (arguments (literal_argument_lem (text_literal (record { quote = single; chars = plain 0x61 refl ∷ [] }))) (more_arguments_lem o o (literal_argument_lem (text_literal (record { quote = single; chars = plain 0x62 refl ∷ [] }))) no_more)) o)))
+matching = filtered (test_basic (function_test (function (record { first = 0x6D; more = 0x61 ∷ 0x74 ∷ 0x63 ∷ 0x68 ∷ []; is_first = refl; are_more = refl }) o (arguments (literal_argument (text_literal (record { quote = single; chars = plain 0x61 refl ∷ [] }))) (more_arguments o o (literal_argument (text_literal (record { quote = single; chars = plain 0x62 refl ∷ [] }))) no_more)) o)))
 
 abbrev pub matching_form : Query
 matching_form = query root (child (one (filter (regex whole (literal (text (0x61 ∷ []))) (literal (text (0x62 ∷ [])))))) end)
@@ -143,7 +143,7 @@ matches c k = sym (ap (λ (o : CompileOutcome). o.refusal) (k.only (compile_by (
 
 -- $[?@==0e999]
 abbrev pub far_power : G.Query
-far_power = filtered (comparison (singular_comparable (rel_singular no_singular)) o eq_operator o (literal_comparable (number_literal (record { whole = int_whole zero_int; frac = no_fraction_lem; exp = exponent 0x65 refl no_sign (record { first = 0x39; more = 0x39 ∷ 0x39 ∷ []; is_first = refl; are_more = refl }) }))))
+far_power = filtered (comparison (singular_comparable (rel_singular no_singular)) o eq_operator o (literal_comparable (number_literal (record { whole = int_whole zero_int; frac = no_fraction; exp = exponent 0x65 refl no_sign (record { first = 0x39; more = 0x39 ∷ 0x39 ∷ []; is_first = refl; are_more = refl }) }))))
 
 pub beyond : Refuses (spell far_power) 8
 unfolding computes

@@ -7,10 +7,10 @@ use Rattle.definition.specs.Lexical.Bound.{no_bound}
 use Rattle.definition.specs.Lexical.Step.{no_step}
 use Rattle.definition.specs.Grammar as G
 use Rattle.definition.specs.Grammar.{spell}
-use Rattle.definition.specs.Grammar.Segments.{no_segment, more_segments_lem}
+use Rattle.definition.specs.Grammar.Segments.{no_segment, more_segments}
 use Rattle.definition.specs.Grammar.Segment.{child_brackets}
 use Rattle.definition.specs.Grammar.Bracketed.{bracketed}
-use Rattle.definition.specs.Grammar.Selectors.{no_selector, more_selectors_lem}
+use Rattle.definition.specs.Grammar.Selectors.{no_selector, more_selectors}
 use Rattle.definition.specs.Grammar.Selector.{slice_selector}
 use Rattle.definition.specs.Forms.{Query, Selectors}
 use Rattle.definition.specs.Forms.Start.{root}
@@ -59,14 +59,14 @@ colon = record { start = no_bound; blanks = no_blank; stop = no_bound; by = no_s
 -- n of them behind one
 abbrev colons : ℕ → G.Selectors
 colons zero = no_selector
-colons (suc n) = more_selectors_lem no_blank no_blank (slice_selector colon) (colons n)
+colons (suc n) = more_selectors no_blank no_blank (slice_selector colon) (colons n)
 
 abbrev slice_forms : ℕ → Selectors
 slice_forms zero = one (slice none none none)
 slice_forms (suc n) = and (slice none none none) (slice_forms n)
 
 abbrev ten_tree : G.Query
-ten_tree = record { segments = more_segments_lem no_blank (child_brackets (bracketed no_blank (slice_selector colon) (colons 9) no_blank)) no_segment }
+ten_tree = record { segments = more_segments no_blank (child_brackets (bracketed no_blank (slice_selector colon) (colons 9) no_blank)) no_segment }
 
 abbrev pub ten_slices : List ℕ
 ten_slices = spell ten_tree

@@ -33,8 +33,8 @@ abbrev pub is_class_char : ℕ → Bool
 is_class_char c = within 0x00 0x2C c || (within 0x2E 0x5A c || (within 0x5E 0xD7FF c || within 0xE000 0x10FFFF c))
 
 -- DIGIT
-abbrev pub is_digit_lem : ℕ → Bool
-is_digit_lem c = within 0x30 0x39 c
+abbrev pub is_digit : ℕ → Bool
+is_digit c = within 0x30 0x39 c
 
 -- the character that an escape stands for: `\n`, `\r` and `\t` are line feed, carriage return and tab, every other one the character itself
 abbrev pub escape_value : ℕ → ℕ

@@ -2,7 +2,7 @@
 -- One type of trees for each rule, with a function that spells a tree in characters, followed by the characters r, and one that gives
 -- its meaning. A leaf carries the proof that its characters are of their class, so every tree is a text of the part.
 use Rattle.std.specs.Prelude.{◌≡◌, Bool, true, false, List, [], ◌∷◌, ◌++◌, ℕ, ◌+◌, ◌-◌, ◌*◌, eqb, leb}
-use Rattle.regex_definition.specs.Chars.{max_repeat, every, is_normal, is_escaped, is_class_char, is_digit_lem, escape_value}
+use Rattle.regex_definition.specs.Chars.{max_repeat, every, is_normal, is_escaped, is_class_char, is_digit, escape_value}
 use Rattle.regex_definition.specs.Words.{Most, upto, any}
 use Rattle.regex_definition.specs.Regexp.{Range, Regexp, empty, class, then, or, times}
 
@@ -132,8 +132,8 @@ decimal_from v (c ∷ s) = decimal_from (v * 10 + (c - 0x30)) s
 pub record Count : Type 0 where
   pub first : ℕ
   pub more : List ℕ
-  pub is_first : is_digit_lem first ≡ true
-  pub are_more : every is_digit_lem more ≡ true
+  pub is_first : is_digit first ≡ true
+  pub are_more : every is_digit more ≡ true
   pub is_small : leb (decimal_from 0 (first ∷ more)) max_repeat ≡ true
 
 abbrev pub spell_count : Count → List ℕ → List ℕ

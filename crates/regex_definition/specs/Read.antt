@@ -2,7 +2,7 @@
 -- them, and that there is no tree where it is none.
 use Rattle.std.specs.Prelude.{Bool, true, false, ◌&&◌, ◌||◌, not, cond, List, [], ◌∷◌, ◌++◌, ℕ, zero, suc, ◌+◌, ◌-◌, ◌*◌, eqb, leb, length}
 use Rattle.std.proofs.Math.Option.{Option, none, some}
-use Rattle.regex_definition.specs.Chars.{max_repeat, is_normal, is_escaped, is_class_char, is_digit_lem, escape_value}
+use Rattle.regex_definition.specs.Chars.{max_repeat, is_normal, is_escaped, is_class_char, is_digit, escape_value}
 use Rattle.regex_definition.specs.Words.{Most, upto, any}
 use Rattle.regex_definition.specs.Regexp.{Range, Regexp, empty, class, then, or, times}
 use Rattle.regex_definition.specs.Grammar.{only, char, dot}
@@ -72,11 +72,11 @@ read_class n s = cond (begins 0x5E s) (read_ranges n true (rest s)) (read_ranges
 unfoldable pub count_from : ℕ → List ℕ → Option (ℕ × List ℕ)
 count_from v [] = some (v, [])
 count_from v (c ∷ s) =
-    cond (is_digit_lem c) (cond (leb (v * 10 + (c - 0x30)) max_repeat) (count_from (v * 10 + (c - 0x30)) s) none) (some (v, c ∷ s))
+    cond (is_digit c) (cond (leb (v * 10 + (c - 0x30)) max_repeat) (count_from (v * 10 + (c - 0x30)) s) none) (some (v, c ∷ s))
 
 abbrev pub begins_digit : List ℕ → Bool
 begins_digit [] = false
-begins_digit (c ∷ s) = is_digit_lem c
+begins_digit (c ∷ s) = is_digit c
 
 unfoldable pub read_count : List ℕ → Option (ℕ × List ℕ)
 read_count s = cond (begins_digit s) (count_from 0 s) none

@@ -3,7 +3,7 @@ use Rattle.std.specs.Prelude.{◌≡◌, refl, Bool, true, false, ◌&&◌, not,
 use Rattle.std.proofs.Common.{ap, ◌∙◌, true≢false, append_assoc, append-nil, arith, le_refl, eqb-true, le-leb, leb-true, length-append}
 use Rattle.std.proofs.Math.Bool.{and-eq-true_iff}
 use Rattle.std.proofs.Math.Option.{some}
-use Rattle.regex_definition.specs.Chars.{every, is_normal, is_class_char, is_digit_lem}
+use Rattle.regex_definition.specs.Chars.{every, is_normal, is_class_char, is_digit}
 use Rattle.regex_definition.specs.Regexp.{Range, Regexp, class, then, or, times}
 use Rattle.regex_definition.specs.Grammar.{CCchar, bare_char, escaped_char, spell_ccchar, char_of, CCE1, single_item, range_item, spell_item, range_of, CCE1s, no_item, more_items, spell_items, ranges_of, First, dash_first, item_first, spell_first, first_of, spell_last, last_of, begins_caret, positive_class, complement_class, spell_ranges, decimal_from, Count, spell_count, count_of, Quantifier, star, plus, option, exactly, at_least, between, spell_quantifier, least, most, Alternatives, last_branch, more_branches, Branch, no_piece, more_pieces, Piece, plain_piece, repeated_piece, Atom, char_atom, dot_atom, escape_atom, class_atom, group_atom, spell_alternatives, spell_branch, spell_piece, spell_atom, spell, meaning, meaning_branch, meaning_piece, meaning_atom}
 use Rattle.regex_definition.specs.Read.{begins, rest, stops, begins_digit, steps, read_ccchar, read_end, read_item, read_first, read_items, read_ranges, read_class, count_from, read_count, read_upper, read_braces, read_quantifier, read_leaf, read_atom, read_piece, read_branch, read_alternatives, read_regexp}
@@ -107,19 +107,19 @@ decimal_grows : (s : List ℕ) (v : ℕ) → v ≤ decimal_from v s
 decimal_grows [] v = le_refl v
 decimal_grows (c ∷ s) v = let h = decimal_grows s (v * 10 + (c - 0x30)) in omega arith
 
-from_read : (s : List ℕ) (v : ℕ) (r : List ℕ) → every is_digit_lem s ≡ true → decimal_from v s ≤ 64 → begins_digit r ≡ false → count_from v (s ++ r) ≡ some (decimal_from v s, r)
+from_read : (s : List ℕ) (v : ℕ) (r : List ℕ) → every is_digit s ≡ true → decimal_from v s ≤ 64 → begins_digit r ≡ false → count_from v (s ++ r) ≡ some (decimal_from v s, r)
 unfolding count_from
 from_read [] v [] e h d = refl
 from_read [] v (c ∷ r) e h d = rw d refl
 from_read (c ∷ s) v r e h d =
-    let t = (and-eq-true_iff (is_digit_lem c) (every is_digit_lem s)).0 e in
+    let t = (and-eq-true_iff (is_digit c) (every is_digit s)).0 e in
     let g = decimal_grows s (v * 10 + (c - 0x30)) in
     rw (t.0, le-leb (v * 10 + (c - 0x30)) 64 (omega arith)) (from_read s (v * 10 + (c - 0x30)) r t.1 h d)
 
 count_read : (n : Count) (r : List ℕ) → begins_digit r ≡ false → read_count (spell_count n r) ≡ some (count_of n, r)
 unfolding read_count
 count_read n r d =
-    let e : every is_digit_lem (n.first ∷ n.more) ≡ true = rw n.is_first n.are_more in
+    let e : every is_digit (n.first ∷ n.more) ≡ true = rw n.is_first n.are_more in
     let f = from_read (n.first ∷ n.more) 0 r e (leb-true (count_of n) 64 n.is_small) d in
     rw n.is_first f
 
@@ -131,7 +131,7 @@ quantifier_read option x r = refl
 quantifier_read (exactly n) x r = rw (count_read n (0x7D ∷ r) refl) refl
 quantifier_read (at_least n) x r = rw (count_read n (0x2C ∷ 0x7D ∷ r) refl) refl
 quantifier_read (between n m) x r =
-    rw (count_read n (0x2C ∷ spell_count m (0x7D ∷ r)) refl, apart is_digit_lem m.first 0x7D m.is_first refl, count_read m (0x7D ∷ r) refl) refl
+    rw (count_read n (0x2C ∷ spell_count m (0x7D ∷ r)) refl, apart is_digit m.first 0x7D m.is_first refl, count_read m (0x7D ∷ r) refl) refl
 
 -- no quantifier stands here
 record Free (r : List ℕ) : Type 0 where

@@ -3,7 +3,7 @@ use Rattle.std.specs.Prelude.{◌≡◌, refl, Bool, true, false, cond, ◌&&◌
 use Rattle.std.proofs.Common.{ap, ap₂, sym, ◌∙◌, append_assoc, append-nil, arith, le-leb, leb-true}
 use Rattle.std.proofs.Math.Bool.{and-eq-true_iff}
 use Rattle.std.proofs.Math.Option.{Option, none, some}
-use Rattle.regex_definition.specs.Chars.{every, is_normal, is_escaped, is_class_char, is_digit_lem, escape_value}
+use Rattle.regex_definition.specs.Chars.{every, is_normal, is_escaped, is_class_char, is_digit, escape_value}
 use Rattle.regex_definition.specs.Words.{Most, upto, any}
 use Rattle.regex_definition.specs.Regexp.{Range, Regexp, empty, class, then, or, times}
 use Rattle.regex_definition.specs.Grammar.{only, char, dot, bare_char, escaped_char, spell_ccchar, char_of, single_item, range_item, spell_item, range_of, CCE1s, no_item, more_items, spell_items, ranges_of, First, dash_first, item_first, spell_first, first_of, spell_last, last_of, begins_caret, positive_class, complement_class, spell_ranges, spell_class, meaning_class, decimal_from, Count, spell_count, count_of, Quantifier, star, plus, option, exactly, at_least, between, spell_quantifier, least, most, last_branch, more_branches, no_piece, more_pieces, plain_piece, repeated_piece, char_atom, dot_atom, escape_atom, class_atom, group_atom, spell_alternatives, spell_branch, spell_piece, spell_atom, meaning, meaning_branch, meaning_piece, meaning_atom}
@@ -185,7 +185,7 @@ class_sound n s x r e =
 
 record Digits (v : ℕ) (s : List ℕ) (w : ℕ) (r : List ℕ) : Type 0 where
   pub digits : List ℕ
-  pub good : every is_digit_lem digits ≡ true
+  pub good : every is_digit digits ≡ true
   pub spells : s ≡ digits ++ r
   pub means : w ≡ decimal_from v digits
   pub small : w ≤ 64
@@ -194,7 +194,7 @@ from_sound : (s : List ℕ) (v w : ℕ) (r : List ℕ) → v ≤ 64 → count_fr
 unfolding count_from
 from_sound [] v w r h e = let q : v ≡ w = some_left e in record { digits = []; good = refl; spells = some_right e; means = sym q; small = omega arith }
 from_sound (c ∷ s) v w r h e =
-    by_test (is_digit_lem c)
+    by_test (is_digit c)
     (λ t.
     by_test (leb (v * 10 + (c - 0x30)) 64)
     (λ u.
@@ -210,7 +210,7 @@ count_sound : (s : List ℕ) (w : ℕ) (r : List ℕ) → read_count s ≡ some 
 unfolding read_count count_from
 count_sound [] w r e = absurd (none_some e)
 count_sound (c ∷ s) w r e =
-    by_test (is_digit_lem c)
+    by_test (is_digit c)
     (λ t.
     by_test (leb (0 * 10 + (c - 0x30)) 64)
     (λ u.

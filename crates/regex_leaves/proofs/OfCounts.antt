@@ -9,7 +9,7 @@ use native.Mathlib.Omega.{arith}
 use borrow.Author.Tests.{le-leb, lt-leb, leb-true}
 use lib.Dec.{leb}
 use lib.ListN.{length, drop, get_or, drop_of_length-le}
-use Rattle.regex_definition.specs.Chars.{is_digit_lem}
+use Rattle.regex_definition.specs.Chars.{is_digit}
 use Rattle.regex_definition.specs.Words.{Most}
 use Rattle.regex_definition.specs.Read.{begins, begins_digit, count_from, read_count, read_upper, read_braces, read_quantifier}
 use Rattle.regex_leaves.specs.Reads.{ReadChar, ReadBraces, ReadQuantifier}
@@ -29,7 +29,7 @@ same_braces e h (braces-endless b lo o f t) = braces-endless b lo (e ∙ o) (ome
 same_braces e h (braces-none o) = braces-none (e ∙ o)
 
 -- the bounds of a digit
-pub digit_bounds : (c : ℕ) → is_digit_lem c ≡ true → (0x30 ≤ c) × (c ≤ 0x39)
+pub digit_bounds : (c : ℕ) → is_digit c ≡ true → (0x30 ≤ c) × (c ≤ 0x39)
 digit_bounds c e = let t = (and-eq-true_iff (leb 0x30 c) (leb c 0x39)).0 e in (leb-true 0x30 c t.0, leb-true c 0x39 t.1)
 
 module _ (s : List ℕ) (at : ℕ) where
@@ -48,15 +48,15 @@ module _ (s : List ℕ) (at : ℕ) where
     unfolding count_from
     digits_end h = char-next i v (g.is ∙ rw (drop_of_length-le s h)) g.from g.to
 
-    pub digits_stop : i < length s → is_digit_lem (get_or s i 0) ≡ false → ReadChar (count_from 0 (drop at s)) s at (Some (i, v))
+    pub digits_stop : i < length s → is_digit (get_or s i 0) ≡ false → ReadChar (count_from 0 (drop at s)) s at (Some (i, v))
     unfolding count_from
     digits_stop h e = char-next i v (g.is ∙ rw (drop_at s i h, e)) g.from g.to
 
-    pub digits_many : i < length s → is_digit_lem (get_or s i 0) ≡ true → 64 < v * 10 + (get_or s i 0 - 0x30) → ReadChar (count_from 0 (drop at s)) s at None
+    pub digits_many : i < length s → is_digit (get_or s i 0) ≡ true → 64 < v * 10 + (get_or s i 0 - 0x30) → ReadChar (count_from 0 (drop at s)) s at None
     unfolding count_from
     digits_many h e m = char-stop (g.is ∙ rw (drop_at s i h, e, lt-leb (v * 10 + (get_or s i 0 - 0x30)) 64 m))
 
-    pub passed_more : i < length s → is_digit_lem (get_or s i 0) ≡ true → v * 10 + (get_or s i 0 - 0x30) ≤ 64 → Passed (i + 1) (v * 10 + (get_or s i 0 - 0x30))
+    pub passed_more : i < length s → is_digit (get_or s i 0) ≡ true → v * 10 + (get_or s i 0 - 0x30) ≤ 64 → Passed (i + 1) (v * 10 + (get_or s i 0 - 0x30))
     unfolding count_from
     passed_more h e m =
         record {

@@ -1,6 +1,6 @@
 // Quantifiers: the signs, and counted repeats to 64.
 ghost use Rattle.std.specs.Prelude.{◌≡◌, ◌+◌, ◌≤◌, length, drop};
-ghost use Rattle.regex_definition.specs.Chars.{is_digit_lem};
+ghost use Rattle.regex_definition.specs.Chars.{is_digit};
 ghost use Rattle.regex_definition.specs.Read.{begins_digit, count_from, read_count, read_upper, read_braces};
 ghost use Rattle.regex_leaves.specs.Reads.{ReadChar, ReadBraces, ReadQuantifier};
 
@@ -18,7 +18,7 @@ pub enum Quant {
 const MAX_REPEAT: u32 = 64;
 
 fn is_digit(c: u32) -> bool
-    ensures { result ≡ is_digit_lem c }
+    ensures { result ≡ is_digit c }
 {
     within(0x30, 0x39, c)
 }

@@ -5,7 +5,7 @@ use mathlib.Core.Bool.{true, false}
 use native.Mathlib.Omega.{arith}
 use lib.IntN.{ℤ, pos, negsuc, neg_ℤ, nat_abs, sub_ℕ, ◌+ℤ◌}
 use lib.Signed.{lt_z}
-use Rattle.definition.specs.Slices.{walk_places, goes_on_lem}
+use Rattle.definition.specs.Slices.{walk_places, goes_on}
 use Rattle.slices.specs.Walks.{places_from, Turns, Within, Walks, walked, Between}
 use Rattle.slices.specs.Walking.{turns_few, up, down, from_end, from_end_none}
 use Rattle.slices.specs.declared.Walk.{Walk}
@@ -24,7 +24,7 @@ within_down n i e step (suc l) a t = (a, omega (arith, t.needed l refl))
 
 module _ (n i e : ℕ) where
   pub walk_nowhere : (step : ℕ) → step ≡ 0 → Walks n (pos i) (sub_ℕ e 1) (pos step) (record { at = i; left = 0; step = step; down = false })
-  unfolding walked places_from walk_places goes_on_lem Within
+  unfolding walked places_from walk_places goes_on Within
   walk_nowhere zero h = record { places = refl; inside = record { within = tt } }
   walk_nowhere (suc k) h = absurd (omega arith)
 

@@ -7,7 +7,7 @@ use Rattle.std.proofs.Math.Option.{Option, none, some}
 use Rattle.std.proofs.Math.IntN.{sub_ℕ}
 use Rattle.definition.specs.Bytes.{every}
 use Rattle.definition.specs.Limits.{max_int, max_nodes}
-use Rattle.definition.specs.Slices.{add_once, element_at, index_places, clamp, slice_step, given_start, given_stop, slice_start, slice_stop, goes_on_lem, walk_places, slice_places}
+use Rattle.definition.specs.Slices.{add_once, element_at, index_places, clamp, slice_step, given_start, given_stop, slice_start, slice_stop, goes_on, walk_places, slice_places}
 use Rattle.slices.specs.Walks.{places_from, Turns}
 use Rattle.slices.specs.Walking.{Difference, difference, stop_behind, up, down}
 use Rattle.slices.specs.Walking.Difference.{under, over}
@@ -32,7 +32,7 @@ element_below n (negsuc k) r h = h
 walk_below : (f n : ℕ) (i b s : ℤ) → every (below n) (walk_places f n i b s) ≡ true
 unfolding walk_places
 walk_below zero n i b s = refl
-walk_below (suc f) n i b s = go (goes_on_lem s i b) (element_below n i (walk_places f n (i +ℤ s) b s) (walk_below f n (i +ℤ s) b s))
+walk_below (suc f) n i b s = go (goes_on s i b) (element_below n i (walk_places f n (i +ℤ s) b s) (walk_below f n (i +ℤ s) b s))
   where
     go : (t : Bool) → every (below n) (element_at n i ++ walk_places f n (i +ℤ s) b s) ≡ true → every (below n) (cond t (element_at n i ++ walk_places f n (i +ℤ s) b s) []) ≡ true
     go true h = h
@@ -178,7 +178,7 @@ module _ (n : ℕ) (s : ℤ) where
 
 -- A step of 0 selects nothing.
 pub step_zero : (n : ℕ) (a b : Option ℤ) → slice_places n a b (some (pos 0)) ≡ []
-unfolding slice_places slice_step walk_places goes_on_lem
+unfolding slice_places slice_step walk_places goes_on
 step_zero n a b = refl
 
 -- a number that is not negative is left as it is
@@ -207,7 +207,7 @@ pub slice_reversed : (n : ℕ) → slice_places (suc n) none none (some (negsuc 
 slice_reversed n = whole_down n 0 (suc n) (omega arith) (record { enough = omega arith; needed = λ m e. omega arith })
 
 pub slice_reversed_none : slice_places 0 none none (some (negsuc 0)) ≡ []
-unfolding slice_places slice_step slice_start slice_stop given_start given_stop add_once clamp walk_places goes_on_lem element_at
+unfolding slice_places slice_step slice_start slice_stop given_start given_stop add_once clamp walk_places goes_on element_at
 slice_reversed_none = refl
 
 -- one place, where a step leads out of the list

@@ -3,7 +3,7 @@ use Rattle.std.specs.Prelude.{ℕ, zero, suc, ◌+◌, ◌-◌, ◌*◌, ◌≤�
 use Rattle.std.proofs.Common.{zero-le, sym, ap, suc-mul, mul-suc, arith, ltb-true, ltb-false, lt-ltb, le-ltb, leb-true, leb-false}
 use Rattle.std.proofs.Math.IntN.{sub_ℕ}
 use Rattle.std.specs.Int.Signed.{lt_z}
-use Rattle.definition.specs.Slices.{walk_places, goes_on_lem, element_at}
+use Rattle.definition.specs.Slices.{walk_places, goes_on, element_at}
 use Rattle.slices.specs.Walks.{places_from, moved, Turns}
 
 -- ---- differences
@@ -83,7 +83,7 @@ not_before (suc m) i h = rw (stop_behind m) (le-ltb i m (omega arith))
 -- ---- upwards
 
 pub up : (f n i e k l : ℕ) → e ≤ suc n → l ≤ f → Turns (i + 1) e (suc k) l → walk_places f n (pos i) (sub_ℕ e 1) (pos (suc k)) ≡ places_from false (suc k) i l
-unfolding walk_places goes_on_lem element_at places_from moved
+unfolding walk_places goes_on element_at places_from moved
 up zero n i e k zero a h t = refl
 up zero n i e k (suc l) a h t = absurd (omega arith)
 up (suc f) n i e k zero a h t = rw (not_before e i (omega (arith, t.enough)))
@@ -95,7 +95,7 @@ up (suc f) n i e k (suc l) a h t =
 
 -- below 0 the walk is over
 over_below : (f n e k j : ℕ) → walk_places f n (negsuc j) (sub_ℕ e 1) (negsuc k) ≡ []
-unfolding walk_places goes_on_lem
+unfolding walk_places goes_on
 over_below zero n e k j = refl
 over_below (suc f) n e k j = rw (below_all e j)
 
@@ -106,7 +106,7 @@ down_on f n i e k l z (under g) h again = rw (one_turn i l (suc k) h g) (over_be
 down_on f n i e k l z (over g) h again = again g
 
 pub down : (f n i e k l : ℕ) → i < n → l ≤ f → Turns e (i + 1) (suc k) l → walk_places f n (pos i) (sub_ℕ e 1) (negsuc k) ≡ places_from true (suc k) i l
-unfolding walk_places goes_on_lem element_at places_from moved
+unfolding walk_places goes_on element_at places_from moved
 down zero n i e k zero a h t = refl
 down zero n i e k (suc l) a h t = absurd (omega arith)
 down (suc f) n i e k zero a h t = rw (not_above e i (omega (arith, t.enough)))
@@ -118,7 +118,7 @@ down (suc f) n i e k (suc l) a h t =
 
 -- from a place n, which selects nothing, the walk goes on a step below it
 pub from_end : (n e k l : ℕ) → suc k ≤ n → Turns e (n - suc k + 1) (suc k) l → walk_places (suc n) n (pos n) (sub_ℕ e 1) (negsuc k) ≡ places_from true (suc k) (n - suc k) l
-unfolding walk_places goes_on_lem element_at places_from
+unfolding walk_places goes_on element_at places_from
 from_end n e k l a t = go (leb e n) refl
   where
     none_left : (l : ℕ) → n < e → Turns e (n - suc k + 1) (suc k) l → places_from true (suc k) (n - suc k) l ≡ []
@@ -135,7 +135,7 @@ from_end n e k l a t = go (leb e n) refl
 
 -- where even a step below n is below 0, nothing is selected
 pub from_end_none : (n e k : ℕ) → n < suc k → walk_places (suc n) n (pos n) (sub_ℕ e 1) (negsuc k) ≡ []
-unfolding walk_places goes_on_lem element_at
+unfolding walk_places goes_on element_at
 from_end_none n e k a = go (lt_z (sub_ℕ e 1) (pos n))
   where
     below : (z : ℤ) → Difference n (suc k) z → walk_places n n z (sub_ℕ e 1) (negsuc k) ≡ []

@@ -6,7 +6,7 @@ use mathlib.Core.Bool.{Bool, true, false, cond}
 use borrow.Author.Tests.{eq-eqb, ne_eqb}
 use Rattle.definition.specs.Tables.{check_table}
 use Rattle.definition.specs.Tables.Checked.{accepted}
-use Rattle.definition.specs.TableOutcomes.{TableOutcome, PartOutcome, part_by_lem, table_outcome}
+use Rattle.definition.specs.TableOutcomes.{TableOutcome, PartOutcome, part_by, table_outcome}
 use Rattle.table_laws.specs.Outcomes.{report_accepted, report_sized, report_wrong, report_text, number_sized, number_wrong, number_text}
 use Rattle.table_laws.specs.Places.{Begins, part_start}
 use Rattle.std.specs.Prelude.{Ok, Err}
@@ -21,7 +21,7 @@ module _ (T X : List ℕ) where
   says_accepted h = report_accepted (check_table T X) (ap (λ (o : TableOutcome). o.refusal) (sym h))
 
   -- the number of a refusal is that of text of a node and of key of a node
-  pub number_refused : (r : TableRefusal) (b : Bool) (s : List ℕ) → reported (Err r) ≡ table_outcome T X → (part_by_lem (check_table T X) b s).number ≡ (reported (Err r)).refusal
+  pub number_refused : (r : TableRefusal) (b : Bool) (s : List ℕ) → reported (Err r) ≡ table_outcome T X → (part_by (check_table T X) b s).number ≡ (reported (Err r)).refusal
   unfolding reported table_outcome
   number_refused WrongSize b s h = number_sized (check_table T X) b s (report_sized (check_table T X) (ap (λ (o : TableOutcome). o.refusal) (sym h)))
   number_refused (WrongNode i) b s h = number_wrong (check_table T X) b s _ (report_wrong (check_table T X) (ap (λ (o : TableOutcome). o.refusal) (sym h)))

@@ -7,7 +7,7 @@ use Rattle.std.proofs.Math.Option.{Option, none, some}
 use borrow.Author.Tests.{ltb-true, eqb-true, lt-ltb, le-ltb}
 use Rattle.definition.specs.Tables.{Checked, node_count, kind_at, key_start, key_length, low_word, high_word, kind_text, kind_map, first_child, good_part, parent_below, parent_of}
 use Rattle.definition.specs.Tables.Checked.{accepted, sized, wrong_at, text_at}
-use Rattle.definition.specs.TableOutcomes.{TableOutcome, report_table, PartOutcome, refused_part, found_part, part_by_lem, has_text, is_member, has_key}
+use Rattle.definition.specs.TableOutcomes.{TableOutcome, report_table, PartOutcome, refused_part, found_part, part_by, has_text, is_member, has_key}
 use Rattle.basics.specs.Bools.{and_left, and_not_left, and_not_right, and_right}
 use Rattle.table_laws.specs.Counts.{counts_next}
 use Rattle.table_laws.specs.Parents.{InRange, parent_found}
@@ -45,29 +45,29 @@ report_text (text_at i) h = refl
 
 module _ (c : Checked) (b : Bool) (s : List ℕ) where
   -- the number, by what the check came to and whether there is such a text
-  pub number_sized : c ≡ sized → (part_by_lem c b s).number ≡ 9
-  unfolding part_by_lem refused_part
-  number_sized e = ap (λ (x : Checked). (part_by_lem x b s).number) e
+  pub number_sized : c ≡ sized → (part_by c b s).number ≡ 9
+  unfolding part_by refused_part
+  number_sized e = ap (λ (x : Checked). (part_by x b s).number) e
 
-  pub number_wrong : (i : ℕ) → c ≡ wrong_at i → (part_by_lem c b s).number ≡ 10
-  unfolding part_by_lem refused_part
-  number_wrong i e = ap (λ (x : Checked). (part_by_lem x b s).number) e
+  pub number_wrong : (i : ℕ) → c ≡ wrong_at i → (part_by c b s).number ≡ 10
+  unfolding part_by refused_part
+  number_wrong i e = ap (λ (x : Checked). (part_by x b s).number) e
 
-  pub number_text : (i : ℕ) → c ≡ text_at i → (part_by_lem c b s).number ≡ 17
-  unfolding part_by_lem refused_part
-  number_text i e = ap (λ (x : Checked). (part_by_lem x b s).number) e
+  pub number_text : (i : ℕ) → c ≡ text_at i → (part_by c b s).number ≡ 17
+  unfolding part_by refused_part
+  number_text i e = ap (λ (x : Checked). (part_by x b s).number) e
 
-  pub number_lacking : c ≡ accepted → b ≡ false → (part_by_lem c b s).number ≡ 15
-  unfolding part_by_lem found_part refused_part
-  number_lacking e f = ap (λ (x : Checked). (part_by_lem x b s).number) e ∙ ap (λ (x : Bool). (found_part x s).number) f
+  pub number_lacking : c ≡ accepted → b ≡ false → (part_by c b s).number ≡ 15
+  unfolding part_by found_part refused_part
+  number_lacking e f = ap (λ (x : Checked). (part_by x b s).number) e ∙ ap (λ (x : Bool). (found_part x s).number) f
 
-  pub number_found : c ≡ accepted → b ≡ true → (part_by_lem c b s).number ≡ 0
-  unfolding part_by_lem found_part
-  number_found e f = ap (λ (x : Checked). (part_by_lem x b s).number) e ∙ ap (λ (x : Bool). (found_part x s).number) f
+  pub number_found : c ≡ accepted → b ≡ true → (part_by c b s).number ≡ 0
+  unfolding part_by found_part
+  number_found e f = ap (λ (x : Checked). (part_by x b s).number) e ∙ ap (λ (x : Bool). (found_part x s).number) f
 
 -- the number 0 is answered with the part, after a check that accepts, where there is such a text
-pub found_whole : (c : Checked) (b : Bool) (s : List ℕ) → (part_by_lem c b s).number ≡ 0 → (c ≡ accepted) × (b ≡ true) × ((part_by_lem c b s).part ≡ s)
-unfolding part_by_lem found_part refused_part
+pub found_whole : (c : Checked) (b : Bool) (s : List ℕ) → (part_by c b s).number ≡ 0 → (c ≡ accepted) × (b ≡ true) × ((part_by c b s).part ≡ s)
+unfolding part_by found_part refused_part
 found_whole accepted true s h = (refl, refl, refl)
 found_whole accepted false s h = absurd (omega arith)
 found_whole sized b s h = absurd (omega arith)
@@ -75,8 +75,8 @@ found_whole (wrong_at i) b s h = absurd (omega arith)
 found_whole (text_at i) b s h = absurd (omega arith)
 
 -- a refusal is answered with an empty part
-pub refused_empty : (c : Checked) (b : Bool) (s : List ℕ) → ((part_by_lem c b s).number ≡ 0 → ⊥) → (part_by_lem c b s).part ≡ []
-unfolding part_by_lem found_part refused_part
+pub refused_empty : (c : Checked) (b : Bool) (s : List ℕ) → ((part_by c b s).number ≡ 0 → ⊥) → (part_by c b s).part ≡ []
+unfolding part_by found_part refused_part
 refused_empty accepted true s h = absurd (h refl)
 refused_empty accepted false s h = refl
 refused_empty sized b s h = refl

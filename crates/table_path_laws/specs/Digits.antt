@@ -4,7 +4,7 @@ use Rattle.std.proofs.Common.{sym, ap, ◌∙◌, append-nil, append_assoc, leng
 use Rattle.std.proofs.Math.Bool.{and-eq-true_iff}
 use borrow.Author.Tests.{ltb-true, ltb-false, lt-ltb}
 use Rattle.definition.specs.Bytes.{every}
-use Rattle.definition.specs.Lexical.{is_digit_lem, is_digit1, Natural}
+use Rattle.definition.specs.Lexical.{is_digit, is_digit1, Natural}
 use Rattle.definition.specs.Literals.{decimal_from, decimal, natural_digits}
 use Rattle.utf8_laws.specs.Bytes.{by_test, inside, inside_low, inside_high}
 use Rattle.utf8_laws.specs.Scan.{every_append, front, front_all, behind, behind_all}
@@ -21,8 +21,8 @@ pub record Wrote (n : ℕ) (s : List ℕ) : Type 0 where
   pub first : ℕ
   pub more : List ℕ
   pub is : s ≡ first ∷ more
-  pub is_first : is_digit_lem first ≡ true
-  pub are_more : every is_digit_lem more ≡ true
+  pub is_first : is_digit first ≡ true
+  pub are_more : every is_digit more ≡ true
   pub some_first : 0 < n → is_digit1 first ≡ true
   pub value : decimal (first ∷ more) ≡ n
 
@@ -41,13 +41,13 @@ one_digit n l =
 
 more_digits : (n : ℕ) (s : List ℕ) → 10 ≤ n → Wrote (n / 10) s → Wrote n (s ++ ((0x30 + n % 10) ∷ []))
 more_digits n s l w =
-    let d : is_digit_lem (0x30 + n % 10) ≡ true = inside 0x30 0x39 (0x30 + n % 10) (omega arith) (omega arith) in
+    let d : is_digit (0x30 + n % 10) ≡ true = inside 0x30 0x39 (0x30 + n % 10) (omega arith) (omega arith) in
     record {
       first = w.first;
       more = w.more ++ ((0x30 + n % 10) ∷ []);
       is = ap (λ (x : List ℕ). x ++ ((0x30 + n % 10) ∷ [])) w.is;
       is_first = w.is_first;
-      are_more = every_append is_digit_lem w.more ((0x30 + n % 10) ∷ []) w.are_more (rw d);
+      are_more = every_append is_digit w.more ((0x30 + n % 10) ∷ []) w.are_more (rw d);
       some_first = λ h. w.some_first (omega arith);
       value = decimal_last 0 (0x30 + n % 10) (w.first ∷ w.more) ∙ rw w.value (omega arith);
     }
@@ -66,7 +66,7 @@ unfolding written
 wrote n = wrote_up n n (omega arith)
 
 -- they are digits
-pub written_digits : (n : ℕ) → every is_digit_lem (written n) ≡ true
+pub written_digits : (n : ℕ) → every is_digit (written n) ≡ true
 written_digits n = let w = wrote n in rw (w.is, w.is_first) w.are_more
 
 -- they stand for the number
@@ -76,12 +76,12 @@ written_value n = let w = wrote n in ap decimal w.is ∙ w.value
 -- digits end at a bracket, and the number is told from them
 pub written_unique : (m n : ℕ) (r s : List ℕ) → written m ++ (0x5D ∷ r) ≡ written n ++ (0x5D ∷ s) → (m ≡ n) × (r ≡ s)
 written_unique m n r s e =
-    let a = front_all is_digit_lem (written m) (0x5D ∷ r) (written_digits m) refl in
-    let b = front_all is_digit_lem (written n) (0x5D ∷ s) (written_digits n) refl in
-    let c = behind_all is_digit_lem (written m) (0x5D ∷ r) (written_digits m) refl in
-    let d = behind_all is_digit_lem (written n) (0x5D ∷ s) (written_digits n) refl in
-    let same : written m ≡ written n = sym a ∙ ap (front is_digit_lem) e ∙ b in
-    let rest : 0x5D ∷ r ≡ 0x5D ∷ s = sym c ∙ ap (behind is_digit_lem) e ∙ d in
+    let a = front_all is_digit (written m) (0x5D ∷ r) (written_digits m) refl in
+    let b = front_all is_digit (written n) (0x5D ∷ s) (written_digits n) refl in
+    let c = behind_all is_digit (written m) (0x5D ∷ r) (written_digits m) refl in
+    let d = behind_all is_digit (written n) (0x5D ∷ s) (written_digits n) refl in
+    let same : written m ≡ written n = sym a ∙ ap (front is_digit) e ∙ b in
+    let rest : 0x5D ∷ r ≡ 0x5D ∷ s = sym c ∙ ap (behind is_digit) e ∙ d in
     let t : r ≡ s = cc in
     (sym (written_value m) ∙ ap decimal same ∙ written_value n, t)
 
@@ -119,11 +119,11 @@ written_more n d l m =
     ∙ rw (x, y) (ap (λ (s : List ℕ). s ++ ((0x30 + d) ∷ [])) (digits_enough v n n (omega arith) (omega arith)))
 
 -- digits behind a number that is not 0
-written_behind : (n : ℕ) (s : List ℕ) → 0 < n → every is_digit_lem s ≡ true → written (decimal_from n s) ≡ written n ++ s
+written_behind : (n : ℕ) (s : List ℕ) → 0 < n → every is_digit s ≡ true → written (decimal_from n s) ≡ written n ++ s
 unfolding decimal_from
 written_behind n [] l h = sym (append-nil (written n))
 written_behind n (d ∷ s) l h =
-    let t = (and-eq-true_iff (is_digit_lem d) (every is_digit_lem s)).0 h in
+    let t = (and-eq-true_iff (is_digit d) (every is_digit s)).0 h in
     let a = inside_low 0x30 0x39 d t.0 in
     let b = inside_high 0x30 0x39 d t.0 in
     let e : 0x30 + (d - 0x30) ≡ d = omega arith in

@@ -5,7 +5,7 @@ use Rattle.std.proofs.Math.Bool.{and-eq-true_iff}
 use Rattle.std.proofs.lemmas.Bool.{eqb-false, lt-leb}
 use Rattle.definition.specs.Bytes.{within}
 use Rattle.definition.specs.Utf8.{encode, encode_all}
-use Rattle.definition.specs.Lexical.{is_digit_lem, hex_value}
+use Rattle.definition.specs.Lexical.{is_digit, hex_value}
 use Rattle.definition.specs.Literals.{short_value}
 use Rattle.utf8_laws.specs.Bytes.{by_test, inside_low, inside_high}
 use Rattle.utf8_laws.specs.Encode.{encode_one}
@@ -26,7 +26,7 @@ is_normal_letter c = eqb c 0x62 || (eqb c 0x66 || (eqb c 0x6E || (eqb c 0x72 || 
 
 -- normal-HEXDIG = DIGIT / %x61-66
 abbrev pub is_normal_hex : ℕ → Bool
-is_normal_hex c = is_digit_lem c || within 0x61 0x66 c
+is_normal_hex c = is_digit c || within 0x61 0x66 c
 
 -- normal-hexchar = "0" "0" ( ("0" %x30-37) / ("0" %x62) / ("0" %x65-66) / ("1" normal-HEXDIG) ), by its last two characters
 abbrev pub is_normal_hexchar : ℕ → ℕ → Bool
@@ -121,9 +121,9 @@ pub record SmallHex (b : ℕ) : Type 0 where
 
 small_hex : (b : ℕ) → is_normal_hex b ≡ true → SmallHex b
 unfolding hex_digit
-small_hex b h = by (either (is_digit_lem b) (within 0x61 0x66 b) h)
+small_hex b h = by (either (is_digit b) (within 0x61 0x66 b) h)
   where
-    by : (is_digit_lem b ≡ true) ⊎ (within 0x61 0x66 b ≡ true) → SmallHex b
+    by : (is_digit b ≡ true) ⊎ (within 0x61 0x66 b ≡ true) → SmallHex b
     by (inl w) =
         let l = inside_low 0x30 0x39 b w in
         let m = inside_high 0x30 0x39 b w in

@@ -3,7 +3,7 @@ use Rattle.std.specs.Prelude.{ℕ, ◌+◌, ◌-◌, ◌/◌, ◌%◌, ◌≤◌
 use Rattle.std.proofs.Common.{◌∙◌, append_assoc, arith, ne_eqb}
 use Rattle.std.proofs.Math.Bool.{and-eq-true_iff}
 use Rattle.definition.specs.Bytes.{every}
-use Rattle.definition.specs.Lexical.{is_digit_lem}
+use Rattle.definition.specs.Lexical.{is_digit}
 use Rattle.definition.specs.Brackets.{place_after, count_after, too_deep_from, too_deep}
 use Rattle.definition.specs.Brackets.Place.{outside, quoted, escaped}
 use Rattle.utf8_laws.specs.Bytes.{inside_low, inside_high}
@@ -57,10 +57,10 @@ pass_digit : (d : ℕ) (r : List ℕ) → 0x30 ≤ d → d ≤ 0x39 → too_deep
 unfolding too_deep_from place_after count_after
 pass_digit d r l h = rw (ne_eqb d 0x22 (λ e. omega arith), ne_eqb d 0x27 (λ e. omega arith), ne_eqb d 0x5B (λ e. omega arith), ne_eqb d 0x28 (λ e. omega arith), ne_eqb d 0x5D (λ e. omega arith), ne_eqb d 0x29 (λ e. omega arith))
 
-pass_digits : (s r : List ℕ) → every is_digit_lem s ≡ true → too_deep_from outside 1 (s ++ r) ≡ too_deep_from outside 1 r
+pass_digits : (s r : List ℕ) → every is_digit s ≡ true → too_deep_from outside 1 (s ++ r) ≡ too_deep_from outside 1 r
 pass_digits [] r e = refl
 pass_digits (d ∷ s) r e =
-    let t = (and-eq-true_iff (is_digit_lem d) (every is_digit_lem s)).0 e in
+    let t = (and-eq-true_iff (is_digit d) (every is_digit s)).0 e in
     pass_digit d (s ++ r) (inside_low 0x30 0x39 d t.0) (inside_high 0x30 0x39 d t.0) ∙ pass_digits s r t.1
 
 -- a bracket opens, and a bracket closes

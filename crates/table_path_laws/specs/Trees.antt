@@ -14,7 +14,7 @@ use Rattle.definition.specs.Lexical.Int.{zero_int, plain_int}
 use Rattle.definition.specs.Literals.{int_value}
 use Rattle.definition.specs.Grammar as G
 use Rattle.definition.specs.Grammar.{spell_segments, spell_segment}
-use Rattle.definition.specs.Grammar.Segments.{no_segment, more_segments_lem}
+use Rattle.definition.specs.Grammar.Segments.{no_segment, more_segments}
 use Rattle.definition.specs.Grammar.Segment.{child_brackets}
 use Rattle.definition.specs.Grammar.Bracketed.{bracketed}
 use Rattle.definition.specs.Grammar.Selectors.{no_selector}
@@ -110,7 +110,7 @@ tree_more : (s : Step) (ss : List Step) → Segmented s → Treed ss → Treed (
 unfolding spell_steps steps_form walk_segments next also no_blanks
 tree_more s ss x xs =
     record {
-      segments = more_segments_lem no_blanks x.segment xs.segments;
+      segments = more_segments no_blanks x.segment xs.segments;
       spells = ap (spell_segment x.segment) xs.spells ∙ x.spells (spell_steps ss);
       walks = rw (x.walks, xs.walks);
     }

@@ -3,7 +3,7 @@ use Prim.Native.Nat.{◌^◌, ◌<◌}
 use native.Mathlib.Omega.{arith}
 use lib.ListN.{length}
 use Rattle.std.proofs.lemmas.Result.{err_from_is_err_and}
-use Rattle.number_parse.proofs.Together.{whole_at, fraction_at, exponent_at, no_whole, no_fraction, no_exponent_lem, no_end, number_there}
+use Rattle.number_parse.proofs.Together.{whole_at, fraction_at, exponent_at, no_whole, wrong_fraction, no_exponent_lem, no_end, number_there}
 use Rattle.number_parse.proofs.parse_number.Goals as goal
 
 pub returns-in_err-whole : goal.returns-in_err-whole
@@ -17,7 +17,7 @@ read_fraction-requires c = let w = whole_at c.in_ok-whole.ensures in (w.to, omeg
 pub returns-in_err-fraction : goal.returns-in_err-fraction
 returns-in_err-fraction c =
     let p = err_from_is_err_and c.from_residual-in_err-fraction.result c.from_residual-in_err-fraction.ensures.1 in
-    rw (p.1, p.2) (no_fraction _ _ _ _ _ (whole_at c.in_ok-whole.ensures) _ c.in_err-fraction.ensures)
+    rw (p.1, p.2) (wrong_fraction _ _ _ _ _ (whole_at c.in_ok-whole.ensures) _ c.in_err-fraction.ensures)
 
 pub read_exponent-requires : goal.read_exponent-requires
 read_exponent-requires c = (fraction_at c.in_ok-fraction.ensures).to
