@@ -135,7 +135,6 @@ fn apply_selectors(lent: &Lent, state: &mut State, list: &mut &mut [u32], node: 
     ensures done_selectors { DoneSelectors lent.now node pc state.old list.old.now state.new list.new.now }
 {
     let plan = lent.plan;
-    // A loop over m and p: the last selector is left for behind it, so that `for` is no plainer.
     let mut m = bytes::word16(plan, pc + 1);
     let mut p = pc + 3;
     let rest = plans::skip_selectors(plan, p, m);

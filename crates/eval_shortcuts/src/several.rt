@@ -288,7 +288,7 @@ pub fn push_picked(
 {
     let n = bytes::word16(plan, pc + 1);
     let mut near = [0usize; MOST];
-    // A loop over j: the node at which it stops is handed back, so that `for` is no plainer.
+    // A loop over j: its contract asks no order of i and e, and where e is before i it is i that is handed back.
     let mut a = at;
     let mut j = i;
     while j < e {

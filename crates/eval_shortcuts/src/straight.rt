@@ -58,7 +58,7 @@ pub fn push_along(
     requires { AskAlong plan.now pool.now table.now text.now i e rest (length list.old) at cap }
     ensures { DoneAlong plan.now pool.now table.now text.now i e rest cap list.old at list.new result }
 {
-    // A loop over j: the node at which it stops is handed back, so that `for` is no plainer.
+    // A loop over j: its contract asks no order of i and e, and where e is before i it is i that is handed back.
     let mut a = at;
     let mut j = i;
     while j < e {

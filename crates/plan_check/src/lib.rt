@@ -107,7 +107,6 @@ fn sels(plan: &[u8], pool: &[u8], from: usize, start: usize, room: usize, n: usi
     let mut p = start;
     let mut h = 0;
     let mut left = n;
-    // A loop over what is left: a `for` would call `sel` at two places, since the last answer's sort is the segment's.
     loop {
         let g = sel(plan, pool, at, p, room)?;
         at = g.at;

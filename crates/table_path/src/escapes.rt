@@ -8,7 +8,7 @@ ghost use Rattle.table_path.specs.Words.{letter_of};
 pub fn letter_of(b: u8) -> Option<u8>
     ensures { result ≡ letter_of b }
 {
-    // A row of tests and no `match`: over numbers it keeps no fact for the arm `_` that a proof can name.
+    // A row of tests: with a `match` the goal of its arm `_` did not close.
     if b == 0x08 {
         return Some(b'b');
     }

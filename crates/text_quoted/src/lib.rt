@@ -83,6 +83,7 @@ pub fn unescape_string(
     ensures { Unescaping (quote_of quote) s.now at out.old len out.new result }
 {
     let mut so_far = Unescaped { next: at, end: len };
+    // A loop: how many parts a text has is known only at its closing quote.
     loop {
         match read_part(s, so_far.next, quote, out, so_far.end)? {
             Turn::On(part) => so_far = part,
