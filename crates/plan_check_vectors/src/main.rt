@@ -89,6 +89,8 @@ fn verdict(rt: &impl Print, code: &[u8], pool: &[u8]) -> io::Result<()> {
 // The verdict on a line.
 fn line(rt: &impl Print, s: &[u8], code: &mut [u8], pool: &mut [u8]) -> io::Result<()> {
     let Some(blank) = s.iter().position(|&b| b == b' ') else {
+        // No verdict; but what the line spells stands in the room, where a star of a later line that looks back by nothing keeps it.
+        decode(s, code);
         return Ok(());
     };
     let n = decode(&s[..blank], code);
