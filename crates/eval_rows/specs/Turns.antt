@@ -30,7 +30,7 @@ use Rattle.regex_match.specs.Tested.{Tested}
 use Rattle.regex_rooms.specs.Rooms.{scope_for, scope_for_lem}
 use Rattle.eval_rows.specs.declared.calls.Call.{Call}
 use Rattle.eval_rows.specs.Paths.{DoneFollow, leads_end, leads_low}
-use Rattle.eval_rows.specs.Calls.{CallAt, AskText, DoneCall, call_told, left_near}
+use Rattle.eval_rows.specs.Calls.{CallAt, AskText, DoneCall, Spelled, call_told, left_near}
 use Rattle.eval_rows.specs.Known.{Ready, Knows}
 
 -- ---- the text of a node
