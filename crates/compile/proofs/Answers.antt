@@ -324,5 +324,8 @@ pub rooms_of : {s P L : List ℕ} → Enough s P L → early s ≡ 0 → Rooms s
 rooms_of {s} e h = record { enough = e; utf8 = passed_utf8 s h }
 
 -- The largest rooms take every query.
+pub enough_for_all : {s P L : List ℕ} → early s ≡ 0 → length P ≡ 61440 → length L ≡ 4096 → Enough s P L
+enough_for_all {s} h p l = let n = passed_short s h in record { plan = omega arith; pool = omega arith; small = omega arith; small_pool = omega arith }
+
 pub sizes_for_all : (s : List ℕ) → early s ≡ 0 → Sizes s 61440 4096
 sizes_for_all s h = let n = passed_short s h in (omega arith, omega arith, omega arith, omega arith)

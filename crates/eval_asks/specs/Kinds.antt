@@ -315,8 +315,12 @@ module _ {v : Lent} {root i e p z j : ℕ} (t : InNext v root i e p z j) where
   pub next_found : {b call : Bits} → (call ≡ false → DoneTest (plan_of v) (pool_of v) (table_of v) (text_of v) root j p z b) → b ≡ true → DoneNext v root i e p z j call
   next_found d b = record { low = t.low; high = t.high; passed = t.passed; holds = λ n h x k y. sym (d n x k y) ∙ b }
 
-  pub next_none : {call : Bits} → e ≤ j → j ≤ e → DoneNext v root i e p z e call
-  next_none h n = record { low = omega (arith, t.low); high = λ y. omega arith; passed = λ x k y m u w. t.passed x k y m u (omega arith); holds = λ y w. absurd (omega arith) }
+  pub next_none : {call : Bits} → e ≤ j → DoneNext v root i e p z j call
+  next_none h = record { low = t.low; high = t.high; passed = t.passed; holds = λ n y. absurd (omega arith) }
+
+  -- the same, said of the range's end
+  pub next_end : {call : Bits} → e ≤ j → j ≤ e → DoneNext v root i e p z e call
+  next_end h n = record { low = omega (arith, t.low); high = λ y. omega arith; passed = λ x k y m u w. t.passed x k y m u (omega arith); holds = λ y w. absurd (omega arith) }
 
   pub next_again : {b : Bits} → j < e → DoneTest (plan_of v) (pool_of v) (table_of v) (text_of v) root j p z b → b ≡ false → InNext v root i e p z (j + 1)
   next_again h d b =

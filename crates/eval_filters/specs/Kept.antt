@@ -1,7 +1,7 @@
 -- The nodes of a range for which a test holds: what is asked and given, the invariant of the loop over them, and its turns. Each answer holds for every form whose
 -- code stands there. P is the plan, L the pool, S the table, X the text. Assumes nothing.
 use Rattle.std.specs.Prelude.{ℕ, ◌+◌, ◌≤◌, ◌<◌, ◌≡◌, List, Bool as Bits, true, false, length}
-use Rattle.std.proofs.Common.{sym, ap, ◌∙◌, arith}
+use Rattle.std.proofs.Common.{sym, ap, ◌∙◌, subst, arith}
 use Rattle.definition.specs.Forms.{Segments, Test, Selector}
 use Rattle.definition.specs.Plans.{code_test}
 use Rattle.definition.specs.Tables.{node_count, node_at}
@@ -10,7 +10,8 @@ use Rattle.text.specs.Words.{Word}
 use Rattle.eval_laws.specs.States.{st}
 use Rattle.eval_laws.specs.Steps.{kept, kept_in, kept_out}
 use Rattle.eval_laws.specs.Items.{SegmentsAt, TestAt, Filtered}
-use Rattle.eval_front.specs.Visits.{cap_limit, Given, Query, Emitted, over}
+use Rattle.eval_front.specs.Visits.{cap_limit, Given, Query, Emitted, Stopped, Paused, over}
+use Rattle.eval_front.specs.declared.More.{More}
 use Rattle.eval_front.specs.Overs.{over_step, over_end, over_full}
 
 -- ---- a test
@@ -55,6 +56,13 @@ pub record InKept (P L S X : List ℕ) (root i e p z rest cap : ℕ) (l₀ : Lis
   pub again : (t : Test) (k : ℕ) (f : Segments) (k' : ℕ) → Tested P L p z t k → SegmentsAt P L rest k' f
       → over f (node_at S X root) (kept t (node_at S X root)) S X j e (st cap l a) ≡ over f (node_at S X root) (kept t (node_at S X root)) S X i e (st cap l₀ a₀)
 
+-- the visit of node j, which the test keeps, stops: all before it are done, and it is paused
+pub record DoneKept (P L S X : List ℕ) (root i e p z rest cap : ℕ) (l₀ : List ℕ) (a₀ : ℕ) (l' : List ℕ) (a j : ℕ) (m : More) : Type 0 where
+  pub kept_before : InKept P L S X root i e p z rest cap l₀ a₀ l' a j
+  pub high : j < e
+  pub holds : (t : Test) (k : ℕ) → Tested P L p z t k → eval_test t (node_at S X root) (node_at S X j) ≡ true
+  pub paused : Paused P L S X j rest m.node m.pc
+
 -- ---- the turns of the loop
 
 module _ {P L S X : List ℕ} {root i e p z rest cap : ℕ} {l₀ : List ℕ} {a₀ : ℕ} {l : List ℕ} {a j : ℕ} (t : InKept P L S X root i e p z rest cap l₀ a₀ l a j) where
@@ -87,4 +95,13 @@ module _ {P L S X : List ℕ} {root i e p z rest cap : ℕ} {l₀ : List ℕ} {a
               over_step f (node_at S X root) (kept x (node_at S X root)) S X j e (st cap l a) (st cap l' a') h
               (kept_in f x (node_at S X root) (node_at S X j) (st cap l a) (st cap l' a') (sym (y x k b) ∙ n) (d.ended f k' c (node_at S X root)))
               ∙ t.again x k f k' b c;
+        }
+
+    pub kept_stop : r ≡ true → {l' : List ℕ} {m : More} → Stopped P L S X j rest l l' m → DoneKept P L S X root i e p z rest cap l₀ a₀ l' a j m
+    kept_stop n {l'} {m} s =
+        record {
+          kept_before = subst (λ (k : List ℕ). InKept P L S X root i e p z rest cap l₀ a₀ k a j) (sym s.places) t;
+          high = h;
+          holds = λ x k b. sym (y x k b) ∙ n;
+          paused = s.paused;
         }

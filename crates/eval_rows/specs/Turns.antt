@@ -124,6 +124,13 @@ module _ {P L S X : List ℕ} {root node z : ℕ} {g : Call} (a : AskLeft P L S 
     call_by : (u : Bits) → u ≡ regex_test (scope_for g.kind) y.now (part L g.start g.size) → DoneCall P L S X root node z g u
     call_by u i = call_told a r from b t.value u (tested_as u i) t.first
 
+    -- by the part of the pool as the code cuts it
+    pub call_alone : (u : Bits) → u ≡ regex_test (scope_for g.kind) y.now (take (g.start + g.size - g.start) (drop g.start L)) → DoneCall P L S X root node z g u
+    call_alone u h = call_by u (h ∙ ap (regex_test (scope_for g.kind) y.now) (cut L g.start g.size))
+
+    pub cut_utf8 : is_utf8 y.now ≡ true
+    cut_utf8 = t.inside y e
+
     pub call_outside : {code : List ℕ} {known : ℕ} → Ready (scope_for g.kind) (part L g.start g.size) code known → known ≡ 1 → DoneCall P L S X root node z g false
     call_outside q i = call_by false (q.outside i _)
 

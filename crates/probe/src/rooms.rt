@@ -1,4 +1,6 @@
 // Rooms that are lent, with bytes that are known.
+ghost use Rattle.std.specs.Prelude.{◌≡◌, IfOk, vec_len, take};
+
 use crate::calls::Fault;
 use program_console::output;
 use std::alloc::{AllocError, Global};
@@ -9,8 +11,10 @@ const ROOM: usize = 65536;
 // What every lent byte holds before the call.
 const FILL: u8 = 0xa5;
 
-// A room of a size.
-pub fn filled(alloc: Global, size: usize) -> Result<Vec<u8>, Fault> {
+// A room of a size, unless it is more than is ever lent or memory runs out.
+pub fn filled(alloc: Global, size: usize) -> Result<Vec<u8>, Fault>
+    ensures { IfOk result (λ room. vec_len room ≡ size) }
+{
     if ROOM < size {
         return Err(Fault::TooLong);
     }
@@ -31,6 +35,8 @@ pub fn is_changed(room: &[u8], n: usize) -> bool {
 }
 
 // The first n bytes of a room, or all if it has fewer.
-pub fn first(room: &[u8], n: usize) -> &[u8] {
+pub fn first(room: &[u8], n: usize) -> &[u8]
+    ensures { result.now ≡ take n room.now }
+{
     room.get(..n).unwrap_or(room)
 }

@@ -2,7 +2,7 @@
 use crate::calls::{Fault, LARGE_ROOM};
 use program_console::output;
 use program_lines::words::Words;
-use std::alloc::{AllocError, Global};
+use std::alloc::Global;
 use tally::KINDS;
 
 // A count has eight bytes.
@@ -21,7 +21,7 @@ pub fn take(rt: &impl Print, alloc: Global, mut words: Words) -> Result<(), Faul
     let refusal = tally::tally(&plan, &pool, &mut counts, &mut plans);
     if refusal == 0 {
         output::text(rt, b"ok ")?;
-        output::bytes(rt, &bytes_of(alloc, &counts)?)?;
+        output::bytes(rt, &bytes_of(&counts))?;
         output::next_number(rt, plans as usize)?;
     } else {
         output::text(rt, b"refused")?;
@@ -41,10 +41,10 @@ fn counts_of(bytes: &[u8]) -> [u64; KINDS] {
 }
 
 // Counts as bytes, the least byte of each first.
-fn bytes_of(alloc: Global, counts: &[u64]) -> Result<Vec<u8>, AllocError> {
-    let mut bytes = Vec::new(alloc);
-    for count in counts {
-        bytes.extend_from_slice(&count.to_le_bytes())?;
+fn bytes_of(counts: &[u64; KINDS]) -> [u8; COUNTS_BYTES] {
+    let mut bytes = [0u8; COUNTS_BYTES];
+    for (part, count) in bytes.chunks_exact_mut(8).zip(counts) {
+        part.copy_from_slice(&count.to_le_bytes());
     }
-    Ok(bytes)
+    bytes
 }

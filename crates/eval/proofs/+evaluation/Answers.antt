@@ -8,7 +8,7 @@ use borrow.Author.Tests.{not-true, not-false}
 use Rattle.eval_laws.specs.Ranges.{range_of_lem, range_in}
 use Rattle.eval_asks.specs.Steady.{steady_refl, steady_then, steady_wrote, asked_later, going_asked, going_start}
 use Rattle.eval.specs.Calls.{here_push, here_ends, selector_room, parts_bound, parts_skip, selectors_start, selectors_asked, selectors_in, selectors_passed, selectors_again, selectors_done, selectors_next, selectors_room, descent_room, descent_selectors, descent_again, descent_ended, descent_done, child_of, segment_room, reach_asked, reached_in, segment_lost, push_asked, segment_ends, onward_selectors, segment_child_done, onward_descent, segment_descent_done}
-use Rattle.eval_asks.specs.Kinds.{one_asked, rest_in, selector_absent, found_asked, selector_found, each_asked, wildcard_done, kept_after, kept_room, kind_filter, each_none, each_ended, numbers_asked, each_again, each_full, each_end, each_enters, slice_walk, placed_asked, placed_in, walked_asked, slice_ended, slice_done_all, place_in, place_near, places_again, places_full, places_end, filter_bound, filter_inside, rest_asked, next_asked, test_asked, kept_in_table, filter_done, filter_start, filter_end_all, filter_left, filter_full, filter_again, next_later, next_found, next_none, next_again}
+use Rattle.eval_asks.specs.Kinds.{one_asked, rest_in, selector_absent, found_asked, selector_found, each_asked, wildcard_done, kept_after, kept_room, kind_filter, each_none, each_ended, numbers_asked, each_again, each_full, each_end, each_enters, slice_walk, placed_asked, placed_in, walked_asked, slice_ended, slice_done_all, place_in, place_near, places_again, places_full, places_end, filter_bound, filter_inside, rest_asked, next_asked, test_asked, kept_in_table, filter_done, filter_start, filter_end_all, filter_left, filter_full, filter_again, next_later, next_found, next_end, next_again}
 use Rattle.eval_laws.specs.Items.{segments_in}
 use Rattle.eval.specs.Alone.{enter_head, enter_selector, enter_done, wildcard_ends, query_bound}
 use Rattle.eval_asks.specs.Rows.{rows_given, rows_next, rows_then}
@@ -751,7 +751,7 @@ next_kept-loop-j-preserved t c = next_again c.loop-j.invariant c.loop-j-test.tru
 
 -- next_kept
 pub next_kept-returns : goal.next_kept-returns
-next_kept-returns t c = next_none c.loop-j.invariant c.loop-j-test.false (c.loop-j.auto.j-end c.requires.1)
+next_kept-returns t c = next_end c.loop-j.invariant c.loop-j-test.false (c.loop-j.auto.j-end c.requires.1)
 
 -- recursive_descent
 pub recursive_descent-apply_selectors-requires : goal.recursive_descent-apply_selectors-requires
