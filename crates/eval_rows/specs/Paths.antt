@@ -1,6 +1,6 @@
 -- Names and indices that lead to the end of a query: what stands in the plan, what the functions ask and give, and the turns of their loops. P is the plan, L the
 -- pool, S the table, X the text. Assumes nothing.
-use Rattle.std.specs.Prelude.{ℕ, ◌+◌, ◌≤◌, ◌<◌, ◌≡◌, List, true, false, length, get_or, Option, Some, None}
+use Rattle.std.specs.Prelude.{ℕ, ◌+◌, ◌≤◌, ◌<◌, ◌≡◌, List, length, get_or, Option, Some, None}
 use Rattle.std.proofs.lemmas.Option.{none-some}
 use Rattle.std.proofs.Common.{sym, ◌∙◌, subst, arith}
 use Rattle.definition.specs.Limits.{max_plan}

@@ -29,6 +29,8 @@ use Rattle.eval_filters.specs.Values.{AskLeft}
 use Rattle.regex_match.specs.Tested.{Tested}
 use Rattle.regex_rooms.specs.Rooms.{scope_for, scope_for_lem}
 use Rattle.eval_rows.specs.declared.calls.Call.{Call}
+use Rattle.eval_rows.specs.declared.turns.Known.{Known}
+use Rattle.eval_rows.specs.declared.turns.Known.TheVariants.{Unread, Outside}
 use Rattle.eval_rows.specs.Paths.{DoneFollow, leads_end, leads_low}
 use Rattle.eval_rows.specs.Calls.{CallAt, AskText, DoneCall, Spelled, call_told, left_near}
 use Rattle.eval_rows.specs.Known.{Ready, Knows}
@@ -131,16 +133,16 @@ module _ {P L S X : List ℕ} {root node z : ℕ} {g : Call} (a : AskLeft P L S 
     pub cut_utf8 : is_utf8 y.now ≡ true
     cut_utf8 = t.inside y e
 
-    pub call_outside : {code : List ℕ} {known : ℕ} → Ready (scope_for g.kind) (part L g.start g.size) code known → known ≡ 1 → DoneCall P L S X root node z g false
+    pub call_outside : {code : List ℕ} {known : Known} → Ready (scope_for g.kind) (part L g.start g.size) code known → known ≡ Outside → DoneCall P L S X root node z g false
     call_outside q i = call_by false (q.outside i _)
 
-    pub call_tested : {code : List ℕ} {known : ℕ} → Ready (scope_for g.kind) (part L g.start g.size) code known → (known ≡ 0 → ⊥) → (known ≡ 1 → ⊥) → (u : Bits) → Tested code y.now u → DoneCall P L S X root node z g u
+    pub call_tested : {code : List ℕ} {known : Known} → Ready (scope_for g.kind) (part L g.start g.size) code known → (known ≡ Unread → ⊥) → (known ≡ Outside → ⊥) → (u : Bits) → Tested code y.now u → DoneCall P L S X root node z g u
     call_tested q i j u h = call_by u (q.inside i j _ u (t.inside y e) h)
 
 -- ---- the call that is known, where a node stands
 
 module _ {P L S X : List ℕ} {root node : ℕ} {acc : Bits} {q z : ℕ} (a : AskTurn P L S X root node acc q z) where
-  pub turn_call : {code : List ℕ} {g : Call} {known : ℕ} → Knows P L code z g known → q ≡ g.at → CallAt P z g × (known ≡ 0 → ⊥)
+  pub turn_call : {code : List ℕ} {g : Call} {known : Known} → Knows P L code z g known → q ≡ g.at → CallAt P z g × (known ≡ Unread → ⊥)
   turn_call k e = let h = left_near (turn_left a) in let m = a.more in (k.call (omega arith), k.some (omega arith))
 
   module _ {g : Call} (c : CallAt P z g) (i : g.at ≡ q) where

@@ -8,7 +8,7 @@ ghost use Rattle.eval_rows.specs.Columns.{AskPass, DonePass};
 use crate::calls::Call;
 use crate::rows;
 use crate::rows::{Filter, Passed};
-use crate::turns::{OUTSIDE, READ, STATES};
+use crate::turns::Known;
 use regex_marks::weigh;
 use regex_states::prepare;
 
@@ -45,7 +45,7 @@ fn with_few(
 ) -> Passed
     requires ask_pass { AskPass plan.now pool.now table.now text.now f i list.old at }
     requires call_at { CallAt plan.now f.z g × Spelled pool.now g }
-    requires ready { Ready (scope_for g.kind) (part pool.now g.start g.size) code.now 2 }
+    requires ready { Ready (scope_for g.kind) (part pool.now g.start g.size) code.now Known.Read }
     ensures { DonePass plan.now pool.now table.now text.now f i list.old at list.new result }
 {
     if 0 < again {
@@ -55,7 +55,20 @@ fn with_few(
     let mut sets = [0u8; 1];
     let mut marks = [0u8; FEW];
     rows::keep(
-        plan, pool, table, text, f, i, g, READ, code, &mut edges, &mut sets, &mut marks, list, at,
+        plan,
+        pool,
+        table,
+        text,
+        f,
+        i,
+        g,
+        Known::Read,
+        code,
+        &mut edges,
+        &mut sets,
+        &mut marks,
+        list,
+        at,
     )
 }
 
@@ -75,7 +88,7 @@ fn with_states(
 ) -> Passed
     requires ask_pass { AskPass plan.now pool.now table.now text.now f i list.old at }
     requires call_at { CallAt plan.now f.z g × Spelled pool.now g }
-    requires ready { Ready (scope_for g.kind) (part pool.now g.start g.size) code.now 3 }
+    requires ready { Ready (scope_for g.kind) (part pool.now g.start g.size) code.now Known.States }
     ensures { DonePass plan.now pool.now table.now text.now f i list.old at list.new result }
 {
     if 0 < again {
@@ -86,7 +99,20 @@ fn with_states(
     let mut marks = [0u8; STATE_MARKS];
     prepare(code, &mut edges, &mut sets);
     rows::keep(
-        plan, pool, table, text, f, i, g, STATES, code, &mut edges, &mut sets, &mut marks, list, at,
+        plan,
+        pool,
+        table,
+        text,
+        f,
+        i,
+        g,
+        Known::States,
+        code,
+        &mut edges,
+        &mut sets,
+        &mut marks,
+        list,
+        at,
     )
 }
 
@@ -106,7 +132,7 @@ fn with_most(
 ) -> Passed
     requires ask_pass { AskPass plan.now pool.now table.now text.now f i list.old at }
     requires call_at { CallAt plan.now f.z g × Spelled pool.now g }
-    requires ready { Ready (scope_for g.kind) (part pool.now g.start g.size) code.now 2 }
+    requires ready { Ready (scope_for g.kind) (part pool.now g.start g.size) code.now Known.Read }
     ensures { DonePass plan.now pool.now table.now text.now f i list.old at list.new result }
 {
     if 0 < again {
@@ -116,7 +142,20 @@ fn with_most(
     let mut sets = [0u8; 1];
     let mut marks = [0u8; NONE];
     rows::keep(
-        plan, pool, table, text, f, i, g, READ, code, &mut edges, &mut sets, &mut marks, list, at,
+        plan,
+        pool,
+        table,
+        text,
+        f,
+        i,
+        g,
+        Known::Read,
+        code,
+        &mut edges,
+        &mut sets,
+        &mut marks,
+        list,
+        at,
     )
 }
 
@@ -146,7 +185,7 @@ pub fn by_code(
 ) -> Passed
     requires ask_pass { AskPass plan.now pool.now table.now text.now f i list.old at }
     requires call_at { CallAt plan.now f.z g × Spelled pool.now g }
-    requires ready { Ready (scope_for g.kind) (part pool.now g.start g.size) code.now 2 }
+    requires ready { Ready (scope_for g.kind) (part pool.now g.start g.size) code.now Known.Read }
     ensures { DonePass plan.now pool.now table.now text.now f i list.old at list.new result }
 {
     // 0 for both kinds; but LLVM cannot tell.
@@ -183,7 +222,19 @@ pub fn outside(
     let mut sets = [0u8; 1];
     let mut marks = [0u8; 1];
     rows::keep(
-        plan, pool, table, text, f, i, g, OUTSIDE, &code, &mut edges, &mut sets, &mut marks, list,
+        plan,
+        pool,
+        table,
+        text,
+        f,
+        i,
+        g,
+        Known::Outside,
+        &code,
+        &mut edges,
+        &mut sets,
+        &mut marks,
+        list,
         at,
     )
 }

@@ -30,7 +30,7 @@ ghost use Rattle.eval_asks.specs.Cells.{Column};
 use calls::Call;
 use regex_rooms::reads;
 use rows::{Filter, Passed};
-use turns::UNREAD;
+use turns::Known;
 
 // An expression of the part has at most so many bytes.
 const LONG: usize = 1024;
@@ -182,7 +182,7 @@ fn unread(
         f,
         i,
         calls::no_call(),
-        UNREAD,
+        Known::Unread,
         &code,
         &mut edges,
         &mut sets,

@@ -9,6 +9,7 @@ ghost use Rattle.eval_rows.specs.Columns.{AskPass, DonePass, DoneStands};
 
 use crate::calls::Call;
 use crate::turns;
+use crate::turns::Known;
 use eval_asks::cells;
 use eval_filters::kept;
 
@@ -60,7 +61,7 @@ fn asked(
     first: usize,
     z: usize,
     g: Call,
-    known: u8,
+    known: Known,
     code: &[u32],
     edges: &mut [u8],
     sets: &mut [u8],
@@ -116,7 +117,7 @@ pub fn keep(
     f: Filter,
     i: usize,
     g: Call,
-    known: u8,
+    known: Known,
     code: &[u32],
     edges: &mut [u8],
     sets: &mut [u8],

@@ -18,13 +18,13 @@ use table::records;
 use table::records::KIND_TEXT;
 
 // What is known of the expression: nothing yet, that it is outside the part, its code, or the code with rooms that are ready for its states.
-pub const UNREAD: u8 = 0;
-
-pub const OUTSIDE: u8 = 1;
-
-pub const READ: u8 = 2;
-
-pub const STATES: u8 = 3;
+#[derive(Clone, Copy)]
+pub enum Known {
+    Unread,
+    Outside,
+    Read,
+    States,
+}
 
 // The text that the call's query finds from a node.
 fn text_of<'a>(
@@ -54,7 +54,7 @@ fn text_of<'a>(
 // code has too many. The marks are room.
 fn tested(
     kind: u8,
-    known: u8,
+    known: Known,
     code: &[u32],
     text: &[u8],
     edges: &mut [u8],
@@ -65,7 +65,7 @@ fn tested(
     ensures tested { Tested code.now text.now result }
     ensures held { Held code.now edges.new sets.new known }
 {
-    if known == STATES {
+    if let Known::States = known {
         return test_with(code, text, edges, sets, marks);
     }
     if marks.len() == 0 {
@@ -84,14 +84,14 @@ pub fn called(
     node: usize,
     z: usize,
     g: Call,
-    known: u8,
+    known: Known,
     code: &[u32],
     edges: &mut [u8],
     sets: &mut [u8],
     marks: &mut [u8],
 ) -> bool
     requires ask_left { AskLeft plan.now pool.now table.now text.now root node g.at z × CallAt plan.now z g }
-    requires fact { known ≡ 0 → ⊥ }
+    requires fact { known ≡ Known.Unread → ⊥ }
     requires ready { Ready (scope_for g.kind) (part pool.now g.start g.size) code.now known × Held code.now edges.old sets.old known }
     ensures done_call { DoneCall plan.now pool.now table.now text.now root node z g result }
     ensures held { Held code.now edges.new sets.new known }
@@ -101,7 +101,7 @@ pub fn called(
     let Some(found) = text_of(plan, pool, table, text, from, g) else {
         return false;
     };
-    if known == OUTSIDE {
+    if let Known::Outside = known {
         return false;
     }
     tested(g.kind, known, code, found, edges, sets, marks)

@@ -1,7 +1,6 @@
 -- The answers of the cycle of calls {with_states}.
 use mathlib.Core.Path.{refl}
-use native.Mathlib.Omega.{arith}
-use Rattle.eval_rows.specs.Known.{rooms_enough, knows}
+use Rattle.eval_rows.specs.Known.{rooms_enough, knows_states}
 use Rattle.eval_rows.proofs.coded.+with_states.Goals as goal
 
 -- with_states
@@ -10,4 +9,4 @@ prepare-requires t c = rooms_enough refl refl
 
 -- with_states
 pub keep-requires : goal.keep-requires
-keep-requires t c = record { ask_pass = c.requires.ask_pass; knows = (knows 3 (omega arith) c.requires.call_at.0 c.requires.ready, λ e. c.prepare.ensures) }
+keep-requires t c = record { ask_pass = c.requires.ask_pass; knows = (knows_states c.requires.call_at.0 c.requires.ready, λ e. c.prepare.ensures) }

@@ -12,8 +12,8 @@ text_of-requires c = text_asked c.requires.ask_left.0 c.requires.ask_left.1 _ c.
 pub returns-in_default : goal.returns-in_default
 returns-in_default c = record { done_call = call_none c.requires.ask_left.0 c.requires.ask_left.1 c.begins-from.ensures c.text_of.ensures c.in_default.is; held = c.requires.ready.1 }
 
-pub returns-then-known-eq-OUTSIDE : goal.returns-then-known-eq-OUTSIDE
-returns-then-known-eq-OUTSIDE c = record { done_call = call_outside c.requires.ask_left.0 c.requires.ask_left.1 c.begins-from.ensures c.text_of.ensures c.in-Some.is c.requires.ready.0 c.if-known-eq-OUTSIDE.true; held = c.requires.ready.1 }
+pub returns-in-Outside : goal.returns-in-Outside
+returns-in-Outside c = record { done_call = call_outside c.requires.ask_left.0 c.requires.ask_left.1 c.begins-from.ensures c.text_of.ensures c.in-Some.is c.requires.ready.0 c.in-Outside.is; held = c.requires.ready.1 }
 
 pub returns : goal.returns
-returns c = record { done_call = call_tested c.requires.ask_left.0 c.requires.ask_left.1 c.begins-from.ensures c.text_of.ensures c.in-Some.is c.requires.ready.0 c.requires.fact c.if-known-eq-OUTSIDE.false _ c.tested.ensures.tested; held = c.tested.ensures.held }
+returns c = record { done_call = call_tested c.requires.ask_left.0 c.requires.ask_left.1 c.begins-from.ensures c.text_of.ensures c.in-Some.is c.requires.ready.0 c.requires.fact c.in_default-known.not-Outside _ c.tested.ensures.tested; held = c.tested.ensures.held }

@@ -2,4 +2,4 @@
 use Rattle.eval_rows.proofs.turns.tested.Goals as goal
 
 pub test_with-requires : goal.test_with-requires
-test_with-requires c = c.requires c.if-known-eq-STATES.true
+test_with-requires c = c.requires c.in-States.is

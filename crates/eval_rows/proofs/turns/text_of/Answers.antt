@@ -1,7 +1,6 @@
 -- `turns::text_of` meets its contract: nothing is found, a node that has no text, or its text.
 use mathlib.Core.Path.{refl}
 use native.Mathlib.Omega.{arith}
-use borrow.Author.Tests.{not-true, not-false}
 use Rattle.eval_rows.specs.Calls.{text_near}
 use Rattle.eval_rows.specs.Turns.{text_lost, text_other, text_spot, text_found}
 use Rattle.eval_rows.proofs.turns.text_of.Goals as goal
