@@ -17,7 +17,6 @@ use Rattle.eval_asks.specs.Kinds.{filtered, tests, rest_asked, kept_in_table, ke
 use Rattle.eval_shortcuts.specs.Alongs.{AskAlong, DoneAlong}
 use Rattle.eval_shortcuts.specs.Flats.{AskStart, DoneStart}
 use Rattle.eval_shortcuts.specs.declared.straight.Passed.{Passed}
-use Rattle.eval_shortcuts.specs.declared.flats.Flat.{Flat}
 
 -- ---- names and indices behind the nodes of a range
 
@@ -58,7 +57,7 @@ module _ {v : Lent} {s : Numbers} {l : List ℕ} {i e pc : ℕ} (a : Asked v s l
         list = record { room = a.room; wide = a.wide; small = a.small };
       }
 
-  module _ {l' : List ℕ} {f : Flat} (d : DoneStart (plan_of v) (pool_of v) (table_of v) (text_of v) i e pc (cap_of s) l (at_of s) l' f) where
+  module _ {l' : List ℕ} {f : Passed} (d : DoneStart (plan_of v) (pool_of v) (table_of v) (text_of v) i e pc (cap_of s) l (at_of s) l' f) where
     flats_high : f.i ≤ e
     flats_high = by (ltb i f.i) refl
       where

@@ -23,7 +23,7 @@ use Rattle.eval_front.specs.Visits.{over, numbers_from, DoneContainer}
 use Rattle.eval_front.specs.Overs.{over_step, over_end, over_full, over_numbers, over_passed}
 use Rattle.eval_front.specs.Places.{push_bound, emit_room}
 use Rattle.eval_front.specs.Fronts.{never}
-use Rattle.eval_shortcuts.specs.declared.flats.Flat.{Flat}
+use Rattle.eval_shortcuts.specs.declared.straight.Passed.{Passed}
 use Rattle.eval_front.specs.Stands.{descendant_byte, segments_at, selector_least, one_found, one_absent}
 use Rattle.eval_front.specs.Spans.{wildcard_range, below_passed}
 use Rattle.eval_shortcuts.specs.Flats.{Bare, AskSelected, DoneSelected, Passes, DoneFlats, InFlats, Lone, DonePlain, DoneStart}
@@ -157,7 +157,7 @@ module _ {P L S X : List ℕ} {i e pc cap : ℕ} {l : List ℕ} {at : ℕ} where
   pub start_none : at ≤ cap + 1 → DoneStart P L S X i e pc cap l at l (record { i = i; at = at })
   start_none b = record { passes = passes_none i e cap l at b; again = λ ss q k a R. refl }
 
-  pub start_flats : {b : Bits} {l' : List ℕ} {r : Flat} → DonePlain P pc b → b ≡ true → DoneFlats P L S X i e (pc + 3) cap l at l' r → DoneStart P L S X i e pc cap l at l' r
+  pub start_flats : {b : Bits} {l' : List ℕ} {r : Passed} → DonePlain P pc b → b ≡ true → DoneFlats P L S X i e (pc + 3) cap l at l' r → DoneStart P L S X i e pc cap l at l' r
   start_flats d t f = record { passes = f.passes; again = λ ss q k a R. let y = d.lone t L ss q k a in as_lone S X R ss q y.x y.made y.ended _ i e _ (st cap l at) (f.again y.x k y.at R) }
 
 -- ---- a name or an index whose kind was read

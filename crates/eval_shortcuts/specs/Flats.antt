@@ -17,7 +17,7 @@ use Rattle.eval_laws.specs.Items.{SegmentsAt, SelectorAt}
 use Rattle.eval_front.specs.Visits.{Given, over}
 use Rattle.eval_filters.specs.Atoms.{AtomAt}
 use Rattle.eval_filters.specs.declared.atoms.Atom.{Atom}
-use Rattle.eval_shortcuts.specs.declared.flats.Flat.{Flat}
+use Rattle.eval_shortcuts.specs.declared.straight.Passed.{Passed}
 use Rattle.eval_front.specs.Spans.{Room}
 
 -- ---- a node with nothing below its children
@@ -57,7 +57,7 @@ pub record DoneSelected (P L S X : List ℕ) (node p cap : ℕ) (l : List ℕ) (
 -- ---- the nodes of a range
 
 -- r is as far as the nodes from i up to e are done; where that is nowhere, nothing has changed
-pub record Passes (i e cap : ℕ) (l l' : List ℕ) (r : Flat) : Type 0 where
+pub record Passes (i e cap : ℕ) (l l' : List ℕ) (r : Passed) : Type 0 where
   pub low : i ≤ r.i
   pub high : i < r.i → r.i ≤ e
   pub room : r.at ≤ cap + 1
@@ -69,7 +69,7 @@ pub record AskFlats (P L S X : List ℕ) (i e p len at cap : ℕ) : Type 0 where
   pub plain : Plain P L p
   pub list : Room len at cap
 
-pub record DoneFlats (P L S X : List ℕ) (i e p cap : ℕ) (l : List ℕ) (at : ℕ) (l' : List ℕ) (r : Flat) : Type 0 where
+pub record DoneFlats (P L S X : List ℕ) (i e p cap : ℕ) (l : List ℕ) (at : ℕ) (l' : List ℕ) (r : Passed) : Type 0 where
   pub passes : Passes i e cap l l' r
   pub again : (x : Selector) (k : ℕ) → SelectorAt P L p k x → (R : Json) → over end R (below (one x) R) S X r.i e (st cap l' r.at) ≡ over end R (below (one x) R) S X i e (st cap l at)
 
@@ -147,6 +147,6 @@ pub record AskStart (P L S X : List ℕ) (i e pc len at cap : ℕ) : Type 0 wher
   pub stands : SegmentsAt P L pc k (descendant ss q)
   pub list : Room len at cap
 
-pub record DoneStart (P L S X : List ℕ) (i e pc cap : ℕ) (l : List ℕ) (at : ℕ) (l' : List ℕ) (r : Flat) : Type 0 where
+pub record DoneStart (P L S X : List ℕ) (i e pc cap : ℕ) (l : List ℕ) (at : ℕ) (l' : List ℕ) (r : Passed) : Type 0 where
   pub passes : Passes i e cap l l' r
   pub again : (ss : Selectors) (q : Segments) (k : ℕ) → SegmentsAt P L pc k (descendant ss q) → (R : Json) → over q R (below ss R) S X r.i e (st cap l' r.at) ≡ over q R (below ss R) S X i e (st cap l at)

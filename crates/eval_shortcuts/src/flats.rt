@@ -5,19 +5,13 @@ ghost use Rattle.definition.specs.Tables.{low_word};
 ghost use Rattle.eval_items.specs.Leaves.{AskOne, DoneOne};
 ghost use Rattle.eval_shortcuts.specs.Flats.{AskFlat, DoneFlat, AskPlain, DonePlain, AskSelected, DoneSelected, AskFlats, DoneFlats, AskMember, DoneMember, AskSkipped, DoneSkipped, AskStart, DoneStart};
 
+use crate::straight::Passed;
 use eval_filters::atoms;
 use eval_items::{leaves, plans};
 use eval_values::members;
 use plan_format::kinds::{END, FILTER, NAME, SLICE, WILDCARD};
 use table::records;
 use text::bytes;
-
-// The first node of a range that is left, and the next place of the list of nodes.
-#[derive(Clone, Copy)]
-pub struct Flat {
-    pub i: usize,
-    pub at: usize,
-}
 
 // Whether no child of the node is a list or a map.
 fn is_flat(table: &[u8], node: usize) -> bool
@@ -128,7 +122,7 @@ fn flat_each(
     list: &mut [u32],
     at: usize,
     cap: usize,
-) -> Flat
+) -> Passed
     requires { AskFlats plan.now pool.now table.now text.now i e p (length list.old) at cap }
     ensures { DoneFlats plan.now pool.now table.now text.now i e p cap list.old at list.new result }
 {
@@ -138,17 +132,17 @@ fn flat_each(
     let mut near = 0;
     while j < e {
         if cap < a {
-            return Flat { i: e, at: a };
+            return Passed { i: e, at: a };
         }
         if !is_flat(table, j) {
-            return Flat { i: j, at: a };
+            return Passed { i: j, at: a };
         }
         let pushed = push_selected(plan, pool, table, text, j, p, near, list, a, cap);
         a = pushed.at;
         near = pushed.near;
         j = eval_front::next_container(table, j + 1, e);
     }
-    Flat { i: j, at: a }
+    Passed { i: j, at: a }
 }
 
 // Whether the descendant segment at pc is the last of its query and has one selector, a name, an index or a wildcard.
@@ -222,22 +216,22 @@ pub fn flat_start(
     list: &mut [u32],
     at: usize,
     cap: usize,
-) -> Flat
+) -> Passed
     requires { AskStart plan.now pool.now table.now text.now i e pc (length list.old) at cap }
     ensures { DoneStart plan.now pool.now table.now text.now i e pc cap list.old at list.new result }
 {
     if e <= i {
-        return Flat { i, at };
+        return Passed { i, at };
     }
     if is_plain(plan, pc) {
         let p = pc + 3;
         return flat_each(plan, pool, table, text, i, e, p, list, at, cap);
     }
     if asks_member(plan, pc) {
-        return Flat {
+        return Passed {
             i: skip_flats(table, i, e),
             at,
         };
     }
-    Flat { i, at }
+    Passed { i, at }
 }
