@@ -30,6 +30,7 @@ const ENOUGH: usize = 8;
 const NO_KIND: u8 = 255;
 
 // The nodes from i on that the filter keeps, with what follows, by the code of its expression.
+// It and `with_most` differ in a constant: bin/archive keeps the frame of each by its name, so that over a const parameter each would stand with its clauses all the same.
 fn with_few(
     plan: &[u8],
     pool: &[u8],

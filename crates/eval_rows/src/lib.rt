@@ -73,6 +73,7 @@ fn read_in(
 }
 
 // The same for an expression of at most 128 bytes.
+// Two functions that differ in constants: bin/archive keeps the frame of each by its name, so that over const parameters each would stand with its clauses all the same.
 fn short(
     plan: &[u8],
     pool: &[u8],
