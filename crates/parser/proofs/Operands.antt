@@ -87,14 +87,14 @@ module _ {k : ℕ} {s P P' L L' : List ℕ} {a b : Cursor} {f : ℕ} where
   told_segments h = omega (arith, h.flag, (segments_small h.tree).0)
 
 -- a function's number tells the function
-named_of : (n : Named) → (name_of (named_number n) ≡ n) × (named_number n ≤ 5)
+named_of : (n : Named) → name_of (named_number n) ≡ n
 unfolding named_number
-named_of unknown = (refl, omega arith)
-named_of count = (refl, omega arith)
-named_of Named.length = (refl, omega arith)
-named_of value_name = (refl, omega arith)
-named_of match = (refl, omega arith)
-named_of search = (refl, omega arith)
+named_of unknown = refl
+named_of count = refl
+named_of Named.length = refl
+named_of value_name = refl
+named_of match = refl
+named_of search = refl
 
 -- ---- sizes
 
@@ -132,11 +132,9 @@ asks_byte {c = c} {s = s} {a = a} st h i m l =
     asks_moved st m (omega arith) (omega (arith, i.0)) (sym (utf8_ascii c (drop (a.at + 1) s) h) ∙ ap is_utf8 (sym i.1) ∙ st.utf8) (omega arith)
 
 -- behind a function's name and "("
-pub asks_call : {e name : ℕ} {s P L : List ℕ} {a b : Cursor} → Asks 0 s P L a → WordAt s a.at e → Is s e 0x28 true → Moved a b (e + 1) → name ≡ named_number (named (part s a.at (e - a.at))) → Asks 0 s P L b × (name ≤ 5)
-asks_call {e = e} {s = s} {a = a} st w i m n = (
-  asks_moved st m (omega (arith, w.from)) (omega (arith, i.0)) (sym (utf8_ascii 0x28 (drop (e + 1) s) (omega arith)) ∙ ap is_utf8 (sym i.1) ∙ w.utf8 st.utf8) (omega (arith, w.from)),
-  omega (arith, n, (named_of (named (part s a.at (e - a.at)))).1),
-)
+pub asks_call : {e : ℕ} {s P L : List ℕ} {a b : Cursor} → Asks 0 s P L a → WordAt s a.at e → Is s e 0x28 true → Moved a b (e + 1) → Asks 0 s P L b
+asks_call {e = e} {s = s} {a = a} st w i m =
+    asks_moved st m (omega (arith, w.from)) (omega (arith, i.0)) (sym (utf8_ascii 0x28 (drop (e + 1) s) (omega arith)) ∙ ap is_utf8 (sym i.1) ∙ w.utf8 st.utf8) (omega (arith, w.from))
 
 -- a word has a byte at least
 pub word_room : {e : ℕ} {s P L : List ℕ} {a : Cursor} (n : ℕ) → Asks 0 s P L a → WordAt s a.at e → n ≤ 15 → Room n P a
@@ -243,7 +241,7 @@ module _ {s P P' L L' : List ℕ} {a b : Cursor} {r : Step} where
   pub operand_at_call : {e name : ℕ} → WordAt s a.at e → Is s e 0x28 true → Moved a b (e + 1) → name ≡ named_number (named (part s a.at (e - a.at)))
       → Post spell_call (write_call name) (call_sort name) 0 s P P' L L' b r → Post spell_operand write_operand operand_flag 1 s P P' L L' a r
   operand_at_call {e} {name} w i m n h =
-      let q : named (function_bytes w.word) ≡ name_of name = sym (named_of (named (function_bytes w.word))).0 ∙ ap (λ l. name_of (named_number (named l))) (sym w.bytes) ∙ ap name_of (sym n) in
+      let q : named (function_bytes w.word) ≡ name_of name = sym (named_of (named (function_bytes w.word))) ∙ ap (λ l. name_of (named_number (named l))) (sym w.bytes) ∙ ap name_of (sym n) in
       post_so 0 (operand_call a.pool w.reads name q (byte_then 0x28 e b.at s i m.0)) (omega arith) m (omega (arith, m.0, w.from)) h
 
 module _ {s P P' L L' : List ℕ} {a : Cursor} {r : Step} where

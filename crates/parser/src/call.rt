@@ -2,6 +2,7 @@
 ghost use Rattle.std.specs.Prelude.{◌≡◌, ◌≤◌, drop};
 ghost use Rattle.definition.specs.Grammar.{spell_arguments, spell_more_arguments, spell_argument};
 ghost use Rattle.compile_writes.specs.Sorts.{sort_argument, sorts_of, sorts_more};
+ghost use Rattle.parser_scan.specs.Text.{number_of_function};
 ghost use Rattle.compile_writes.specs.Writes.{write_arguments, write_more_arguments, write_argument};
 ghost use Rattle.parser_follow.specs.Follow.{unblank};
 ghost use Rattle.parser_items.specs.Reads.{Asks, Post, sort_number, arguments_from, Known};
@@ -10,13 +11,19 @@ ghost use Rattle.parser_follow.specs.Pieces.{spell_call, write_call, call_sort, 
 use crate::{any, behind, more_and, more_or, operand};
 use parser_items::verdicts::{call_sort, one_more, plain_sort};
 use parser_items::{Cursor, Step, begins_operator, moved, write_call};
-use parser_scan::{is, skip_blanks};
+use parser_scan::{Function, is, skip_blanks};
 
-// S [ arguments ] S ")", behind the name and "(" of a call of the function with the given number; tells its sort
+// S [ arguments ] S ")", behind the name and "(" of a call of the function of that name, if there is one; tells its sort
 #[cycle(grammar)]
-pub fn function(s: &[u8], plan: &mut [u8], pool: &mut [u8], st: Cursor, name: u8) -> Step
-    requires { Asks 0 s.now plan.old pool.old st × (name ≤ 5) }
-    ensures { Post spell_call (write_call name) (call_sort name) 0 s.now plan.old plan.new pool.old pool.new st result }
+pub fn function(
+    s: &[u8],
+    plan: &mut [u8],
+    pool: &mut [u8],
+    st: Cursor,
+    name: Option<Function>,
+) -> Step
+    requires { Asks 0 s.now plan.old pool.old st }
+    ensures { Post spell_call (write_call (number_of_function name)) (call_sort (number_of_function name)) 0 s.now plan.old plan.new pool.old pool.new st result }
 {
     let at = st.at;
     let a = skip_blanks(s, at);

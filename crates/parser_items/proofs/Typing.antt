@@ -1,7 +1,7 @@
 -- The numbers that stand for sorts, functions and lists of sorts in the code: each is one of a few, and what is told of it goes by these cases.
 -- Assumes nothing.
 use mathlib.Core.Path.{◌≡◌, refl, sym, ◌∙◌}
-use mathlib.Core.Logic.{◌≢◌}
+use mathlib.Core.Logic.{◌≢◌, ◌⊎◌, inl, inr}
 use mathlib.Core.Bool.{Bool, true, false, cond, not}
 use mathlib.Core.List.{List, [], ◌∷◌}
 use Prim.Native.Nat.{ℕ, ◌+◌, ◌-◌, ◌/◌, ◌%◌, ◌≤◌, ◌<◌}
@@ -9,8 +9,10 @@ use native.Mathlib.Omega.{arith}
 use borrow.Author.Tests.{eqb-true, eqb-false, ne_eqb, leb-true, leb-false, le-leb, lt-leb}
 use lib.Dec.{eqb, leb}
 use Rattle.utf8_laws.specs.Bytes.{by_test}
-use Rattle.definition.specs.Walk.{Named}
-use Rattle.definition.specs.Walk.Named.{count, value_name, match, search, unknown}
+use Rattle.std.specs.Prelude.{Option, Some, None}
+use Rattle.parser_scan.specs.declared.Function.{Function}
+use Rattle.parser_scan.specs.declared.Function.TheVariants.{Count, Length, Value, Match, Search}
+use Rattle.parser_scan.specs.Text.{number_of_function}
 use Rattle.compile_writes.specs.Effects.{Marks, join_marks, first}
 use Rattle.compile_writes.specs.Sorts.{Sort, value_verdict, nodes_verdict, one_verdict, two_verdict, call_verdict}
 use Rattle.compile_writes.specs.Sorts.Sort.{literal_sort, singular_sort, nodes_sort, value_sort, logical_sort}
@@ -34,26 +36,14 @@ sort_by f x n a b c d e g =
 
 -- ---- functions
 
--- what holds in each of the cases of a function's number holds of the function
-pub name_by : {A : Type 0} (f : Named → A) (x : A) (n : ℕ) → n ≤ 5 → (n ≡ 0 → x ≡ f unknown) → (n ≡ 1 → x ≡ f count) → (n ≡ 2 → x ≡ f Named.length) → (n ≡ 3 → x ≡ f value_name) → (n ≡ 4 → x ≡ f match)
-    → (n ≡ 5 → x ≡ f search) → x ≡ f (name_of n)
-name_by f x n h a b c d e g =
-    by_test (eqb n 1) (λ t. rw t (b (eqb-true n 1 t))) (λ p.
-    by_test (eqb n 2) (λ t. rw (p, t) (c (eqb-true n 2 t))) (λ q.
-    by_test (eqb n 3) (λ t. rw (p, q, t) (d (eqb-true n 3 t))) (λ r.
-    by_test (eqb n 4) (λ t. rw (p, q, r, t) (e (eqb-true n 4 t))) (λ s.
-    by_test (eqb n 5) (λ t. rw (p, q, r, s, t) (g (eqb-true n 5 t))) (λ u.
-    rw (p, q, r, s, u) (a (omega (arith, eqb-false n 1 p, eqb-false n 2 q, eqb-false n 3 r, eqb-false n 4 s, eqb-false n 5 u))))))))
+-- what holds of the functions of an arm holds of the one that is called
+pub by_two : {n : Option Function} {f g h : Function} (P : Option Function → Type 0) → n ≡ Some f → (f ≡ g) ⊎ (f ≡ h) → P (Some g) → P (Some h) → P n
+by_two P e (inl q) x y = rw (e, q) x
+by_two P e (inr q) x y = rw (e, q) y
 
--- a number from 1 to 3 is that of a function with one argument, 2 being the one that takes a value
-pub name_one : {A : Type 0} (f : Named → A) (x : A) (n : ℕ) → 1 ≤ n → n ≤ 3 → (n ≡ 2 → x ≡ f Named.length) → (n ≢ 2 → x ≡ f count) → f value_name ≡ f count → x ≡ f (name_of n)
-name_one f x n l h a b e =
-    name_by f x n (omega arith) (λ q. absurd (omega arith)) (λ q. b (λ z. omega arith)) a (λ q. b (λ z. omega arith) ∙ sym e) (λ q. absurd (omega arith)) (λ q. absurd (omega arith))
-
--- a number from 4 on is that of match or search
-pub name_two : {A : Type 0} (f : Named → A) (x : A) (n : ℕ) → 4 ≤ n → n ≤ 5 → x ≡ f match → x ≡ f search → x ≡ f (name_of n)
-name_two f x n l h a b =
-    name_by f x n h (λ q. absurd (omega arith)) (λ q. absurd (omega arith)) (λ q. absurd (omega arith)) (λ q. absurd (omega arith)) (λ q. a) (λ q. b)
+pub by_three : {n : Option Function} {f g h k : Function} (P : Option Function → Type 0) → n ≡ Some f → (f ≡ g) ⊎ ((f ≡ h) ⊎ (f ≡ k)) → P (Some g) → P (Some h) → P (Some k) → P n
+by_three P e (inl q) x y z = rw (e, q) x
+by_three P e (inr q) x y z = by_two P e q y z
 
 -- ---- the sorts of a function's arguments
 
@@ -66,60 +56,68 @@ sorts_two n l h = rw (ne_eqb n 0 (λ e. omega arith), lt-leb n 5 l, le-leb n 30 
 pub sorts_three : (n : ℕ) → 30 < n → sorts_from n ≡ literal_sort ∷ literal_sort ∷ literal_sort ∷ []
 sorts_three n l = rw (ne_eqb n 0 (λ e. omega arith), lt-leb n 5 (omega arith), lt-leb n 30 l)
 
-module _ (name sorts : ℕ) where
+-- what is asked of the argument of a function that has one
+abbrev argument_verdict : Function → Sort → ℕ
+argument_verdict Count = nodes_verdict
+argument_verdict Length = value_verdict
+argument_verdict Value = nodes_verdict
+argument_verdict Match = nodes_verdict
+argument_verdict Search = nodes_verdict
+
+one_of : (f : Function) (ss : List Sort) → number_of_function (Some f) ≤ 3 → one_verdict (argument_verdict f) ss ≡ call_verdict (name_of (number_of_function (Some f))) ss
+unfolding call_verdict
+one_of Count ss h = refl
+one_of Length ss h = refl
+one_of Value ss h = refl
+one_of Match ss h = absurd (omega (arith, h))
+one_of Search ss h = absurd (omega (arith, h))
+
+module _ (sorts : ℕ) where
   -- a function with one argument that has none
-  pub one_none : 1 ≤ name → name ≤ 3 → sorts ≡ 0 → 5 ≡ call_verdict (name_of name) (sorts_from sorts)
-  unfolding call_verdict one_verdict
-  one_none l h e = rw e (name_one (λ n. call_verdict n []) 5 name l h (λ q. refl) (λ q. refl) refl)
+  pub one_none : (f : Function) → number_of_function (Some f) ≤ 3 → sorts ≡ 0 → 5 ≡ call_verdict (name_of (number_of_function (Some f))) (sorts_from sorts)
+  unfolding one_verdict
+  one_none f h e = rw e (one_of f [] h)
 
   -- a function with one argument that has more
-  pub one_more : 1 ≤ name → name ≤ 3 → 5 < sorts → 5 ≡ call_verdict (name_of name) (sorts_from sorts)
-  unfolding call_verdict one_verdict
-  one_more l h k =
+  pub one_more : (f : Function) → number_of_function (Some f) ≤ 3 → 5 < sorts → 5 ≡ call_verdict (name_of (number_of_function (Some f))) (sorts_from sorts)
+  unfolding one_verdict
+  one_more f h k =
       by_test (leb sorts 30)
-      (λ t. rw (sorts_two sorts k (leb-true sorts 30 t)) (name_one (λ n. call_verdict n (sort_of ((sorts - 6) / 5) ∷ sort_of ((sorts - 6) % 5) ∷ [])) 5 name l h (λ q. refl) (λ q. refl) refl))
-      (λ f. rw (sorts_three sorts (leb-false sorts 30 f)) (name_one (λ n. call_verdict n (literal_sort ∷ literal_sort ∷ literal_sort ∷ [])) 5 name l h (λ q. refl) (λ q. refl) refl))
+      (λ t. rw (sorts_two sorts k (leb-true sorts 30 t)) (one_of f (sort_of ((sorts - 6) / 5) ∷ sort_of ((sorts - 6) % 5) ∷ []) h))
+      (λ g. rw (sorts_three sorts (leb-false sorts 30 g)) (one_of f (literal_sort ∷ literal_sort ∷ literal_sort ∷ []) h))
 
   -- length with its argument
-  pub one_value : {v : ℕ} → name ≡ 2 → sorts ≢ 0 → sorts ≤ 5 → v ≡ value_verdict (sort_of (sorts - 1)) → v ≡ call_verdict (name_of name) (sorts_from sorts)
+  pub one_value : {v : ℕ} {f : Function} → f ≡ Length → sorts ≢ 0 → sorts ≤ 5 → v ≡ value_verdict (sort_of (sorts - 1)) → v ≡ call_verdict (name_of (number_of_function (Some f))) (sorts_from sorts)
   unfolding call_verdict one_verdict
   one_value e l h q = rw (e, sorts_one sorts l h) q
 
   -- count and value with their argument
-  pub one_nodes : {v : ℕ} → 1 ≤ name → name ≤ 3 → name ≢ 2 → sorts ≢ 0 → sorts ≤ 5 → v ≡ nodes_verdict (sort_of (sorts - 1)) → v ≡ call_verdict (name_of name) (sorts_from sorts)
+  pub one_nodes : {v : ℕ} (f : Function) → number_of_function (Some f) ≤ 3 → f ≢ Length → sorts ≢ 0 → sorts ≤ 5 → v ≡ nodes_verdict (sort_of (sorts - 1)) → v ≡ call_verdict (name_of (number_of_function (Some f))) (sorts_from sorts)
   unfolding call_verdict one_verdict
-  one_nodes {v} a b e l h q = rw (sorts_one sorts l h) (name_one (λ n. call_verdict n (sort_of (sorts - 1) ∷ [])) v name a b (λ z. absurd (e z)) (λ z. q) refl)
-
-  -- a function that there is not
-  pub two_unknown : name ≡ 0 → 6 ≡ call_verdict (name_of name) (sorts_from sorts)
-  unfolding call_verdict
-  two_unknown e = rw e
+  one_nodes Count b e l h q = rw (sorts_one sorts l h) q
+  one_nodes Length b e l h q = absurd (e refl)
+  one_nodes Value b e l h q = rw (sorts_one sorts l h) q
+  one_nodes Match b e l h q = absurd (omega (arith, b))
+  one_nodes Search b e l h q = absurd (omega (arith, b))
 
   -- match or search with fewer than two arguments
-  pub two_few : 4 ≤ name → name ≤ 5 → sorts < 6 → 5 ≡ call_verdict (name_of name) (sorts_from sorts)
-  unfolding call_verdict two_verdict
-  two_few l h k =
-      by_test (eqb sorts 0)
-      (λ t. let e : sorts ≡ 0 = eqb-true sorts 0 t in rw e (name_two (λ n. call_verdict n []) 5 name l h refl refl))
-      (λ f. rw (sorts_one sorts (eqb-false sorts 0 f) (omega arith)) (name_two (λ n. call_verdict n (sort_of (sorts - 1) ∷ [])) 5 name l h refl refl))
+  pub two_few : sorts < 6 → 5 ≡ two_verdict (sorts_from sorts)
+  unfolding two_verdict
+  two_few k = by_test (eqb sorts 0) (λ t. let e : sorts ≡ 0 = eqb-true sorts 0 t in rw e) (λ f. rw (sorts_one sorts (eqb-false sorts 0 f) (omega arith)))
 
   -- match or search with more than two arguments
-  pub two_many : 4 ≤ name → name ≤ 5 → 30 < sorts → 5 ≡ call_verdict (name_of name) (sorts_from sorts)
-  unfolding call_verdict two_verdict
-  two_many l h k = rw (sorts_three sorts k) (name_two (λ n. call_verdict n (literal_sort ∷ literal_sort ∷ literal_sort ∷ [])) 5 name l h refl refl)
+  pub two_many : 30 < sorts → 5 ≡ two_verdict (sorts_from sorts)
+  unfolding two_verdict
+  two_many k = rw (sorts_three sorts k)
 
   -- match or search with two arguments: the first that is no value decides
-  two_both : {v : ℕ} → 4 ≤ name → name ≤ 5 → 6 ≤ sorts → sorts ≤ 30 → v ≡ two_verdict (sort_of ((sorts - 6) / 5) ∷ sort_of ((sorts - 6) % 5) ∷ []) → v ≡ call_verdict (name_of name) (sorts_from sorts)
-  unfolding call_verdict
-  two_both {v} l h m k e = rw (sorts_two sorts m k) (name_two (λ n. call_verdict n (sort_of ((sorts - 6) / 5) ∷ sort_of ((sorts - 6) % 5) ∷ [])) v name l h e e)
-
-  pub two_right : {v w : ℕ} → 4 ≤ name → name ≤ 5 → 6 ≤ sorts → sorts ≤ 30 → v ≡ value_verdict (sort_of ((sorts - 6) / 5)) → v ≡ 0 → w ≡ value_verdict (sort_of ((sorts - 6) % 5)) → w ≡ call_verdict (name_of name) (sorts_from sorts)
+  pub two_right : {v w : ℕ} → 6 ≤ sorts → sorts ≤ 30 → v ≡ value_verdict (sort_of ((sorts - 6) / 5)) → v ≡ 0 → w ≡ value_verdict (sort_of ((sorts - 6) % 5)) → w ≡ two_verdict (sorts_from sorts)
   unfolding two_verdict
-  two_right l h m k e z f = two_both l h m k (rw (sym e ∙ z) f)
+  two_right m k e z f = rw (sorts_two sorts m k, sym e ∙ z) f
 
-  pub two_left : {v : ℕ} → 4 ≤ name → name ≤ 5 → 6 ≤ sorts → sorts ≤ 30 → v ≡ value_verdict (sort_of ((sorts - 6) / 5)) → v ≢ 0 → v ≡ call_verdict (name_of name) (sorts_from sorts)
+  pub two_left : {v : ℕ} → 6 ≤ sorts → sorts ≤ 30 → v ≡ value_verdict (sort_of ((sorts - 6) / 5)) → v ≢ 0 → v ≡ two_verdict (sorts_from sorts)
   unfolding two_verdict
-  two_left {v} l h m k e z = two_both l h m k (rw (← e, ne_eqb v 0 z))
+  two_left {v} m k e z = rw (sorts_two sorts m k, ← e, ne_eqb v 0 z)
 
 -- ---- marks of calls
 
@@ -129,16 +127,24 @@ put_as e f h = rw e at (rw f at h)
 marks_as : {v w : ℕ} → v ≡ w → ◌≡◌ {A = Marks} (record { verdict = v; beyond = false }) (record { verdict = w; beyond = false })
 marks_as e = rw e
 
-module _ {P : List ℕ} {a b : Cursor} (name sorts : ℕ) {v : ℕ} (e : v ≡ call_verdict (name_of name) (sorts_from sorts)) (k : Marked a b (record { verdict = v; beyond = false })) where
+-- the byte of a call
+call_byte : (f : Function) → (24 + number_of_function (Some f)) ∷ [] ≡ call_bytes (name_of (number_of_function (Some f)))
+unfolding call_bytes
+call_byte Count = refl
+call_byte Length = refl
+call_byte Value = refl
+call_byte Match = refl
+call_byte Search = refl
+
+module _ {P : List ℕ} {a b : Cursor} {n : Option Function} (sorts : ℕ) {v : ℕ} (e : v ≡ call_verdict (name_of (number_of_function n)) (sorts_from sorts)) (k : Marked a b (record { verdict = v; beyond = false })) where
   -- a call of a function that there is not writes nothing
-  pub call_unknown : name ≡ 0 → PutMarked P P a b (call_bytes (name_of name)) (call_marks name sorts)
+  pub call_unknown : n ≡ None → PutMarked P P a b (call_bytes (name_of (number_of_function n))) (call_marks (number_of_function n) sorts)
   unfolding call_bytes
   call_unknown z = put_as (rw z) (marks_as e) (marked_put k put_none)
 
-  -- every other call is written as one byte: the items of the functions follow each other as their numbers do
-  pub call_known : {P' : List ℕ} {d : Cursor} → name ≢ 0 → name ≤ 5 → Put P P' b d ((24 + name) ∷ []) → PutMarked P P' a d (call_bytes (name_of name)) (call_marks name sorts)
-  unfolding call_bytes
-  call_known n h p = put_as (name_by call_bytes ((24 + name) ∷ []) name h (λ q. absurd (n q)) (λ q. rw q) (λ q. rw q) (λ q. rw q) (λ q. rw q) (λ q. rw q)) (marks_as e) (marked_put k p)
+  -- every other call is written as one byte
+  pub call_known : {P' : List ℕ} {d : Cursor} {f : Function} {x : ℕ} → n ≡ Some f → x ≡ 24 + number_of_function (Some f) → Put P P' b d (x ∷ []) → PutMarked P P' a d (call_bytes (name_of (number_of_function n))) (call_marks (number_of_function n) sorts)
+  call_known {f = f} z q p = put_as (rw (q, z) (call_byte f)) (marks_as e) (marked_put k p)
 
 -- ---- comparisons
 

@@ -9,7 +9,7 @@ pub mod verdicts;
 
 ghost use Rattle.std.specs.Prelude.{◌≡◌, true, false, List, [], ◌∷◌, ℕ, ◌+◌, ◌≤◌, ◌<◌, length, drop, Some};
 ghost use Rattle.definition.specs.Utf8.{is_utf8};
-ghost use Rattle.parser_scan.specs.Text.{Has, WordAt, number_of_keyword};
+ghost use Rattle.parser_scan.specs.Text.{Has, WordAt, number_of_function, number_of_keyword};
 ghost use Rattle.compile_writes.specs.Effects.{join_marks, first};
 ghost use Rattle.compile_writes.specs.Sorts.{value_verdict, compared_verdict};
 ghost use Rattle.compile_writes.specs.Writes.{test_tail, not_tail, call_bytes};
@@ -18,7 +18,7 @@ ghost use Rattle.parser_items.specs.Reads.{Asks, Post, LoosePost, Put, PutMarked
 
 use constants::put_numeral;
 use number_parse::parse_number;
-use parser_scan::{Keyword, is, keyword_at, read_name, read_operator};
+use parser_scan::{Function, Keyword, is, keyword_at, read_name, read_operator};
 use plan_format::{kinds, words};
 use ranges::write_range;
 use text::bytes::put16;
@@ -142,15 +142,28 @@ pub fn write_compare(plan: &mut [u8], st: Cursor, left: usize, right: usize, op:
 }
 
 // The end of a call of a function, with its typing.
-pub fn write_call(plan: &mut [u8], st: Cursor, name: u8, sorts: usize) -> Cursor
-    requires { Room 1 plan.old st × ((name ≤ 5) × (sorts ≤ 31)) }
-    ensures { PutMarked plan.old plan.new st result (call_bytes (name_of name)) (call_marks name sorts) }
+pub fn write_call(plan: &mut [u8], st: Cursor, name: Option<Function>, sorts: usize) -> Cursor
+    requires { Room 1 plan.old st × (sorts ≤ 31) }
+    ensures { PutMarked plan.old plan.new st result (call_bytes (name_of (number_of_function name))) (call_marks (number_of_function name) sorts) }
 {
     let a = judged(st, call_verdict(name, sorts));
-    if name == 0 {
+    let Some(called) = name else {
         return a;
+    };
+    item(plan, a, call_kind(called))
+}
+
+// The kind of a call in a plan.
+fn call_kind(called: Function) -> u8
+    ensures { result ≡ 24 + number_of_function (Some called) }
+{
+    match called {
+        Function::Count => kinds::COUNT,
+        Function::Length => kinds::LENGTH,
+        Function::Value => kinds::VALUE,
+        Function::Match => kinds::MATCH,
+        Function::Search => kinds::SEARCH,
     }
-    item(plan, a, kinds::TEST + name)
 }
 
 // ---- what comes next

@@ -1,8 +1,11 @@
 // Verdicts of the walk on expressions and calls, by their sorts, and the numbers that readers hand on: sorts, flags of operands and of brackets.
 // Verdicts are numbers, 0 for none, since a cursor's marks hold the number (docs/DECISIONS.md, 107: a cursor is four words).
-ghost use Rattle.std.specs.Prelude.{◌≡◌, ◌≤◌};
-ghost use Rattle.compile_writes.specs.Sorts.{value_verdict, nodes_verdict, compared_verdict, call_verdict, named_sort};
+ghost use Rattle.std.specs.Prelude.{◌≡◌, ◌≤◌, Some};
+ghost use Rattle.compile_writes.specs.Sorts.{value_verdict, nodes_verdict, compared_verdict, two_verdict, call_verdict, named_sort};
+ghost use Rattle.parser_scan.specs.Text.{number_of_function};
 ghost use Rattle.parser_items.specs.Reads.{Known, sort_of, sort_number, name_of, one_more_lem, sorts_from, is_comparable, flag_of_path, brackets_number};
+
+use parser_scan::Function;
 
 pub fn value_verdict(sort: usize) -> u8
     requires { Known sort }
@@ -47,16 +50,24 @@ pub fn compared(sort: usize, asked: bool) -> u8
 }
 
 // The verdict on a call: the name first, then the number of arguments, then their types.
-pub fn call_verdict(name: u8, sorts: usize) -> u8
-    requires { (name ≤ 5) × (sorts ≤ 31) }
-    ensures { result ≡ call_verdict (name_of name) (sorts_from sorts) }
+pub fn call_verdict(name: Option<Function>, sorts: usize) -> u8
+    requires { sorts ≤ 31 }
+    ensures { result ≡ call_verdict (name_of (number_of_function name)) (sorts_from sorts) }
 {
-    if name == 0 {
+    let Some(called) = name else {
         return 6;
+    };
+    match called {
+        Function::Match | Function::Search => two_verdict(sorts),
+        Function::Count | Function::Length | Function::Value => one_verdict(called, sorts),
     }
-    if name < 4 {
-        return one_verdict(name, sorts);
-    }
+}
+
+// The verdict on a call of match or search.
+fn two_verdict(sorts: usize) -> u8
+    requires { sorts ≤ 31 }
+    ensures { result ≡ two_verdict (sorts_from sorts) }
+{
     if sorts < 6 {
         return 5;
     }
@@ -71,9 +82,9 @@ pub fn call_verdict(name: u8, sorts: usize) -> u8
 }
 
 // The verdict on a call of count, length or value.
-pub fn one_verdict(name: u8, sorts: usize) -> u8
-    requires { ((1 ≤ name) × (name ≤ 3)) × (sorts ≤ 31) }
-    ensures { result ≡ call_verdict (name_of name) (sorts_from sorts) }
+pub fn one_verdict(called: Function, sorts: usize) -> u8
+    requires { (number_of_function (Some called) ≤ 3) × (sorts ≤ 31) }
+    ensures { result ≡ call_verdict (name_of (number_of_function (Some called))) (sorts_from sorts) }
 {
     if sorts == 0 {
         return 5;
@@ -81,24 +92,23 @@ pub fn one_verdict(name: u8, sorts: usize) -> u8
     if 5 < sorts {
         return 5;
     }
-    if name == 2 {
-        return value_verdict(sorts - 1);
+    match called {
+        Function::Length => value_verdict(sorts - 1),
+        _ => nodes_verdict(sorts - 1),
     }
-    nodes_verdict(sorts - 1)
 }
 
 // The sort of a call.
-pub fn call_sort(name: u8) -> usize
-    requires { name ≤ 5 }
-    ensures { result ≡ sort_number (named_sort (name_of name)) }
+pub fn call_sort(name: Option<Function>) -> usize
+    ensures { result ≡ sort_number (named_sort (name_of (number_of_function name))) }
 {
-    if name == 0 {
+    let Some(called) = name else {
         return 4;
+    };
+    match called {
+        Function::Match | Function::Search => 4,
+        Function::Count | Function::Length | Function::Value => 3,
     }
-    if name < 4 {
-        return 3;
-    }
-    4
 }
 
 // The number of the arguments' sorts with one more.

@@ -10,6 +10,8 @@ use Rattle.definition.specs.Walk.Named.{count, value_name, match, search, unknow
 use Rattle.basics.specs.Reads.{Reads, ReadsNone, StartsNot}
 use Rattle.utf8_laws.specs.Scan.{front, behind}
 use Rattle.parser_follow.specs.Numbers.{operator_number}
+use Rattle.parser_scan.specs.declared.Function.{Function}
+use Rattle.parser_scan.specs.declared.Function.TheVariants.{Count, Length, Value, Match, Search}
 use Rattle.parser_scan.specs.declared.Keyword.{Keyword}
 use Rattle.parser_scan.specs.declared.Keyword.TheVariants.{True, False, Null}
 pub use Rattle.parser_follow.specs.Follow.{hd, unblank, is_name_byte}
@@ -93,6 +95,15 @@ named_number Named.length = 2
 named_number value_name = 3
 named_number match = 4
 named_number search = 5
+
+-- the number of a function that the code names, 0 for none
+abbrev pub number_of_function : Option Function → ℕ
+number_of_function None = 0
+number_of_function (Some Count) = 1
+number_of_function (Some Length) = 2
+number_of_function (Some Value) = 3
+number_of_function (Some Match) = 4
+number_of_function (Some Search) = 5
 
 -- the literals that are words: 1 true, 2 false, 3 null; 0 for any other word
 unfoldable pub keyword_number : List ℕ → ℕ

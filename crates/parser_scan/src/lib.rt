@@ -7,10 +7,20 @@ ghost use Rattle.definition.specs.Bytes.{part, within};
 ghost use Rattle.definition.specs.Utf8.{is_utf8};
 ghost use Rattle.definition.specs.Lexical.{is_blank, is_function_char};
 ghost use Rattle.definition.specs.Walk.{named};
-ghost use Rattle.parser_scan.specs.Text.{is_name_byte, Is, Both, Run, Skipped, Tests, ReadsName, ReadsWord, ReadsOperator, named_number, keyword_number, number_of_keyword};
+ghost use Rattle.parser_scan.specs.Text.{is_name_byte, Is, Both, Run, Skipped, Tests, ReadsName, ReadsWord, ReadsOperator, named_number, number_of_function, keyword_number, number_of_keyword};
 
 use plan_format::operators;
 use text::parts::same_bytes;
+
+// The functions that a query may call.
+#[derive(Clone, Copy)]
+pub enum Function {
+    Count,
+    Length,
+    Value,
+    Match,
+    Search,
+}
 
 // The literals that are words.
 #[derive(Clone, Copy)]
@@ -132,28 +142,28 @@ pub fn read_word(s: &[u8], at: usize) -> Result<usize, usize>
     Ok(word_end(s, at + 1))
 }
 
-// Which function the word from `at` to `end` names.
-pub fn named_at(s: &[u8], at: usize, end: usize) -> u8
+// Which function the word from `at` to `end` names, if any.
+pub fn named_at(s: &[u8], at: usize, end: usize) -> Option<Function>
     requires { (at ≤ end) × (end ≤ length s.now) }
-    ensures { result ≡ named_number (named (part s.now at (end - at))) }
+    ensures { number_of_function result ≡ named_number (named (part s.now at (end - at))) }
 {
     let w = &s[at..end];
     if same_bytes(w, b"count") {
-        return 1;
+        return Some(Function::Count);
     }
     if same_bytes(w, b"length") {
-        return 2;
+        return Some(Function::Length);
     }
     if same_bytes(w, b"value") {
-        return 3;
+        return Some(Function::Value);
     }
     if same_bytes(w, b"match") {
-        return 4;
+        return Some(Function::Match);
     }
     if same_bytes(w, b"search") {
-        return 5;
+        return Some(Function::Search);
     }
-    0
+    None
 }
 
 // Which literal the word from `at` to `end` is, if any.

@@ -4,6 +4,7 @@ use Rattle.std.proofs.lemmas.Result.{err_from_is_err_and}
 use borrow.Author.Rules.{rules}
 use native.Mathlib.Omega.{arith}
 use Rattle.compile_writes.specs.Sorts.{sort_basic, sort_and_lem, sort_argument}
+use Rattle.parser_scan.specs.Text.{number_of_function}
 use Rattle.parser_items.specs.Reads.{stop, next, sort_of}
 use Rattle.parser_items.specs.Laws.{read_of, none_of, whole, asks_whole, post_whole, operator_of_lem, no_operator_of, loose_of, loose_none_of, done_plan, done_pool, asks_less, word_of, no_word_of}
 use Rattle.parser_laws.specs.And.{and_none}
@@ -337,7 +338,7 @@ filter-returns t c = filter_read c.requires c.skip_blanks-a.ensures (c.moved.ens
 
 -- call-function
 pub call::function-arguments-requires : goal.call::function-arguments-requires
-call::function-arguments-requires t c = (omega (arith, c.skip_blanks-a.ensures.from, c.moved.ensures.place, c.decreases), (asks_skipped c.requires.0 c.skip_blanks-a.ensures (c.moved.ensures.place, (c.moved.ensures.lengths, c.moved.ensures.marks)), call_start c.skip_blanks-a.ensures (c.moved.ensures.place, (c.moved.ensures.lengths, c.moved.ensures.marks))))
+call::function-arguments-requires t c = (omega (arith, c.skip_blanks-a.ensures.from, c.moved.ensures.place, c.decreases), (asks_skipped c.requires c.skip_blanks-a.ensures (c.moved.ensures.place, (c.moved.ensures.lengths, c.moved.ensures.marks)), call_start c.skip_blanks-a.ensures (c.moved.ensures.place, (c.moved.ensures.lengths, c.moved.ensures.marks))))
 
 -- call-function
 pub call::function-returns-in_err-n : goal.call::function-returns-in_err-n
@@ -349,7 +350,7 @@ call::function-skip_blanks-e-requires t c = (read_of c.arguments.ensures c.in_ok
 
 -- call-function
 pub call::function-returns-then-not-is : goal.call::function-returns-then-not-is
-call::function-returns-then-not-is t c = stop (call_unclosed c.skip_blanks-a.ensures (c.moved.ensures.place, (c.moved.ensures.lengths, c.moved.ensures.marks)) c.args.name (read_of c.arguments.ensures c.in_ok-n.was) c.skip_blanks-e.ensures (rw (not-true c.is.result (ap not c.if-not-is.true)) at c.is.ensures))
+call::function-returns-then-not-is t c = stop (call_unclosed c.skip_blanks-a.ensures (c.moved.ensures.place, (c.moved.ensures.lengths, c.moved.ensures.marks)) (number_of_function c.args.name) (read_of c.arguments.ensures c.in_ok-n.was) c.skip_blanks-e.ensures (rw (not-true c.is.result (ap not c.if-not-is.true)) at c.is.ensures))
 
 -- call-function
 pub call::function-overflow_add-e : goal.call::function-overflow_add-e
@@ -359,15 +360,11 @@ call::function-overflow_add-e t c = record { fits = omega (arith, (rw (not-false
 pub call::function-write_call-requires : goal.call::function-write_call-requires
 call::function-write_call-requires t c =
     let h = read_of c.arguments.ensures c.in_ok-n.was in
-    (room 1 (lit≤ tt) (asks_call c.skip_blanks-a.ensures (c.moved.ensures.place, (c.moved.ensures.lengths, c.moved.ensures.marks)) c.args.name h c.skip_blanks-e.ensures c.requires.0 (rw (not-false c.is.result (ap not c.if-not-is.false)) at c.is.ensures) (c.moved-2.ensures.place, (c.moved-2.ensures.lengths, c.moved-2.ensures.marks))), (c.requires.1, arguments_small h))
-
--- call-function
-pub call::function-call_sort-requires : goal.call::function-call_sort-requires
-call::function-call_sort-requires t c = c.requires.1
+    (room 1 (lit≤ tt) (asks_call c.skip_blanks-a.ensures (c.moved.ensures.place, (c.moved.ensures.lengths, c.moved.ensures.marks)) (number_of_function c.args.name) h c.skip_blanks-e.ensures c.requires (rw (not-false c.is.result (ap not c.if-not-is.false)) at c.is.ensures) (c.moved-2.ensures.place, (c.moved-2.ensures.lengths, c.moved-2.ensures.marks))), arguments_small h)
 
 -- call-function
 pub call::function-returns : goal.call::function-returns
-call::function-returns t c = next (call_closed c.skip_blanks-a.ensures (c.moved.ensures.place, (c.moved.ensures.lengths, c.moved.ensures.marks)) c.args.name (read_of c.arguments.ensures c.in_ok-n.was) c.skip_blanks-e.ensures (rw (not-false c.is.result (ap not c.if-not-is.false)) at c.is.ensures) (c.moved-2.ensures.place, (c.moved-2.ensures.lengths, c.moved-2.ensures.marks)) c.write_call.ensures c.call_sort.ensures)
+call::function-returns t c = next (call_closed c.skip_blanks-a.ensures (c.moved.ensures.place, (c.moved.ensures.lengths, c.moved.ensures.marks)) (number_of_function c.args.name) (read_of c.arguments.ensures c.in_ok-n.was) c.skip_blanks-e.ensures (rw (not-false c.is.result (ap not c.if-not-is.false)) at c.is.ensures) (c.moved-2.ensures.place, (c.moved-2.ensures.lengths, c.moved-2.ensures.marks)) c.write_call.ensures c.call_sort.ensures)
 
 -- call-more
 pub call::more-loop-now-init : goal.call::more-loop-now-init
@@ -668,7 +665,7 @@ pub operand-function-requires : goal.operand-function-requires
 operand-function-requires t c =
     let w = word_of c.read_word.ensures c.in-Ok.is in
     let i = rw c.if-is-3.true at c.is-3.ensures in
-    (omega (arith, c.decreases, w.from, i.0, c.moved-then-is-3.ensures.place), asks_call_there c.requires w i (c.moved-then-is-3.ensures.place, (c.moved-then-is-3.ensures.lengths, c.moved-then-is-3.ensures.marks)) c.named_at.ensures)
+    (omega (arith, c.decreases, w.from, i.0, c.moved-then-is-3.ensures.place), asks_call_there c.requires w i (c.moved-then-is-3.ensures.place, (c.moved-then-is-3.ensures.lengths, c.moved-then-is-3.ensures.marks)))
 
 -- operand
 pub operand-returns-then-is-3 : goal.operand-returns-then-is-3

@@ -1,20 +1,20 @@
 -- `parser_items::verdicts::call_sort` meets its contract: the functions fall into three groups.
 --
-use mathlib.Core.Path.{refl}
-use Rattle.parser_items.proofs.Typing.{name_one, name_two}
-use native.Mathlib.Omega.{arith}
+use mathlib.Core.Path.{◌≡◌, refl}
 use Rattle.compile_writes.specs.Sorts.{named_sort}
-use Rattle.parser_items.specs.Reads.{sort_number}
+use Rattle.parser_scan.specs.Text.{number_of_function}
+use Rattle.parser_items.specs.Reads.{sort_number, name_of}
+use Rattle.parser_items.proofs.Typing.{by_two, by_three}
 use Rattle.parser_items.proofs.verdicts.call_sort.Goals as goal
 
-pub returns-then-name-eq0 : goal.returns-then-name-eq0
+pub returns-in_default : goal.returns-in_default
 unfolding named_sort
-returns-then-name-eq0 c = rw c.if-name-eq0.true
+returns-in_default c = rw c.in_default.is
 
-pub returns-then-name-lt4 : goal.returns-then-name-lt4
+pub returns-in-Match : goal.returns-in-Match
 unfolding named_sort
-returns-then-name-lt4 c = name_one (λ n. sort_number (named_sort n)) 3 c.args.name (omega arith) (omega arith) (λ q. refl) (λ q. refl) refl
+returns-in-Match c = by_two (λ n. 4 ≡ sort_number (named_sort (name_of (number_of_function n)))) c.in-Some.is c.in-Match.is refl refl
 
-pub returns : goal.returns
+pub returns-in-Count : goal.returns-in-Count
 unfolding named_sort
-returns c = name_two (λ n. sort_number (named_sort n)) 4 c.args.name (omega arith) c.requires refl refl
+returns-in-Count c = by_three (λ n. 3 ≡ sort_number (named_sort (name_of (number_of_function n)))) c.in-Some.is c.in-Count.is refl refl refl

@@ -1,19 +1,16 @@
--- `parser_items::verdicts::call_verdict` meets its contract: the name first, then the number of arguments, then their types in order.
+-- `parser_items::verdicts::call_verdict` meets its contract: the functions fall into three groups.
 --
-use Rattle.parser_items.proofs.Typing.{two_unknown, two_few, two_many, two_right, two_left}
+use mathlib.Core.Path.{◌≡◌}
+use Rattle.compile_writes.specs.Sorts.{call_verdict}
+use Rattle.parser_scan.specs.Text.{number_of_function}
+use Rattle.parser_items.specs.Reads.{name_of, sorts_from}
+use Rattle.parser_items.proofs.Typing.{by_two}
 use Rattle.parser_items.proofs.verdicts.call_verdict.Goals as goal
 
-pub returns-then-name-eq0 : goal.returns-then-name-eq0
-returns-then-name-eq0 c = two_unknown c.args.name c.args.sorts c.if-name-eq0.true
+pub returns-in_default : goal.returns-in_default
+unfolding call_verdict
+returns-in_default c = rw c.in_default.is
 
-pub returns-then-sorts-lt6 : goal.returns-then-sorts-lt6
-returns-then-sorts-lt6 c = two_few c.args.name c.args.sorts c.if-name-lt4.false c.requires.0 c.if-sorts-lt6.true
-
-pub returns-then-sorts-gt30 : goal.returns-then-sorts-gt30
-returns-then-sorts-gt30 c = two_many c.args.name c.args.sorts c.if-name-lt4.false c.requires.0 c.if-sorts-gt30.true
-
-pub returns-then-left-eq0 : goal.returns-then-left-eq0
-returns-then-left-eq0 c = two_right c.args.name c.args.sorts c.if-name-lt4.false c.requires.0 c.if-sorts-lt6.false c.if-sorts-gt30.false c.value_verdict-left.ensures c.if-left-eq0.true c.value_verdict.ensures
-
-pub returns : goal.returns
-returns c = two_left c.args.name c.args.sorts c.if-name-lt4.false c.requires.0 c.if-sorts-lt6.false c.if-sorts-gt30.false c.value_verdict-left.ensures c.if-left-eq0.false
+pub returns-in-Match : goal.returns-in-Match
+unfolding call_verdict
+returns-in-Match c = by_two (λ n. c.two_verdict.result ≡ call_verdict (name_of (number_of_function n)) (sorts_from c.args.sorts)) c.in-Some.is c.in-Match.is c.two_verdict.ensures c.two_verdict.ensures
