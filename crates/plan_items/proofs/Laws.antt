@@ -26,8 +26,9 @@ use Rattle.plan_laws.specs.Leaves.{texts, integers, floats, smalls, unsigned_sam
 use Rattle.utf8_laws.specs.Bytes.{by_test}
 use Rattle.text.specs.Words.{Word}
 use Rattle.text.proofs.Same.{part_rest}
-use Rattle.plan_items.specs.Readings.{Within, next, stop, AnyRoom, AnyPool}
-use Rattle.std.specs.Prelude.{Some, None}
+use Rattle.plan_items.specs.Readings.{Within, next, stop, AnyRoom, AnyPool, Eight, short, failed, passed}
+use Rattle.std.specs.Prelude.{Option, Some, None}
+use Rattle.plan_items.specs.declared.Got.{Got}
 use Rattle.plan_items.proofs.Words.{word_at}
 
 -- ---- texts
@@ -182,6 +183,13 @@ module _ {S : List ℕ} {at p : ℕ} (ok : ℤ → Bool) (σ : ℕ) where
           });
     }
 
+  -- by what is answered of the eight bytes
+  pub integer_tested : {answers : ℕ → Bool → Type 0} {r : Option Got} → ((i : ℕ) → get_or S i 0 < 256) → ((z : ℤ) → ok z ≡ true → inside_i64 z ≡ true) → ((n : ℕ) (b : Bool) → n < 2 ^ 64 → answers n b → b ≡ ok (signed64 n))
+      → Eight answers σ S at p r → AnyPool (integers ok σ) S at p r
+  integer_tested bytes inside says (short h) = integer_short h
+  integer_tested bytes inside says (failed {n = n} h w f) = let k = w.fits in integer_wrong bytes h w inside (sym (says n false (omega arith) f))
+  integer_tested bytes inside says (passed {n = n} h w f) = let k = w.fits in integer_found bytes h w (sym (says n true (omega arith) f))
+
 -- ---- floats
 
 module _ {S : List ℕ} {at p : ℕ} where
@@ -214,6 +222,11 @@ module _ {S : List ℕ} {at p : ℕ} where
             sort = refl;
           });
     }
+
+  pub float_tested : {answers : ℕ → Bool → Type 0} {r : Option Got} → ((i : ℕ) → get_or S i 0 < 256) → ((n : ℕ) (b : Bool) → answers n b → b ≡ is_finite n) → Eight answers 2 S at p r → AnyPool (floats 2) S at p r
+  float_tested bytes says (short h) = float_short h
+  float_tested bytes says (failed {n = n} h w f) = float_wrong bytes h w (sym (says n false f))
+  float_tested bytes says (passed {n = n} h w f) = float_found bytes h w (sym (says n true f))
 
 -- ---- one byte
 

@@ -1,10 +1,11 @@
 -- What the readers of plan items answer. A reader is handed a plan S, a pool L, a place in each, and how many more items may stand around one.
 -- It answers that a part of a query form is spelled there, and where the plan and the pool stand behind it, or that no part of its kind is.
-use Rattle.std.specs.Prelude.{ℕ, ◌+◌, ◌≤◌, ◌≡◌, List, [], ◌∷◌, ◌++◌, Bool, true, false, cond, eqb, ℤ, length, drop}
+use Rattle.std.specs.Prelude.{ℕ, ◌+◌, ◌-◌, ◌≤◌, ◌<◌, ◌≡◌, List, [], ◌∷◌, ◌++◌, Bool, true, false, cond, eqb, ℤ, length, drop}
 use Rattle.std.proofs.Math.Option.{Option}
 use Rattle.definition.specs.Limits.{max_plan, max_nesting}
 use Rattle.definition.specs.QueryForms.{bound_right}
 use Rattle.definition.specs.Plans.{eight_of}
+use Rattle.text.specs.Words.{Word}
 use Rattle.plan_laws.specs.Parts.{Part, Spelt}
 use Rattle.plan_laws.specs.Leaves.{bit}
 use Rattle.plan_laws.specs.Operands.{Call, call_count, call_length, call_value, calls_part}
@@ -60,6 +61,12 @@ pub record AnyRoom {X : Type 0} (F : Part X) (S L : List ℕ) (at p : ℕ) (r : 
 -- and for parts without texts: whatever the pool
 pub record AnyPool {X : Type 0} (F : Part X) (S : List ℕ) (at p : ℕ) (r : Answer Got) : Type 0 where
   pub any : (L : List ℕ) (room : ℕ) → p ≤ length L → Post F room S L at p r
+
+-- what is answered of the eight bytes of a number that is tested: too few bytes are left, or the answer of the test decides
+pub data Eight (answers : ℕ → Bool → Type 0) (sort : ℕ) (S : List ℕ) (at p : ℕ) : Answer Got → Type 0 where
+  short : length S - at < 8 → Eight answers sort S at p None
+  failed : {n : ℕ} → 8 ≤ length S - at → Word 8 S at n → answers n false → Eight answers sort S at p None
+  passed : {n : ℕ} → 8 ≤ length S - at → Word 8 S at n → answers n true → Eight answers sort S at p (Some (record { at = at + 8; p = p; h = 0; sort = sort }))
 
 -- eight bytes that are a bound, given or absent
 pub record BoundAt (S : List ℕ) (at flag : ℕ) : Type 0 where

@@ -2,7 +2,7 @@
 
 #![tactic(auto)]
 
-ghost use Rattle.std.specs.Prelude.{◌≡◌, max, ◌+◌, ◌≤◌, length};
+ghost use Rattle.std.specs.Prelude.{◌≡◌, true, max, ◌+◌, ◌≤◌, length};
 ghost use Rattle.definition.specs.Bytes.{signed64};
 ghost use Rattle.definition.specs.Limits.{max_nesting};
 ghost use Rattle.definition.specs.Literals.{in_range};
@@ -11,7 +11,7 @@ ghost use Rattle.definition.specs.Tables.{is_finite};
 ghost use Rattle.plan_laws.specs.Leaves.{texts, integers, floats, smalls, slices, literals};
 ghost use Rattle.plan_laws.specs.Operands.{allowed};
 ghost use Rattle.plan_laws.specs.Relations.{relations};
-ghost use Rattle.plan_items.specs.Readings.{Kind, call_of, Within, AnyRoom, AnyPool, IsBound, PostCalls};
+ghost use Rattle.plan_items.specs.Readings.{Kind, call_of, Within, AnyRoom, AnyPool, Eight, IsBound, PostCalls};
 
 use limits::MAX_INT;
 use plan_format::{kinds, lengths, operators, words};
@@ -95,21 +95,40 @@ pub fn finite(n: u64) -> bool
     n % SIGN / EXPONENT < NOT_FINITE
 }
 
-// An integer.
-pub fn integer(plan: &[u8], at: usize, p: usize) -> Option<Got>
-    requires { at ≤ length plan.now }
-    ensures { AnyPool (integers inside_i64 2) plan.now at p result }
+// A number of eight bytes that passes a test.
+fn number<F: Fn(u64) -> bool>(plan: &[u8], at: usize, p: usize, sort: usize, test: F) -> Option<Got>
+    requires place { at ≤ length plan.now }
+    requires callable { F.IsAlwaysCallable test }
+    ensures { Eight (F.post test) sort plan.now at p result }
 {
     if plan.len() - at < lengths::NUMBER_BODY {
         return None;
     }
     let n = bytes::word64(plan, at);
+    if !test(n) {
+        return None;
+    }
     Some(Got {
         at: at + lengths::NUMBER_BODY,
         p,
         h: 0,
-        sort: 2,
+        sort,
     })
+}
+
+// Every number in two's complement is an integer.
+fn every(_n: u64) -> bool
+    ensures { result ≡ true }
+{
+    true
+}
+
+// An integer.
+pub fn integer(plan: &[u8], at: usize, p: usize) -> Option<Got>
+    requires { at ≤ length plan.now }
+    ensures { AnyPool (integers inside_i64 2) plan.now at p result }
+{
+    number(plan, at, p, 2, every)
 }
 
 // An index.
@@ -117,19 +136,7 @@ pub fn index(plan: &[u8], at: usize, p: usize) -> Option<Got>
     requires { at ≤ length plan.now }
     ensures { AnyPool (integers in_range 1) plan.now at p result }
 {
-    if plan.len() - at < lengths::NUMBER_BODY {
-        return None;
-    }
-    let n = bytes::word64(plan, at);
-    if !in_range(n) {
-        return None;
-    }
-    Some(Got {
-        at: at + lengths::NUMBER_BODY,
-        p,
-        h: 0,
-        sort: 1,
-    })
+    number(plan, at, p, 1, in_range)
 }
 
 // A float.
@@ -137,19 +144,7 @@ pub fn float(plan: &[u8], at: usize, p: usize) -> Option<Got>
     requires { at ≤ length plan.now }
     ensures { AnyPool (floats 2) plan.now at p result }
 {
-    if plan.len() - at < lengths::NUMBER_BODY {
-        return None;
-    }
-    let n = bytes::word64(plan, at);
-    if !finite(n) {
-        return None;
-    }
-    Some(Got {
-        at: at + lengths::NUMBER_BODY,
-        p,
-        h: 0,
-        sort: 2,
-    })
+    number(plan, at, p, 2, finite)
 }
 
 // A byte below a limit.
