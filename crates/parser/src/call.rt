@@ -54,6 +54,7 @@ pub fn arguments(s: &[u8], plan: &mut [u8], pool: &mut [u8], st: Cursor) -> Step
 }
 
 // *( S "," S function-argument ), behind arguments of the given sorts
+// The sorts are one number, as `Step` tells numbers: it says up to two sorts, or that there are more, and the library has no heap for a list.
 #[cycle(grammar)]
 pub fn more(s: &[u8], plan: &mut [u8], pool: &mut [u8], st: Cursor, sorts: usize) -> Step
     requires { Asks 0 s.now plan.old pool.old st × (sorts ≤ 31) }

@@ -64,6 +64,7 @@ fn segment(s: &[u8], plan: &mut [u8], pool: &mut [u8], st: Cursor) -> Step
 }
 
 // bracketed-selection = "[" S selector *( S "," S selector ) S "]", of a segment of the given kind
+// A kind is a byte here and below, and no enum: it is only handed on, and is written as it is.
 #[cycle(grammar)]
 fn bracketed(s: &[u8], plan: &mut [u8], pool: &mut [u8], st: Cursor, kind: u8) -> Step
     requires { Asks 0 s.now plan.old pool.old st }
@@ -153,6 +154,7 @@ fn any(s: &[u8], plan: &mut [u8], pool: &mut [u8], st: Cursor, asked: bool) -> S
 }
 
 // *( S "||" S logical-and-expr ), behind an operand of the given sort
+// A sort or a flag is a number here and below: one `Step` tells sorts, flags and counts, and with an enum for each it would have a type for each.
 #[cycle(grammar)]
 fn more_or(s: &[u8], plan: &mut [u8], pool: &mut [u8], st: Cursor, sort: usize, asked: bool) -> Step
     requires { Asks 0 s.now plan.old pool.old st × (sort ≤ 4) }

@@ -86,6 +86,7 @@ pub fn item(plan: &mut [u8], st: Cursor, x: u8) -> Cursor
 }
 
 // A kind with two bytes behind it that are set later.
+// A kind is a byte here and below, and no enum: it is only handed on, and is written as it is.
 pub fn opened(plan: &mut [u8], st: Cursor, kind: u8) -> Cursor
     requires { Room 3 plan.old st }
     ensures { Put plan.old plan.new st result (kind ∷ 0 ∷ 0 ∷ []) }
@@ -96,6 +97,7 @@ pub fn opened(plan: &mut [u8], st: Cursor, kind: u8) -> Cursor
 }
 
 // What an expression of the given sort needs to stand as a test.
+// A sort or a flag is a number here and below: one `Step` tells sorts, flags and counts, and with an enum for each it would have a type for each.
 pub fn test_tail(plan: &mut [u8], st: Cursor, sort: usize) -> Cursor
     requires { Room 3 plan.old st × Known sort }
     ensures { Put plan.old plan.new st result (test_tail (sort_of sort)) }

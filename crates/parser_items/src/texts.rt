@@ -11,6 +11,7 @@ use crate::{Cursor, Step, moved, pooled};
 use text_quoted::unescape_string;
 
 // string-literal, whose quote stands at the cursor's place, as an item of the given kind; tells the given number.
+// The kind is a byte, and no enum: it is only handed on, and is written as it is.
 pub fn write_text(
     s: &[u8],
     plan: &mut [u8],

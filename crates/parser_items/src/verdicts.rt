@@ -1,4 +1,5 @@
 // Verdicts of the walk on expressions and calls, by their sorts, and the numbers that readers hand on: sorts, flags of operands and of brackets.
+// Sorts and flags are numbers, since one `Step` tells both and counts too: with an enum for each it would have a type for each.
 // Verdicts are numbers, 0 for none, since a cursor's marks hold the number (docs/DECISIONS.md, 107: a cursor is four words).
 ghost use Rattle.std.specs.Prelude.{◌≡◌, ◌≤◌, Some};
 ghost use Rattle.compile_writes.specs.Sorts.{value_verdict, nodes_verdict, compared_verdict, two_verdict, call_verdict, named_sort};
