@@ -69,7 +69,8 @@ impl<'a> Words<'a> {
     pub fn rest(&self) -> Option<&'a [u8]>
         ensures { left_of result ≡ left_of self.now.rest }
     {
-        self.rest
+        let Words { rest } = *self;
+        rest
     }
 }
 
