@@ -7,7 +7,7 @@ ghost use Rattle.definition.specs.Limits.{literal_limit};
 ghost use Rattle.definition.specs.Literals.{whole_numeral, float_numeral, exponent_right};
 ghost use Rattle.definition.specs.Tables.{is_finite};
 ghost use Rattle.number_integers.specs.Signed.{signed};
-ghost use Rattle.number_literals.specs.Values.{meaning, is_written, written_exponent, numeral_by};
+ghost use Rattle.number_literals.specs.Values.{meaning, numeral_by};
 
 use number_digits::LIMIT;
 use number_fives::LEAST;
@@ -19,13 +19,6 @@ pub enum Literal {
     Int(i64),
     Float(u64),
     Beyond,
-}
-
-// An exponent as it is written: whether it has a minus, and its number.
-#[derive(Clone, Copy)]
-pub struct Exponent {
-    pub low: bool,
-    pub value: u64,
 }
 
 // The largest E of a float literal, and the least one without its minus.
@@ -120,14 +113,14 @@ fn whole_literal(negative: bool, n: u64) -> Literal
 }
 
 // The parts together.
-pub fn numeral(negative: bool, n: u64, places: usize, exponent: Option<Exponent>) -> Literal
-    ensures { meaning result ≡ numeral_by negative n places (is_written exponent) (written_exponent exponent) }
+pub fn numeral(negative: bool, n: u64, places: usize, given: bool, low: bool, exp: u64) -> Literal
+    ensures { meaning result ≡ numeral_by negative n places given (signed low exp) }
 {
-    if let Some(e) = exponent {
-        return float_literal(negative, n, places, e.low, e.value);
+    if given {
+        return float_literal(negative, n, places, low, exp);
     }
     if places > 0 {
-        return float_literal(negative, n, places, false, 0);
+        return float_literal(negative, n, places, low, exp);
     }
     whole_literal(negative, n)
 }

@@ -15,8 +15,7 @@ use Rattle.number_digits.specs.Runs.{Is, DigitRun}
 use Rattle.number_digits.proofs.Unique.{begins, digit_bounds}
 use Rattle.number_parse.specs.Parts.{DigitsAt, has_exponent, is_low, exponent_digits, AfterExponent, ExponentAnswer, exponent_end, bad_exponent, PowerAnswer, power_end, bad_power, LetterAt}
 use Rattle.number_parse.specs.declared.ExponentRead.{ExponentRead}
-use Rattle.std.specs.Prelude.{Result, Ok, Err, Some, None}
-use Rattle.number_literals.specs.Values.{is_written, has_minus, magnitude}
+use Rattle.std.specs.Prelude.{Result, Ok, Err}
 use Rattle.number_parse.proofs.Fractions.{digits_only, digits_there, digits_none}
 
 -- ---- signs
@@ -86,15 +85,15 @@ module _ (s : List ℕ) (at end v : ℕ) (low : Bool) (R : DigitRun s at 0 end v
   pub no_power : end ≡ at → PowerAnswer s at low (Err at)
   no_power e = let t = R.to in bad_power {place = at} (omega arith) (omega arith) (rw e at R.stop)
 
-  pub power_there : (end ≡ at → ⊥) → PowerAnswer s at low (Ok (record { end = end; written = Some (record { low = low; value = v }) }))
-  power_there h = power_end {r = record { end = end; written = Some (record { low = low; value = v }) }} (digits_there s at 0 end v R h) refl refl
+  pub power_there : (end ≡ at → ⊥) → PowerAnswer s at low (Ok (record { end = end; given = true; low = low; value = v }))
+  power_there h = power_end {r = record { end = end; given = true; low = low; value = v }} (digits_there s at 0 end v R h) refl refl
 
 -- ---- behind a letter and a sign
 
 -- The text behind the letter is the sign g and the text from a place on, whatever digits are read there.
 module _ (s : List ℕ) (at from : ℕ) (g : Sign) (L : LetterAt s at) (low : at < from) (text : drop (at + 1) s ≡ spell_sign g (drop from s))
     (only : (k : Sign) (d : Digits) (r : List ℕ) → drop (at + 1) s ≡ spell_sign k (spell_digits d r) → drop from s ≡ spell_digits d r) where
-  found : (r : ExponentRead) → DigitsAt s from 0 r.end (magnitude r.written) → is_written r.written ≡ true → has_minus r.written ≡ low_sign g → ExponentAnswer s at (Ok r)
+  found : (r : ExponentRead) → DigitsAt s from 0 r.end r.value → r.given ≡ true → r.low ≡ low_sign g → ExponentAnswer s at (Ok r)
   found r D h l =
       let x = exponent L.letter L.good g D.tree in
       exponent_end {r = r}
@@ -150,8 +149,8 @@ module _ (s : List ℕ) (at : ℕ) (L : LetterAt s at) where
       go minus_sign d q e = absurd (N (spell_digits d q) e)
 
 -- Without a letter there is no exponent.
-pub without_letter : (s : List ℕ) (at : ℕ) → at ≤ length s → StartsNot is_e (drop at s) → ExponentAnswer s at (Ok (record { end = at; written = None }))
+pub without_letter : (s : List ℕ) (at : ℕ) → at ≤ length s → StartsNot is_e (drop at s) → ExponentAnswer s at (Ok (record { end = at; given = false; low = false; value = 0 }))
 unfolding decimal_from
 without_letter s at t n =
-    exponent_end {r = record { end = at; written = None }}
+    exponent_end {r = record { end = at; given = false; low = false; value = 0 }}
     (record { from = omega arith; to = t; tree = no_exponent; text = refl; stop = n; has = refl; sign = refl; value = refl })

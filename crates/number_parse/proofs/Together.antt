@@ -12,7 +12,7 @@ use Rattle.definition.specs.Lexical.Exponent.{no_exponent, exponent}
 use Rattle.definition.specs.Literals.{decimal, whole_digits, is_minus, numeral}
 use Rattle.basics.specs.Reads.{StartsNot}
 use Rattle.number_integers.specs.Signed.{signed}
-use Rattle.number_literals.specs.Values.{meaning, is_written, has_minus, magnitude, numeral_by}
+use Rattle.number_literals.specs.Values.{meaning, numeral_by}
 use Rattle.number_literals.specs.declared.Literal.{Literal}
 use Rattle.number_parse.specs.Parts.{fraction_digits, is_point, WholeAt, WholeAnswer, bad_whole, whole_end, AfterFraction, FractionAt, FractionAnswer, fraction_end, bad_fraction, has_exponent, is_low, exponent_digits, AfterExponent, ExponentAt, ExponentAnswer, exponent_end, bad_exponent}
 use Rattle.number_parse.specs.Numbers.{is_number_char, Ends, NumberAnswer, next_number, no_number_lem}
@@ -33,7 +33,7 @@ whole_at (whole_end w) = w
 pub fraction_at : {s : List ℕ} {at start : ℕ} {r : FractionRead} → FractionAnswer s at start (Ok r) → FractionAt s at start r.end r.places r.value
 fraction_at (fraction_end f) = f
 
-pub exponent_at : {s : List ℕ} {at : ℕ} {r : ExponentRead} → ExponentAnswer s at (Ok r) → ExponentAt s at r.end (is_written r.written) (has_minus r.written) (magnitude r.written)
+pub exponent_at : {s : List ℕ} {at : ℕ} {r : ExponentRead} → ExponentAnswer s at (Ok r) → ExponentAt s at r.end r.given r.low r.value
 exponent_at (exponent_end x) = x
 
 -- ---- what follows each part of a number

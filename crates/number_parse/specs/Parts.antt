@@ -8,7 +8,6 @@ use Rattle.definition.specs.Lexical.Exponent.{no_exponent, exponent}
 use Rattle.definition.specs.Literals.{decimal, decimal_from, digits_of, whole_digits, is_minus}
 use Rattle.basics.specs.Reads.{ReadsNone, StartsNot}
 use Rattle.number_digits.specs.Runs.{limit}
-use Rattle.number_literals.specs.Values.{is_written, has_minus, magnitude}
 use Rattle.number_parse.specs.declared.WholeRead.{WholeRead}
 use Rattle.number_parse.specs.declared.FractionRead.{FractionRead}
 use Rattle.number_parse.specs.declared.ExponentRead.{ExponentRead}
@@ -106,12 +105,12 @@ pub record ExponentNone (t : List ℕ) : Type 0 where
   pub none : (x : Exponent) (r : List ℕ) → AfterExponent x r → t ≡ spell_exponent x r → ⊥
 
 pub data ExponentAnswer (s : List ℕ) (at : ℕ) : Result ExponentRead ℕ → Type 0 where
-  exponent_end : {r : ExponentRead} → ExponentAt s at r.end (is_written r.written) (has_minus r.written) (magnitude r.written) → ExponentAnswer s at (Ok r)
+  exponent_end : {r : ExponentRead} → ExponentAt s at r.end r.given r.low r.value → ExponentAnswer s at (Ok r)
   bad_exponent : {place : ℕ} → at ≤ place → place ≤ length s → ExponentNone (drop at s) → ExponentAnswer s at (Err place)
 
 -- the digits of an exponent, behind its sign
 pub data PowerAnswer (s : List ℕ) (at : ℕ) (low : Bool) : Result ExponentRead ℕ → Type 0 where
-  power_end : {r : ExponentRead} → DigitsAt s at 0 r.end (magnitude r.written) → is_written r.written ≡ true → has_minus r.written ≡ low → PowerAnswer s at low (Ok r)
+  power_end : {r : ExponentRead} → DigitsAt s at 0 r.end r.value → r.given ≡ true → r.low ≡ low → PowerAnswer s at low (Ok r)
   bad_power : {place : ℕ} → at ≤ place → place ≤ length s → StartsNot is_digit (drop at s) → PowerAnswer s at low (Err place)
 
 -- whether an "e", in either case, stands at a place

@@ -9,7 +9,7 @@ ghost use Rattle.number_parse.specs.Parts.{WholeAnswer, FractionAnswer, Exponent
 ghost use Rattle.number_parse.specs.Numbers.{NumberAnswer, is_number_char, Ends};
 
 use limits::MAX_INT;
-use number_literals::{Exponent, Literal};
+use number_literals::Literal;
 
 // An int that was read: its end and its value.
 #[derive(Clone, Copy)]
@@ -48,11 +48,13 @@ pub struct FractionRead {
     pub value: u64,
 }
 
-// An exponent or none: its end, and the exponent where one is written, with its number kept at the limit.
+// An exponent or none: its end, whether one is written, whether it has a minus, and its number, kept at the limit.
 #[derive(Clone, Copy)]
 pub struct ExponentRead {
     pub end: usize,
-    pub written: Option<Exponent>,
+    pub given: bool,
+    pub low: bool,
+    pub value: u64,
 }
 
 // The answer for a magnitude and its sign: an index, a slice bound or a step is at most 2^53-1.
@@ -140,10 +142,9 @@ fn read_power(s: &[u8], at: usize, low: bool) -> Result<ExponentRead, usize>
     }
     Ok(ExponentRead {
         end: r.end,
-        written: Some(Exponent {
-            low,
-            value: r.value,
-        }),
+        given: true,
+        low,
+        value: r.value,
     })
 }
 
@@ -155,7 +156,9 @@ fn read_exponent(s: &[u8], at: usize) -> Result<ExponentRead, usize>
     if !is_letter(s, at) {
         return Ok(ExponentRead {
             end: at,
-            written: None,
+            given: false,
+            low: false,
+            value: 0,
         });
     }
     let from = at + 1;
@@ -199,7 +202,9 @@ pub fn parse_number(s: &[u8], at: usize) -> Result<NumberRead, usize>
         whole.negative,
         fraction.value,
         fraction.places,
-        exponent.written,
+        exponent.given,
+        exponent.low,
+        exponent.value,
     );
     Ok(NumberRead {
         end: exponent.end,
