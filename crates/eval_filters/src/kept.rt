@@ -1,7 +1,7 @@
 // The nodes of a range for which a test holds: a test of one member, with `!` or without, or of two with `&&` or `||` between them, where nothing or one name follows;
 // the number of all children compared with an integer, and a node itself compared with a literal, where nothing follows. Such a test is read from the plan once, and
 // needs no registers.
-ghost use Rattle.std.specs.Prelude.{◌≡◌, ◌+◌, ◌≤◌, ◌<◌, length, get_or};
+ghost use Rattle.std.specs.Prelude.{◌≡◌, ◌+◌, ◌≤◌, ◌<◌, length, get_or, IfSome};
 ghost use Rattle.definition.specs.Bytes.{number, part};
 ghost use Rattle.definition.specs.Limits.{max_plan};
 ghost use Rattle.eval_items.specs.Leaves.{AskOne, DoneOne};
@@ -13,19 +13,13 @@ ghost use Rattle.eval_filters.specs.Keeps.{AskTail, TailAt, DonePushed, PairAt, 
 ghost use Rattle.eval_filters.specs.Ways.{FormAt};
 
 use crate::atoms::{Atom, Held};
+use crate::itself::Itself;
 use crate::{atoms, counts, itself};
 use eval_items::{leaves, plans};
 use eval_values::members;
 use plan_format::kinds::{AND, END, NOT, OR};
 use table::records;
 use text::bytes;
-
-// The ways of a filter that is read once.
-const MEMBERS: u8 = 1;
-
-const COUNTED: u8 = 2;
-
-const ITSELF: u8 = 3;
 
 // A test of one member and, where join is `&&` or `||`, another; where it is `!`, the negation of the first.
 #[derive(Clone, Copy)]
@@ -288,85 +282,44 @@ fn is_join(k: u8) -> bool
     k <= OR
 }
 
-// A filter that is read once: way 1 for tests of members with the operator between them, 2 for the number of children and 3 for a node itself with the operator and
-// the form of the comparison, 0 for every other; and what follows.
+// A filter that is read once: tests of members with what follows, the number of children by its operator, and a node itself.
 #[derive(Clone, Copy)]
-pub struct Form {
-    pub way: u8,
-    pub op: u8,
-    pub form: u8,
-    pub left: Atom,
-    pub right: Atom,
-    pub tail: usize,
-}
-
-// Every other filter, with what follows.
-fn no_form(tail: usize) -> Form
-    ensures { (result.way ≡ 0) × (result.tail ≡ tail) }
-{
-    Form {
-        way: 0,
-        op: 0,
-        form: 0,
-        left: atoms::no_atom(),
-        right: atoms::no_atom(),
-        tail,
-    }
+pub enum Form {
+    Members(Pair, usize),
+    Counted(u8),
+    Itself(Itself),
 }
 
 // The filter from p up to z, at the end of its query, where it tests no member.
-fn read_alone(plan: &[u8], p: usize, z: usize, rest: usize) -> Form
+fn read_alone(plan: &[u8], p: usize, z: usize, rest: usize) -> Option<Form>
     requires ask_code { AskCode plan.now p z }
     requires rest_value { get_or plan.now rest 0 ≡ 0x0A }
-    ensures { FormAt plan.now p z rest result }
+    ensures { IfSome result (FormAt plan.now p z rest) }
 {
     if let Some(v) = itself::read_itself(plan, p, z) {
-        return Form {
-            way: ITSELF,
-            op: v.op,
-            form: v.form,
-            left: atoms::no_atom(),
-            right: atoms::no_atom(),
-            tail: 0,
-        };
+        return Some(Form::Itself(v));
     }
-    if let Some(op) = counts::read_counts(plan, p, z) {
-        return Form {
-            way: COUNTED,
-            op,
-            form: 0,
-            left: atoms::no_atom(),
-            right: atoms::no_atom(),
-            tail: 0,
-        };
-    }
-    no_form(0)
+    let op = counts::read_counts(plan, p, z)?;
+    Some(Form::Counted(op))
 }
 
-// The filter from p up to z with what follows at rest.
-pub fn read_form(plan: &[u8], p: usize, z: usize, rest: usize) -> Form
+// The filter from p up to z with what follows at rest, if it is one of these.
+pub fn read_form(plan: &[u8], p: usize, z: usize, rest: usize) -> Option<Form>
     requires ask_code { AskCode plan.now p z }
     requires ask_tail { AskTail plan.now rest }
-    ensures { FormAt plan.now p z rest result }
+    ensures { IfSome result (FormAt plan.now p z rest) }
 {
     let tail = tail_of(plan, rest);
     let Some(g) = read_pair(plan, p, z) else {
         if tail == 0 {
             return read_alone(plan, p, z, rest);
         }
-        return no_form(tail);
+        return None;
     };
     if tail <= 1 {
-        return Form {
-            way: MEMBERS,
-            op: g.join,
-            form: 0,
-            left: g.left,
-            right: g.right,
-            tail,
-        };
+        return Some(Form::Members(g, tail));
     }
-    no_form(tail)
+    None
 }
 
 // The nodes from i up to e that such a filter keeps, with what follows.
@@ -388,26 +341,27 @@ pub fn keep(
 ) -> usize
     requires ask_kept { AskKept plan.now pool.now table.now text.now root i e rest (length list.old) at cap }
     requires ask_test { AskTest plan.now pool.now p z }
-    requires form_at { FormAt plan.now p z rest g × (g.way ≡ 0 → ⊥) }
+    requires form_at { FormAt plan.now p z rest g }
     ensures { DoneRange plan.now pool.now table.now text.now root i e p z rest cap list.old at list.new result }
 {
-    let way = g.way;
-    let op = g.op;
-    if way == COUNTED {
-        return counts::keep_counts(
+    match g {
+        Form::Members(pair, tail) => {
+            let t = pair.left;
+            let u = pair.right;
+            let join = pair.join;
+            keep_pair(
+                plan, pool, table, text, root, i, e, p, z, t, join, u, tail, rest, list, at, cap,
+            )
+        }
+        Form::Counted(op) => counts::keep_counts(
             plan, pool, table, text, root, i, e, p, z, op, rest, list, at, cap,
-        );
+        ),
+        Form::Itself(v) => {
+            let form = v.form;
+            let op = v.op;
+            itself::keep_itself(
+                plan, pool, table, text, root, i, e, p, z, form, op, rest, list, at, cap,
+            )
+        }
     }
-    if way == ITSELF {
-        let form = g.form;
-        return itself::keep_itself(
-            plan, pool, table, text, root, i, e, p, z, form, op, rest, list, at, cap,
-        );
-    }
-    let t = g.left;
-    let u = g.right;
-    let tail = g.tail;
-    keep_pair(
-        plan, pool, table, text, root, i, e, p, z, t, op, u, tail, rest, list, at, cap,
-    )
 }

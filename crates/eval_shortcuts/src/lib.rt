@@ -140,10 +140,9 @@ pub fn keep_children(
 {
     let plan = lent.plan;
     let z = p + 3 + bytes::word16(plan, p + 1);
-    let g = kept::read_form(plan, p + 3, z, rest);
-    if g.way == 0 {
+    let Some(g) = kept::read_form(plan, p + 3, z, rest) else {
         return false;
-    }
+    };
     let table = lent.table;
     let i = records::first_child(table, node) as usize;
     let n = records::child_count(table, node) as usize;

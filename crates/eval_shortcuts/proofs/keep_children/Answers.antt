@@ -22,17 +22,17 @@ overflow_add-z-2 c = omega (arith, filter_inside c.requires.asked c.requires.ask
 pub overflow_add-p-2 : goal.overflow_add-p-2
 overflow_add-p-2 c = omega (arith, filter_bound c.requires.asked c.requires.ask_selector c.requires.ask_kind, c.requires.asked.given.few_p)
 
-pub read_form-g-requires : goal.read_form-g-requires
-read_form-g-requires c = record { ask_code = test_code c.requires.asked.given.few_p (test_asked c.requires.asked c.requires.ask_selector c.requires.ask_kind c.word16.ensures); ask_tail = tail_asked c.requires.asked.given.few_p (rest_asked c.requires.asked c.requires.ask_selector c.requires.ask_kind c.word16.ensures) }
+pub read_form-requires : goal.read_form-requires
+read_form-requires c = record { ask_code = test_code c.requires.asked.given.few_p (test_asked c.requires.asked c.requires.ask_selector c.requires.ask_kind c.word16.ensures); ask_tail = tail_asked c.requires.asked.given.few_p (rest_asked c.requires.asked c.requires.ask_selector c.requires.ask_kind c.word16.ensures) }
 
-pub returns-then-g-eq0 : goal.returns-then-g-eq0
-returns-then-g-eq0 c = record { steady = steady_refl _ _; done_keep = kept_none _ _ _ _ _ _ }
+pub returns-in_default : goal.returns-in_default
+returns-in_default c = record { steady = steady_refl _ _; done_keep = kept_none _ _ _ _ _ _ }
 
 pub overflow_add-p-3 : goal.overflow_add-p-3
 overflow_add-p-3 c = omega (arith, filter_bound c.requires.asked c.requires.ask_selector c.requires.ask_kind, c.requires.asked.given.few_p)
 
 pub keep-next-requires : goal.keep-next-requires
-keep-next-requires c = record { ask_kept = keep_asked c.requires.asked c.requires.ask_selector c.requires.ask_kind c.word16.ensures c.first_child-i.ensures c.child_count-n.ensures; ask_test = test_asked c.requires.asked c.requires.ask_selector c.requires.ask_kind c.word16.ensures; form_at = (c.read_form-g.ensures, c.if-g-eq0.false) }
+keep-next-requires c = record { ask_kept = keep_asked c.requires.asked c.requires.ask_selector c.requires.ask_kind c.word16.ensures c.first_child-i.ensures c.child_count-n.ensures; ask_test = test_asked c.requires.asked c.requires.ask_selector c.requires.ask_kind c.word16.ensures; form_at = c.in-Some.ensures }
 
 pub returns : goal.returns
 returns c = record { steady = steady_wrote _ _ _ _ c.keep-next.auto.list refl; done_keep = kept_done _ _ _ _ _ _ _ _ (keep_done c.requires.asked c.requires.ask_selector c.requires.ask_kind c.word16.ensures c.first_child-i.ensures c.child_count-n.ensures _ _ c.keep-next.ensures) }
