@@ -1,6 +1,6 @@
 -- From what a function of evaluation has at hand to what the next one asks, and from what that one gives to what was asked; the invariants of the loops, and their
 -- turns. P is the plan, L the pool, S the table, X the text; v is what is lent. Assumes nothing.
-use Rattle.std.specs.Prelude.{Some, None, ℕ, ◌+◌, ◌-◌, ◌≤◌, ◌<◌, ◌≡◌, refl, List, true, false, get_or}
+use Rattle.std.specs.Prelude.{Some, None, ℕ, ◌+◌, ◌-◌, ◌≤◌, ◌<◌, ◌≡◌, refl, List, get_or}
 use Rattle.std.proofs.Common.{sym, ap, ◌∙◌, subst, arith}
 use Rattle.std.proofs.Math.ListN.{length}
 use Rattle.std.specs.Borrow.{MutBor}

@@ -1,6 +1,6 @@
 -- Where evaluation begins: the names and indices at the front of a query, and what follows them. P is the plan, L the pool, S the table, X the text. Assumes
 -- nothing.
-use Rattle.std.specs.Prelude.{Some, None, ℕ, ◌<◌, ◌≡◌, List, true, false, length, get_or}
+use Rattle.std.specs.Prelude.{Some, None, ℕ, ◌<◌, ◌≡◌, List, length, get_or}
 use Rattle.std.proofs.Common.{◌∙◌, arith}
 use Rattle.definition.specs.Tables.{node_at}
 use Rattle.eval_laws.specs.States.{st, push}

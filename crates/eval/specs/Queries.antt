@@ -1,5 +1,5 @@
 -- A query in a filter's code: where it begins, that evaluation from there is what is asked for, and what the registers hold behind it. Assumes nothing.
-use Rattle.std.specs.Prelude.{Some, None, ℕ, ◌+◌, ◌≤◌, ◌<◌, ◌≡◌, refl, List, [], ◌∷◌, Bool as Bits, true, length, get_or}
+use Rattle.std.specs.Prelude.{Some, ℕ, ◌+◌, ◌≤◌, ◌<◌, ◌≡◌, refl, List, [], ◌∷◌, Bool as Bits, length, get_or}
 use Rattle.std.proofs.Common.{ap, ◌∙◌, subst, arith}
 use Rattle.definition.specs.Limits.{max_int}
 use Rattle.definition.specs.Values.{Json}

@@ -1,6 +1,5 @@
 -- `entrance::evaluate` meets its contract: nothing is found, or a node is pushed, or evaluation goes on behind its entrance.
 use mathlib.Core.Path.{refl}
-use borrow.Author.Tests.{not-true, not-false}
 use Rattle.eval.specs.Fronts.{front_asked, front_lost, front_on, front_end, front_in, front_push}
 use Rattle.eval.proofs.entrance.evaluate.Goals as goal
 
