@@ -49,6 +49,7 @@ pub struct FractionRead {
 }
 
 // An exponent or none: its end, whether one is written, whether it has a minus, and its number, kept at the limit.
+// A flag and no Option: `number_literals::numeral` takes the three by themselves, and its clause speaks of each, also where none is written.
 #[derive(Clone, Copy)]
 pub struct ExponentRead {
     pub end: usize,
