@@ -171,5 +171,8 @@ pub fn copy_part(src: &[u8], from: usize, n: usize, dst: &mut [u8], at: usize)
     requires { (from + n ≤ length src.now) × (at + n ≤ length dst.old) }
     ensures { Wrote dst.old at (part src.now from n) dst.new }
 {
-    dst[at..at + n].copy_from_slice(&src[from..from + n]);
+    // A loop and no `copy_from_slice`, which calls `memmove`: the library calls `memcpy` and `memset` of the C library alone.
+    for i in 0..n {
+        dst[at + i] = src[from + i];
+    }
 }
