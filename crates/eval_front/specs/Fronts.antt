@@ -1,17 +1,17 @@
 -- A segment of one name or index at the front of a query: what it is, and what follows where its node is found and where it is not. Assumes nothing.
-use Rattle.std.specs.Prelude.{ℕ, ◌+◌, ◌≤◌, ◌<◌, ◌≡◌, refl, true, false, length, Option, Some, None}
+use Rattle.std.specs.Prelude.{ℕ, ◌+◌, ◌≤◌, ◌<◌, ◌≡◌, refl, true, false, length, Option, Some, None, Ok, Err}
 use Rattle.std.proofs.Math.Path.{sym, ap}
 use Rattle.std.proofs.Common.{◌∙◌, subst, arith}
 use mathlib.Core.List.{List, [], ◌∷◌}
 use Rattle.std.proofs.lemmas.Bool.{false≢true}
-use Rattle.std.proofs.lemmas.Option.{none-some, same_Some}
+use Rattle.std.specs.Result.{is_ok}
 use Rattle.definition.specs.Limits.{max_plan}
 use Rattle.definition.specs.Values.{Json}
 use Rattle.definition.specs.Forms.{Segments, Selectors, Selector}
 use Rattle.definition.specs.Forms.Segments.{child}
 use Rattle.definition.specs.Forms.Selectors.{one}
 use Rattle.definition.specs.Plans.{code_segments, code_selector}
-use Rattle.definition.specs.Tables.{node_count, node_at, depth_at}
+use Rattle.definition.specs.Tables.{node_at}
 use Rattle.definition.specs.Evaluation.{eval_selectors, eval_selector}
 use Rattle.eval_laws.specs.States.{State}
 use Rattle.eval_laws.specs.Emits.{go, go_nil}
@@ -19,7 +19,7 @@ use Rattle.eval_laws.specs.Steps.{segment_child}
 use Rattle.eval_laws.specs.Items.{SegmentsAt, SelectorAt, parts, last}
 use Rattle.eval_items.specs.Ends.{DoneNext}
 use Rattle.eval_items.specs.Leaves.{member_nodes, AskOne, DoneOne}
-use Rattle.eval_front.specs.Visits.{Given, Head, Front, DoneReach}
+use Rattle.eval_front.specs.Visits.{Given, Head, node_of, Front, DoneReach}
 use Rattle.eval_front.specs.Stands.{segments_at}
 use Rattle.eval_front.specs.Loops.{Along, InReach}
 
@@ -88,7 +88,7 @@ module _ {P L S X : List ℕ} {node pc m q c : ℕ} (z : Given P L S X) (i : InR
       }
 
   -- there is no such node
-  pub reach_lost : (r : Option ℕ) → DoneOne P L S X (q + 3) m r → r ≡ None → (f : Segments) (k : ℕ) → SegmentsAt P L pc k f → Front P L S X node pc (record { node = None; pc = q }) f k
+  pub reach_lost : (r : Option ℕ) → DoneOne P L S X (q + 3) m r → r ≡ None → (f : Segments) (k : ℕ) → SegmentsAt P L pc k f → Front P L S X node pc (record { node = Err m; pc = q }) f k
   reach_lost r o a f k at =
       let w = i.front f k at in
       let y = single z.few_p d w.at in
@@ -97,12 +97,12 @@ module _ {P L S X : List ℕ} {node pc m q c : ℕ} (z : Given P L S X) (i : InR
         j = w.j;
         at = w.at;
         ends = w.ends;
-        found = λ n u. absurd (none-some n u);
-        lost = λ u R s. single_none y S X R (node_at S X m) s r a (o.selects y.x w.j R y.here) ∙ w.same R s;
+        found = λ n u. absurd (never (ap is_ok u));
+        lost = λ n u R s. single_none y S X R (node_at S X m) s r a (o.selects y.x w.j R y.here) ∙ w.same R s;
       }
 
-  pub done_lost : (r : Option ℕ) → DoneOne P L S X (q + 3) m r → r ≡ None → DoneReach P L S X node pc (record { node = None; pc = q })
-  done_lost r o a = record { node_in = λ n u. absurd (none-some n u); deeper = λ n u. absurd (none-some n u); later = i.later; front = reach_lost r o a }
+  pub done_lost : (r : Option ℕ) → DoneOne P L S X (q + 3) m r → r ≡ None → DoneReach P L S X node pc (record { node = Err m; pc = q })
+  done_lost r o a = record { node_in = i.node_in; deeper = i.deeper; later = i.later; front = reach_lost r o a }
 
   -- there is one
   module _ (r : Option ℕ) (o : DoneOne P L S X (q + 3) m r) (n : ℕ) (a : r ≡ Some n) (q' : ℕ) (v : DoneNext P (q + 3) q') where
@@ -134,7 +134,7 @@ module _ {P L S X : List ℕ} {node pc m q c : ℕ} (z : Given P L S X) (i : InR
         }
 
 -- where another item stands
-pub reach_found : {P L S X : List ℕ} {node pc m q : ℕ} → InReach P L S X node pc m q → (f : Segments) (k : ℕ) → SegmentsAt P L pc k f → Front P L S X node pc (record { node = Some m; pc = q }) f k
+pub reach_found : {P L S X : List ℕ} {node pc m q : ℕ} → InReach P L S X node pc m q → (f : Segments) (k : ℕ) → SegmentsAt P L pc k f → Front P L S X node pc (record { node = Ok m; pc = q }) f k
 reach_found {P} {L} {S} {X} {node} {pc} {m} {q} i f k at =
     let w = i.front f k at in
     record {
@@ -142,15 +142,9 @@ reach_found {P} {L} {S} {X} {node} {pc} {m} {q} i f k at =
       j = w.j;
       at = w.at;
       ends = w.ends;
-      found = λ n u R s. let e = same_Some m n u in subst (λ (x : ℕ). go w.g R (node_at S X x ∷ []) s ≡ go f R (node_at S X node ∷ []) s) e (w.same R s);
-      lost = λ u. absurd (none-some m (sym u));
+      found = λ n u R s. subst (λ (x : ℕ). go w.g R (node_at S X x ∷ []) s ≡ go f R (node_at S X node ∷ []) s) (ap node_of u) (w.same R s);
+      lost = λ n u. absurd (never (sym (ap is_ok u)));
     }
 
-pub done_found : {P L S X : List ℕ} {node pc m q : ℕ} → InReach P L S X node pc m q → DoneReach P L S X node pc (record { node = Some m; pc = q })
-done_found {P} {L} {S} {X} {node} {pc} {m} {q} i =
-    record {
-      node_in = λ n u. let e = same_Some m n u in subst (λ (x : ℕ). x < node_count S) e i.node_in;
-      deeper = λ n u. let e = same_Some m n u in subst (λ (x : ℕ). depth_at S node ≤ depth_at S x) e i.deeper;
-      later = i.later;
-      front = reach_found i;
-    }
+pub done_found : {P L S X : List ℕ} {node pc m q : ℕ} → InReach P L S X node pc m q → DoneReach P L S X node pc (record { node = Ok m; pc = q })
+done_found i = record { node_in = i.node_in; deeper = i.deeper; later = i.later; front = reach_found i }

@@ -1,6 +1,6 @@
 -- What the functions ask and give that visit nodes with a query. Each answer holds for every form whose code stands there. P is the plan, L the pool, S the
 -- table, X the text. Assumes nothing: these are definitions.
-use Rattle.std.specs.Prelude.{ℕ, zero, suc, ◌+◌, ◌-◌, ◌≤◌, ◌<◌, ◌≡◌, List, [], ◌∷◌, length, get_or, Some, None, Result, Ok, Err}
+use Rattle.std.specs.Prelude.{ℕ, zero, suc, ◌+◌, ◌-◌, ◌≤◌, ◌<◌, ◌≡◌, List, [], ◌∷◌, length, get_or, Result, Ok, Err}
 use Rattle.definition.specs.Bytes.{number, part}
 use Rattle.definition.specs.Limits.{max_plan, max_nodes}
 use Rattle.definition.specs.Values.{Json}
@@ -74,18 +74,23 @@ pub record AskReach (P L S X : List ℕ) (node pc : ℕ) : Type 0 where
   pub node_in : node < node_count S
   pub query : Query P L pc
 
+-- the node of either case: that to which the segments lead, or the last that was reached
+abbrev pub node_of : Result ℕ ℕ → ℕ
+node_of (Ok m) = m
+node_of (Err m) = m
+
 -- the rest of the query f at pc from where it leads
 pub record Front (P L S X : List ℕ) (node pc : ℕ) (r : Reached) (f : Segments) (k : ℕ) : Type 0 where
   pub g : Segments
   pub j : ℕ
   pub at : SegmentsAt P L r.pc j g
   pub ends : r.pc + length (code_segments g j) ≡ pc + length (code_segments f k)
-  pub found : (m : ℕ) → r.node ≡ Some m → (R : Json) (s : State) → go g R (node_at S X m ∷ []) s ≡ go f R (node_at S X node ∷ []) s
-  pub lost : r.node ≡ None → (R : Json) (s : State) → s ≡ go f R (node_at S X node ∷ []) s
+  pub found : (m : ℕ) → r.node ≡ Ok m → (R : Json) (s : State) → go g R (node_at S X m ∷ []) s ≡ go f R (node_at S X node ∷ []) s
+  pub lost : (m : ℕ) → r.node ≡ Err m → (R : Json) (s : State) → s ≡ go f R (node_at S X node ∷ []) s
 
 pub record DoneReach (P L S X : List ℕ) (node pc : ℕ) (r : Reached) : Type 0 where
-  pub node_in : (m : ℕ) → r.node ≡ Some m → m < node_count S
-  pub deeper : (m : ℕ) → r.node ≡ Some m → depth_at S node ≤ depth_at S m
+  pub node_in : node_of r.node < node_count S
+  pub deeper : depth_at S node ≤ depth_at S (node_of r.node)
   pub later : pc ≤ r.pc
   pub front : (f : Segments) (k : ℕ) → SegmentsAt P L pc k f → Front P L S X node pc r f k
 

@@ -17,10 +17,11 @@ use table::records;
 use table::records::KIND_LIST;
 use text::bytes;
 
-// Where the segments of one name or index at the front of a query lead: the node, if there is one, and the place of what follows, or of the segment that finds none.
+// Where the segments of one name or index at the front of a query lead: `Ok` with the node, and the place of what follows; or `Err` with the last node that was reached,
+// of which no such member or element is found, and the place of the segment that finds none.
 #[derive(Clone, Copy)]
 pub struct Reached {
-    pub node: Option<usize>,
+    pub node: Result<usize, usize>,
     pub pc: usize,
 }
 
@@ -73,29 +74,29 @@ pub fn reach(plan: &[u8], pool: &[u8], table: &[u8], text: &[u8], node: usize, p
             let n = bytes::word16(plan, q + 6);
             let found = leaves::named(plan, pool, table, text, q + 3, a, n, m);
             let Some(k) = found else {
-                return Reached { node: None, pc: q };
+                return Reached {
+                    node: Err(m),
+                    pc: q,
+                };
             };
             m = k;
             q += 8;
         } else {
             if head != INDEX_HEAD {
-                return Reached {
-                    node: Some(m),
-                    pc: q,
-                };
+                return Reached { node: Ok(m), pc: q };
             }
             let found = leaves::get_by_index(plan, pool, table, text, q + 3, m);
             let Some(k) = found else {
-                return Reached { node: None, pc: q };
+                return Reached {
+                    node: Err(m),
+                    pc: q,
+                };
             };
             m = k;
             q += 12;
         }
     }
-    Reached {
-        node: Some(m),
-        pc: q,
-    }
+    Reached { node: Ok(m), pc: q }
 }
 
 // The same where a selection begins, called only there. There are two because a compiler puts a function into its caller where it has one only.
@@ -114,7 +115,7 @@ pub fn front(plan: &[u8], pool: &[u8], table: &[u8], text: &[u8], node: usize, p
             let found = leaves::first_named(plan, pool, table, text, rest + 3, a, n, m);
             let Some(k) = found else {
                 return Reached {
-                    node: None,
+                    node: Err(m),
                     pc: rest,
                 };
             };
@@ -123,14 +124,14 @@ pub fn front(plan: &[u8], pool: &[u8], table: &[u8], text: &[u8], node: usize, p
         } else {
             if head != INDEX_HEAD {
                 return Reached {
-                    node: Some(m),
+                    node: Ok(m),
                     pc: rest,
                 };
             }
             let found = leaves::get_by_index(plan, pool, table, text, rest + 3, m);
             let Some(k) = found else {
                 return Reached {
-                    node: None,
+                    node: Err(m),
                     pc: rest,
                 };
             };
@@ -139,7 +140,7 @@ pub fn front(plan: &[u8], pool: &[u8], table: &[u8], text: &[u8], node: usize, p
         }
     }
     Reached {
-        node: Some(m),
+        node: Ok(m),
         pc: rest,
     }
 }
@@ -161,7 +162,7 @@ pub fn visit(
 {
     let r = reach(plan, pool, table, text, node, rest);
     let pc = r.pc;
-    let Some(m) = r.node else {
+    let Ok(m) = r.node else {
         return Ok(at);
     };
     if plan[pc] != END {
