@@ -1,6 +1,6 @@
 -- A test of one member of a node, as the plan has it: `@` with one name, tested or compared with a literal. What its bytes are, and that what is found under the
 -- name takes what is left of a filter's code further. P is the plan, L the pool, S the table, X the text. Assumes nothing.
-use Rattle.std.specs.Prelude.{ℕ, ◌+◌, ◌≤◌, ◌<◌, ◌≡◌, refl, List, Bool as Bits, true, false, cond, eqb, ltb, length, get_or, Option, Some, None}
+use Rattle.std.specs.Prelude.{ℕ, ◌+◌, ◌≤◌, ◌<◌, ◌≡◌, refl, List, Bool as Bits, true, false, cond, eqb, ltb, length, get_or, Option, Some, None, Ok, Err}
 use Rattle.std.proofs.Common.{sym, ap, ◌∙◌, subst, arith, eq-eqb, ne_eqb, eqb-true}
 use Rattle.std.proofs.lemmas.Bool.{eqb-false}
 use Rattle.definition.specs.Bytes.{number, part}
@@ -67,10 +67,10 @@ module _ {P L S X : List ℕ} (given : Given P L S X) {node c : ℕ} (node_in : 
   pub name_one : AskOne P L S X (c + 3) node 5 5
   name_one = one_asked given name_start n.head
 
-  pub name_lost : (r : Option ℕ) → DoneOne P L S X (c + 3) node r → r ≡ None → DoneReach P L S X node c (record { node = None; pc = c })
+  pub name_lost : (r : Option ℕ) → DoneOne P L S X (c + 3) node r → r ≡ None → DoneReach P L S X node c (record { node = Err node; pc = c })
   name_lost r o e = done_lost given name_start n.head r o e
 
-  pub name_reached : (r : Option ℕ) → DoneOne P L S X (c + 3) node r → (m : ℕ) → r ≡ Some m → DoneReach P L S X node c (record { node = Some m; pc = c + 8 })
+  pub name_reached : (r : Option ℕ) → DoneOne P L S X (c + 3) node r → (m : ℕ) → r ≡ Some m → DoneReach P L S X node c (record { node = Ok m; pc = c + 8 })
   name_reached r o m e = done_found (reach_next given name_start n.head r o m e (c + 8) (name_ends given.few_p n.head))
 
 -- ---- the member of a name, at a place or by a search

@@ -1,7 +1,7 @@
 -- All children of a node that names and indices lead to, counted, and that number compared with a literal: what the functions of `children` ask and give, and their laws.
 -- P is the plan, L the pool, S the table, X the text. Assumes nothing.
 use Prim.Native.Nat.{ℕ, ◌+◌, ◌-◌, ◌≤◌, ◌<◌, min}
-use Rattle.std.specs.Prelude.{◌≡◌, List, [], ◌∷◌, Bool as Bits, true, false, ℤ, pos, length, get_or, Some}
+use Rattle.std.specs.Prelude.{◌≡◌, List, [], ◌∷◌, Bool as Bits, true, false, ℤ, pos, length, get_or, Ok}
 use Rattle.std.proofs.Math.Path.{refl, ap}
 use Rattle.std.proofs.Common.{◌∙◌}
 use Rattle.std.proofs.lemmas.List.{length-map}
@@ -103,11 +103,11 @@ next_of xs ys cap n e l m =
     let d = ap (λ (s : State). s.next) e in
     omega arith
 
-module _ (P L S X : List ℕ) (given : Given P L S X) (from q m c : ℕ) (d : DoneReach P L S X from (q + 1) (record { node = Some m; pc = c })) (w : Star P c) (n : ℕ) (g : n ≡ child_count S m) where
+module _ (P L S X : List ℕ) (given : Given P L S X) (from q m c : ℕ) (d : DoneReach P L S X from (q + 1) (record { node = Ok m; pc = c })) (w : Star P c) (n : ℕ) (g : n ≡ child_count S m) where
   star_goes : (h : Segments) (k : ℕ) → SegmentsAt P L c k h → (R : Json) (s : State) → emit (ids (nodes S X (low_word S m) n)) s ≡ go h R (node_at S X m ∷ []) s
   unfolding go eval_segments eval_selectors
   star_goes h k a R s =
-      select_wildcard S X given.tab m (d.node_in m refl) (low_word S m) n (range_of_lem S X given.tab m (d.node_in m refl) (low_word S m) n refl g) end R s wildcard refl
+      select_wildcard S X given.tab m d.node_in (low_word S m) n (range_of_lem S X given.tab m d.node_in (low_word S m) n refl g) end R s wildcard refl
       ∙ segment_child (one wildcard) end h R (node_at S X m) s (star_made P L given.few_p c k h a w.child_is w.alone w.wildcard_is w.end_is)
 
   pub star_count : (f : Segments) (k : ℕ) → SegmentsAt P L (q + 1) k f → Value.integer (pos n) ≡ count_value (eval_segments f (node_at S X from) (node_at S X from ∷ []))
@@ -115,7 +115,7 @@ module _ (P L S X : List ℕ) (given : Given P L S X) (from q m c : ℕ) (d : Do
   star_count f k a =
       let y = d.front f k a in
       let e = star_goes y.g y.j y.at (node_at S X from) (st (max_int - 1) (0 ∷ []) 0) ∙ y.found m refl (node_at S X from) (st (max_int - 1) (0 ∷ []) 0) in
-      let z = next_of (nodes S X (low_word S m) n) (eval_segments f (node_at S X from) (node_at S X from ∷ [])) (max_int - 1) n e (length_nodes S X (low_word S m) n) (omega (arith, given.tab.inside m (d.node_in m refl), given.tab.size.few)) in
+      let z = next_of (nodes S X (low_word S m) n) (eval_segments f (node_at S X from) (node_at S X from ∷ [])) (max_int - 1) n e (length_nodes S X (low_word S m) n) (omega (arith, given.tab.inside m d.node_in, given.tab.size.few)) in
       let u : n ≡ min (length (eval_segments f (node_at S X from) (node_at S X from ∷ []))) max_int = omega arith in
       ap (λ (x : ℕ). Value.integer (pos x)) u
 
@@ -191,7 +191,7 @@ module _ {P L S X : List ℕ} {n z e : ℕ} (a : AskCounted P L S X n z e) (m : 
 
 pub record AskCounting (P L S X : List ℕ) (root node from q m c : ℕ) : Type 0 where
   pub begins : from ≡ begins_at (get_or P q 0) root node
-  pub reach : DoneReach P L S X from (q + 1) (record { node = Some m; pc = c })
+  pub reach : DoneReach P L S X from (q + 1) (record { node = Ok m; pc = c })
 
 module _ {P L S X : List ℕ} {root node from q e m c : ℕ} (a : AskShort P L S X root node q e) (b : AskCounting P L S X root node from q m c) where
   given_short : Given P L S X
@@ -225,7 +225,7 @@ module _ {P L S X : List ℕ} {root node from q e m c : ℕ} (a : AskShort P L S
           few_p = a.within.few_p;
           few_l = a.within.few_l;
           tab = a.within.tab;
-          few = omega (arith, a.within.tab.inside m (b.reach.node_in m refl), a.within.tab.size.few);
+          few = omega (arith, a.within.tab.inside m b.reach.node_in, a.within.tab.size.few);
           R = _;
           N = _;
           acc = _;

@@ -1,6 +1,6 @@
 -- A node itself, `@` with no segment, compared with a literal: what stands in the plan, and that what the comparison says is what the whole test says. P is the plan,
 -- L the pool, S the table, X the text. Assumes nothing.
-use Rattle.std.specs.Prelude.{ℕ, ◌+◌, ◌≡◌, refl, List, Bool as Bits, get_or, Some, Option, None}
+use Rattle.std.specs.Prelude.{ℕ, ◌+◌, ◌≡◌, refl, List, Bool as Bits, get_or, Some, Option, None, Ok}
 use Rattle.std.proofs.Common.{sym, subst, arith}
 use Rattle.eval_items.specs.Leaves.{begins_at}
 use Rattle.eval_front.specs.Visits.{Query, Given, DoneReach}
@@ -47,7 +47,7 @@ module _ {P L S X : List ℕ} {root node p z form op : ℕ} (w : Within P L S X 
   found : Plain P L S X node p (record { n = 1; first = node; z = p + 2 })
   found =
       let i = start_here w.node_in query in
-      let d : DoneReach P L S X node (p + 1) (record { node = Some node; pc = p + 1 }) = done_found i in
+      let d : DoneReach P L S X node (p + 1) (record { node = Ok node; pc = p + 1 }) = done_found i in
       let x : p + 1 + 1 ≡ p + 2 = omega arith in
       subst (λ (y : ℕ). Plain P L S X node p (record { n = 1; first = node; z = y })) x
       (plain_one (record { given = lent; node_in = w.node_in; query = query }) _ d node refl g.end_is)

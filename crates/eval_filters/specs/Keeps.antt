@@ -2,7 +2,7 @@
 -- what two such tests with `&&` or `||` between them say, and what the number of children says is what the whole test says. P is the plan, L the pool, S the table, X
 -- the text.
 -- Assumes nothing.
-use Rattle.std.specs.Prelude.{ℕ, ◌+◌, ◌≤◌, ◌<◌, ◌≡◌, refl, List, Bool as Bits, true, false, not, ◌&&◌, leb, ℤ, pos, length, get_or, Option, Some, None}
+use Rattle.std.specs.Prelude.{ℕ, ◌+◌, ◌≤◌, ◌<◌, ◌≡◌, refl, List, Bool as Bits, true, false, not, ◌&&◌, leb, ℤ, pos, length, get_or, Option, Some, None, Ok}
 use Rattle.std.proofs.Common.{sym, ◌∙◌, subst, arith, leb-true, le-leb}
 use Rattle.std.proofs.lemmas.Bool.{lt-leb}
 use Rattle.definition.specs.Bytes.{number, part, signed64}
@@ -59,7 +59,7 @@ abbrev pub DonePushed : List ℕ → List ℕ → List ℕ → List ℕ → ℕ 
 DonePushed P L S X node rest cap l at l' r = Emitted P L S X node rest cap l at l' r
 
 module _ {P L S X : List ℕ} {node rest len at cap : ℕ} (a : AskVisit P L S X node rest len at cap) (l : List ℕ) where
-  reached_here : DoneReach P L S X node rest (record { node = Some node; pc = rest })
+  reached_here : DoneReach P L S X node rest (record { node = Ok node; pc = rest })
   reached_here = done_found (start_here a.node_in a.query)
 
   pub pushed_end : get_or P rest 0 ≡ 0x0A → (l' : List ℕ) (r : ℕ) → st cap l' r ≡ push node (st cap l at) → DonePushed P L S X node rest cap l at l' r

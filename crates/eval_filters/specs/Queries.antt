@@ -1,6 +1,6 @@
 -- The plan, the pool, the table and the two nodes of a test, and a query in a filter's code whose names and indices lead to its end, or to nothing. Assumes nothing.
 use Prim.Native.Nat.{ℕ, ◌+◌, ◌≤◌, ◌<◌, min}
-use Rattle.std.specs.Prelude.{◌≡◌, List, [], ◌∷◌, Bool as Bits, true, false, cond, eqb, length, get_or, Some, None}
+use Rattle.std.specs.Prelude.{◌≡◌, List, [], ◌∷◌, Bool as Bits, true, false, cond, eqb, length, get_or, Ok, Err}
 use Rattle.std.proofs.Common.{◌∙◌, eq-eqb, ne_eqb}
 use native.Mathlib.Omega.{arith}
 use Rattle.definition.specs.Limits.{max_plan}
@@ -16,6 +16,7 @@ use Rattle.eval_laws.specs.Founds.{Found, found_at}
 use Rattle.eval_items.specs.Ends.{DonePast}
 use Rattle.eval_items.specs.Leaves.{begins_at, cap_for}
 use Rattle.eval_front.specs.Visits.{DoneReach}
+use Rattle.eval_front.specs.Turns.{leads_in}
 use Rattle.eval_front.specs.declared.Reached.{Reached}
 
 -- the plan, the pool, the table and the two nodes of a test
@@ -54,16 +55,16 @@ module _ (P L S X : List ℕ) (tab : Accepted S X) (from q : ℕ) (h : from < no
   past_of z p f k a = let y = d.front f k a in p y.g y.j y.at.holds ∙ y.ends
 
   -- to nothing
-  pub found_lost : r.node ≡ None → (mode : ℕ) (f : Segments) (k : ℕ) → SegmentsAt P L (q + 1) k f → Found S X (eval_segments f (node_at S X from) (node_at S X from ∷ [])) (cap_for mode) 0 0
-  found_lost e mode f k a = found_at S X tab from h f (cap_for mode) (0 ∷ []) 0 ((d.front f k a).lost e (node_at S X from) (st (cap_for mode) (0 ∷ []) 0))
+  pub found_lost : {m : ℕ} → r.node ≡ Err m → (mode : ℕ) (f : Segments) (k : ℕ) → SegmentsAt P L (q + 1) k f → Found S X (eval_segments f (node_at S X from) (node_at S X from ∷ [])) (cap_for mode) 0 0
+  found_lost {m} e mode f k a = found_at S X tab from h f (cap_for mode) (0 ∷ []) 0 ((d.front f k a).lost m e (node_at S X from) (st (cap_for mode) (0 ∷ []) 0))
 
   -- to its end
   one_pushed : (cap n : ℕ) → st cap (n ∷ []) 1 ≡ push n (st cap (0 ∷ []) 0)
   unfolding push
   one_pushed cap n = let e : 1 ≡ min (0 + 1) (cap + 1) = omega arith in λ i. record { cap = cap; places = n ∷ []; next = e i }
 
-  pub found_one : (m : ℕ) → r.node ≡ Some m → get_or P r.pc 0 ≡ 0x0A → (mode : ℕ) (f : Segments) (k : ℕ) → SegmentsAt P L (q + 1) k f → Found S X (eval_segments f (node_at S X from) (node_at S X from ∷ [])) (cap_for mode) 1 m
+  pub found_one : (m : ℕ) → r.node ≡ Ok m → get_or P r.pc 0 ≡ 0x0A → (mode : ℕ) (f : Segments) (k : ℕ) → SegmentsAt P L (q + 1) k f → Found S X (eval_segments f (node_at S X from) (node_at S X from ∷ [])) (cap_for mode) 1 m
   found_one m e z mode f k a =
       let y = d.front f k a in
       found_at S X tab from h f (cap_for mode) (m ∷ []) 1
-      (one_pushed (cap_for mode) m ∙ segment_end S X tab y.g (node_at S X from) m (d.node_in m e) _ (is_end P r.pc y.j y.g y.at.holds z) ∙ y.found m e (node_at S X from) _)
+      (one_pushed (cap_for mode) m ∙ segment_end S X tab y.g (node_at S X from) m (leads_in d e) _ (is_end P r.pc y.j y.g y.at.holds z) ∙ y.found m e (node_at S X from) _)

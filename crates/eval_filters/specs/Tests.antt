@@ -1,6 +1,6 @@
 -- Tests of a node that are told without registers: what the functions ask and give, and the laws that take what is left of a filter's code further by one test.
 -- P is the plan, L the pool, S the table, X the text. Assumes nothing.
-use Rattle.std.specs.Prelude.{ℕ, ◌+◌, ◌-◌, ◌≤◌, ◌<◌, ◌≡◌, refl, List, [], ◌∷◌, Bool as Bits, true, false, not, ◌&&◌, ltb, leb, ℤ, length, get_or, Option, Some, None, Result, Ok, Err}
+use Rattle.std.specs.Prelude.{ℕ, ◌+◌, ◌-◌, ◌≤◌, ◌<◌, ◌≡◌, refl, List, [], ◌∷◌, Bool as Bits, true, false, not, ◌&&◌, ltb, leb, ℤ, length, get_or, Result, Ok, Err}
 use Rattle.std.proofs.Common.{sym, ap, ◌∙◌, subst, arith, leb-true}
 use Rattle.definition.specs.Bytes.{number, part, signed64, same_bytes}
 use Rattle.definition.specs.Limits.{max_plan, max_int}
@@ -31,6 +31,7 @@ use Rattle.eval_items.specs.Leaves.{AskValue, DoneValue, begins_at}
 use Rattle.eval_items.specs.LeafLaws.{done_integer, done_text}
 use Rattle.eval_front.specs.Fronts.{never}
 use Rattle.eval_front.specs.Visits.{Query, AskReach, DoneReach}
+use Rattle.eval_front.specs.Turns.{leads_in}
 use Rattle.eval_front.specs.declared.Reached.{Reached}
 use Rattle.eval_filters.specs.Queries.{Within, begins_root, begins_node, past_of, found_lost, found_one}
 use Rattle.eval_filters.specs.declared.Told.{Told}
@@ -155,19 +156,19 @@ pub record Plain (P L S X : List ℕ) (from q : ℕ) (r : Nodes) : Type 0 where
 -- or where the rest of it stands
 abbrev pub DonePlain : List ℕ → List ℕ → List ℕ → List ℕ → ℕ → ℕ → Result Nodes More → Type 0
 DonePlain P L S X from q (Ok r) = Plain P L S X from q r
-DonePlain P L S X from q (Err m) = DoneReach P L S X from (q + 1) (record { node = Some m.node; pc = m.pc })
+DonePlain P L S X from q (Err m) = DoneReach P L S X from (q + 1) (record { node = Ok m.node; pc = m.pc })
 
 -- the end of a query is one byte
 end_past : (P : List ℕ) (p : ℕ) → get_or P p 0 ≡ 0x0A → DonePast P p (p + 1)
 end_past P p e f k h = ap (λ (n : ℕ). p + n) (sym (end_long P p k f h e))
 
 -- where names and indices lead to a node, and more is to be done there
-pub plain_none : {P L S X : List ℕ} {from pc : ℕ} {r : Reached} → DoneReach P L S X from pc r → {m : ℕ} → r.node ≡ Some m → DoneReach P L S X from pc (record { node = Some m; pc = r.pc })
-plain_none {P} {L} {S} {X} {from} {pc} {r} d e = subst (λ (y : Option ℕ). DoneReach P L S X from pc (record { node = y; pc = r.pc })) e d
+pub plain_none : {P L S X : List ℕ} {from pc : ℕ} {r : Reached} → DoneReach P L S X from pc r → {m : ℕ} → r.node ≡ Ok m → DoneReach P L S X from pc (record { node = Ok m; pc = r.pc })
+plain_none {P} {L} {S} {X} {from} {pc} {r} d e = subst (λ (y : Result ℕ ℕ). DoneReach P L S X from pc (record { node = y; pc = r.pc })) e d
 
 -- by where names and indices lead
 module _ {P L S X : List ℕ} {from q : ℕ} (a : AskReach P L S X from (q + 1)) (r : Reached) (d : DoneReach P L S X from (q + 1) r) where
-  pub plain_lost : r.node ≡ None → (z : ℕ) → DonePast P r.pc z → Plain P L S X from q (record { n = 0; first = 0; z = z })
+  pub plain_lost : {m : ℕ} → r.node ≡ Err m → (z : ℕ) → DonePast P r.pc z → Plain P L S X from q (record { n = 0; first = 0; z = z })
   plain_lost e z p =
       record {
         inside = λ i. absurd (omega arith);
@@ -175,11 +176,11 @@ module _ {P L S X : List ℕ} {from q : ℕ} (a : AskReach P L S X from (q + 1))
         found = found_lost P L S X a.given.tab from q a.node_in r d e 0x19;
       }
 
-  module _ (m : ℕ) (e : r.node ≡ Some m) where
+  module _ (m : ℕ) (e : r.node ≡ Ok m) where
     pub plain_one : get_or P r.pc 0 ≡ 0x0A → Plain P L S X from q (record { n = 1; first = m; z = r.pc + 1 })
     plain_one c =
         record {
-          inside = λ i. d.node_in m e;
+          inside = λ i. leads_in d e;
           past = past_of P L S X a.given.tab from q a.node_in r d (r.pc + 1) (end_past P r.pc c);
           found = found_one P L S X a.given.tab from q a.node_in r d m e c 0x19;
         }

@@ -157,7 +157,7 @@ pub fn read_atom(plan: &[u8], q: usize, e: usize) -> Atom
 }
 
 // No test of one member.
-pub fn no_atom() -> Atom
+fn no_atom() -> Atom
     ensures { result.form ≡ 0 }
 {
     Atom {

@@ -244,7 +244,7 @@ fn plain_nodes(
 {
     let r = eval_front::reach(plan, pool, table, text, from, q + 1);
     let c = r.pc;
-    let Some(m) = r.node else {
+    let Ok(m) = r.node else {
         let z = plans::past_query(plan, c);
         return Ok(Nodes { n: 0, first: 0, z });
     };

@@ -20,7 +20,7 @@ pub overflow_add-result : goal.overflow_add-result
 overflow_add-result c = omega (arith, segments_in _ _ _ _ _ (c.reach-r.ensures.front c.requires.query.f c.requires.query.k c.requires.query.at).at, c.requires.given.few_p)
 
 pub returns-then-plan-c-eq-END : goal.returns-then-plan-c-eq-END
-returns-then-plan-c-eq-END c = plain_one c.requires _ c.reach-r.ensures _ c.in-Some.is c.if-plan-c-eq-END.true
+returns-then-plan-c-eq-END c = plain_one c.requires _ c.reach-r.ensures _ c.in-Ok.is c.if-plan-c-eq-END.true
 
 pub returns : goal.returns
-returns c = plain_none c.reach-r.ensures c.in-Some.is
+returns c = plain_none c.reach-r.ensures c.in-Ok.is

@@ -14,7 +14,7 @@ pub returns-then-not-counts_children : goal.returns-then-not-counts_children
 returns-then-not-counts_children c = short_none _ _ _ _ _ _ _ _ _
 
 pub child_count-n-requires : goal.child_count-n-requires
-child_count-n-requires c = c.requires.ask_counting.reach.node_in _ refl
+child_count-n-requires c = c.requires.ask_counting.reach.node_in
 
 pub overflow_add-c : goal.overflow_add-c
 overflow_add-c c = let z = counting_asked c.requires.ask_short c.requires.ask_counting in omega (arith, z.behind, z.few)
