@@ -1,6 +1,6 @@
 -- The selectors by their kinds: from what `apply_selector` has at hand to what each function asks, and from what that gives to what was asked; the invariants of the
 -- loops over places, children and kept children, and their turns. P is the plan, L the pool, S the table, X the text; v is what is lent. Assumes nothing.
-use Rattle.std.specs.Prelude.{ℕ, zero, suc, ◌+◌, ◌-◌, ◌≤◌, ◌<◌, ◌≡◌, refl, List, [], ◌∷◌, Bool as Bits, true, false, eqb, length, get_or, Option, Some, None}
+use Rattle.std.specs.Prelude.{ℕ, zero, suc, ◌+◌, ◌-◌, ◌≤◌, ◌<◌, ◌≡◌, refl, List, [], ◌∷◌, Bool as Bits, true, false, eqb, length, get_or, max, Option, Some, None}
 use Rattle.std.proofs.Common.{sym, ap, ◌∙◌, subst, eqb-true, arith}
 use Rattle.std.proofs.lemmas.Bool.{eqb-false}
 use Rattle.std.specs.Borrow.{MutBor}
@@ -318,9 +318,9 @@ module _ {v : Lent} {root i e p z j : ℕ} (t : InNext v root i e p z j) where
   pub next_none : {call : Bits} → e ≤ j → DoneNext v root i e p z j call
   next_none h = record { low = t.low; high = t.high; passed = t.passed; holds = λ n y. absurd (omega arith) }
 
-  -- the same, said of the range's end
-  pub next_end : {call : Bits} → e ≤ j → j ≤ e → DoneNext v root i e p z e call
-  next_end h n = record { low = omega (arith, t.low); high = λ y. omega arith; passed = λ x k y m u w. t.passed x k y m u (omega arith); holds = λ y w. absurd (omega arith) }
+  -- the same, said of the range's end, or of i where that is behind it
+  pub next_end : {call : Bits} → e ≤ j → {n : ℕ} → n ≡ max i e → DoneNext v root i e p z n call
+  next_end h o = record { low = omega arith; high = λ y. omega arith; passed = λ x k y m u w. t.passed x k y m u (omega (arith, t.low)); holds = λ y w. absurd (omega arith) }
 
   pub next_again : {b : Bits} → j < e → DoneTest (plan_of v) (pool_of v) (table_of v) (text_of v) root j p z b → b ≡ false → InNext v root i e p z (j + 1)
   next_again h d b =
