@@ -1,6 +1,6 @@
 -- The nodes of a range with a filter: those that it keeps are pushed, or each has a cell that says how far it is told. P is the plan, L the pool, S the table, X the
 -- text. Assumes nothing.
-use Rattle.std.specs.Prelude.{Some, None, ℕ, ◌+◌, ◌-◌, ◌≤◌, ◌<◌, ◌≡◌, refl, ◌⊎◌, List, Bool as Bits, true, false, ltb, length, get_or, set}
+use Rattle.std.specs.Prelude.{Some, None, ℕ, ◌+◌, ◌-◌, ◌≤◌, ◌<◌, ◌≡◌, refl, ◌⊎◌, List, Bool as Bits, true, false, ltb, length, get_or, set, max}
 use Rattle.std.proofs.Common.{sym, ◌∙◌, subst, inl, inr, length-set, arith, ltb-true, ltb-false}
 use Rattle.definition.specs.Limits.{max_plan}
 use Rattle.definition.specs.Tables.{node_count}
@@ -14,7 +14,6 @@ use Rattle.eval_laws.specs.Todos.{todo_end}
 use Rattle.eval_asks.specs.Cells.{answer_of, place_of, InCell, Column, cell_start, cell_next, cell_left, column_set}
 use Rattle.eval_rows.specs.declared.rows.Filter.{Filter}
 use Rattle.eval_rows.specs.declared.rows.Answer.{Answer}
-use Rattle.eval_rows.specs.declared.rows.Left.{Left as LeftAt}
 use Rattle.eval_rows.specs.declared.rows.Passed.{Passed}
 use Rattle.eval_rows.specs.Rows.{DoneAnswer, AskRows, DoneRows, rows_full, rows_end, rows_stuck, rows_later, rows_then}
 
@@ -71,11 +70,11 @@ pass_start a =
     }
 
 module _ {P L S X : List ℕ} {f : Filter} {i : ℕ} {l₀ : List ℕ} {a₀ : ℕ} {l : List ℕ} {a j : ℕ} (s : AskPass P L S X f i l₀ a₀) (t : InPass P L S X f.cells f.root i f.e f.p f.z f.rest f.cap l₀ a₀ l a j) where
-  pub pass_full : f.cap < a → DonePass P L S X f i l₀ a₀ l (record { at = a; left = None })
+  pub pass_full : f.cap < a → DonePass P L S X f i l₀ a₀ l (record { i = j; at = a; q = None })
   pass_full h = record { rows = λ u. rows_full {f = f} (t.rows u) h (s.rows u).kept.wide; cells = t.cells }
 
-  pub pass_end : f.e ≤ j → DonePass P L S X f i l₀ a₀ l (record { at = a; left = None })
-  pass_end h = record { rows = λ u. rows_end {f = f} (t.rows u) h; cells = t.cells }
+  pub pass_end : f.e ≤ j → {n : ℕ} → n ≡ max i f.e → DonePass P L S X f i l₀ a₀ l (record { i = n; at = a; q = None })
+  pass_end h m = record { rows = λ u. rows_end {f = f} (t.rows u) h m; cells = t.cells }
 
   -- where a node stands, and what is asked of it
   module _ (h : j < f.e) where
@@ -107,7 +106,7 @@ module _ {P L S X : List ℕ} {f : Filter} {i : ℕ} {l₀ : List ℕ} {a₀ : �
 
         -- it has none
         module _ (u : f.cells ≡ false) where
-          pub pass_stuck : r.q < f.z → DonePass P L S X f i l₀ a₀ l (record { at = a; left = Some (record { i = j; q = r.q }) })
+          pub pass_stuck : r.q < f.z → DonePass P L S X f i l₀ a₀ l (record { i = j; at = a; q = Some r.q })
           pass_stuck n =
               record {
                 rows = λ w. rows_stuck {f = f} (t.rows w) r.q h (record { within = pass_within s j t.low h; acc = r.acc; want = _; todo = v.goes _ (pass_cell.again s.test.t s.test.k s.test.stands); more = n });
@@ -126,24 +125,24 @@ module _ {P L S X : List ℕ} {f : Filter} {i : ℕ} {l₀ : List ℕ} {a₀ : �
 
 -- ---- the nodes behind those that are pushed
 
-module _ {P L S X : List ℕ} {f : Filter} {i : ℕ} {l : List ℕ} {at : ℕ} (s : AskPass P L S X f i l at) (u : f.cells ≡ false) {l' : List ℕ} {r : Passed} (d : DonePass P L S X f i l at l' r) {k : LeftAt} (m : r.left ≡ Some k) where
-  pub pass_left : AskLeft P L S X f.root k.i k.q f.z
-  pass_left = ((d.rows u).left k m).stuck
+module _ {P L S X : List ℕ} {f : Filter} {i : ℕ} {l : List ℕ} {at : ℕ} (s : AskPass P L S X f i l at) (u : f.cells ≡ false) {l' : List ℕ} {r : Passed} (d : DonePass P L S X f i l at l' r) where
+  pub pass_left : {q : ℕ} → r.q ≡ Some q → AskLeft P L S X f.root r.i q f.z
+  pass_left {q} m = (d.rows u).stuck q m
 
-  pub pass_later : AskPass P L S X f k.i l' r.at
+  pub pass_later : AskPass P L S X f r.i l' r.at
   pass_later =
-      let b = ((d.rows u).left k m).going.low in
+      let b = (d.rows u).going.low in
       record {
         given = s.given;
         root_in = s.root_in;
         range = λ h. s.range (omega arith);
         test = s.test;
-        rows = λ w. rows_later {f = f} ((d.rows w).left k m).going (s.rows w);
+        rows = λ w. rows_later {f = f} (d.rows w).going (s.rows w);
         cells = λ w. absurd (never (sym u ∙ w));
       }
 
-  pub pass_then : {l'' : List ℕ} {r' : Passed} → DonePass P L S X f k.i l' r.at l'' r' → DonePass P L S X f i l at l'' r'
-  pass_then e = record { rows = λ w. rows_then {f = f} ((d.rows w).left k m).going (e.rows w); cells = λ w. absurd (never (sym u ∙ w)) }
+  pub pass_then : {l'' : List ℕ} {r' : Passed} → DonePass P L S X f r.i l' r.at l'' r' → DonePass P L S X f i l at l'' r'
+  pass_then e = record { rows = λ w. rows_then {f = f} (d.rows w).going (e.rows w); cells = λ w. absurd (never (sym u ∙ w)) }
 
 -- ---- from one place of the code to the next
 

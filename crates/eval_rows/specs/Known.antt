@@ -102,7 +102,7 @@ pub knows_none : (P L code : List ℕ) (z : ℕ) (g : Call) → max_plan < g.at 
 knows_none P L code z g h = record { call = λ n. absurd (omega arith); some = λ n. absurd (omega arith); ready = ready_none _ _ _ }
 
 module _ {P L code : List ℕ} {z : ℕ} {g : Call} (c : CallAt P z g) where
-  knows : (known : Known) → is_unread known ≡ false → Ready (scope_for g.kind) (part L g.start g.size) code known → Knows P L code z g known
+  pub knows : (known : Known) → is_unread known ≡ false → Ready (scope_for g.kind) (part L g.start g.size) code known → Knows P L code z g known
   knows known h r = record { call = λ n. c; some = λ n e. false≢true (sym h ∙ ap is_unread e); ready = r }
 
   pub knows_outside : Outside (scope_for g.kind) (part L g.start g.size) → Knows P L code z g OutsidePart

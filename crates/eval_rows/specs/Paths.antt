@@ -1,8 +1,8 @@
 -- Names and indices that lead to the end of a query: what stands in the plan, what the functions ask and give, and the turns of their loops. P is the plan, L the
 -- pool, S the table, X the text. Assumes nothing.
-use Rattle.std.specs.Prelude.{ℕ, ◌+◌, ◌≤◌, ◌<◌, ◌≡◌, List, length, get_or, Option, Some, None}
-use Rattle.std.proofs.lemmas.Option.{none-some}
-use Rattle.std.proofs.Common.{sym, ◌∙◌, subst, arith}
+use Rattle.std.specs.Prelude.{ℕ, ◌+◌, ◌≤◌, ◌<◌, ◌≡◌, List, length, get_or, Option, Some, None, Ok, Err}
+use Rattle.std.specs.Result.{is_ok}
+use Rattle.std.proofs.Common.{sym, ap, ◌∙◌, subst, arith}
 use Rattle.definition.specs.Limits.{max_plan}
 use Rattle.definition.specs.Forms.{Segments}
 use Rattle.definition.specs.Plans.{code_segments}
@@ -11,7 +11,7 @@ use Rattle.eval_items.specs.Ends.{AskNext, DoneNext}
 use Rattle.eval_items.specs.Leaves.{AskOne, DoneOne}
 use Rattle.eval_front.specs.Visits.{Query, Given, Head, AskReach, DoneReach}
 use Rattle.eval_front.specs.Loops.{InReach}
-use Rattle.eval_front.specs.Fronts.{Single, single, along_start, one_asked, reach_next, done_lost, done_found}
+use Rattle.eval_front.specs.Fronts.{never, Single, single, along_start, one_asked, reach_next, done_lost, done_found}
 use Rattle.eval_front.specs.declared.Reached.{Reached}
 
 -- names and indices lead from c to the end of the query at e
@@ -87,7 +87,7 @@ path_next {P} {pc} {q} i kind l u d q' h n =
 
 pub record DoneFollow (P L S X : List ℕ) (node pc e : ℕ) (r : Reached) : Type 0 where
   pub reach : DoneReach P L S X node pc r
-  pub ends : (m : ℕ) → r.node ≡ Some m → r.pc ≡ e
+  pub ends : (m : ℕ) → r.node ≡ Ok m → r.pc ≡ e
 
 pub record InFollow (P L S X : List ℕ) (node pc e m q : ℕ) : Type 0 where
   pub reach : InReach P L S X node pc m q
@@ -100,7 +100,7 @@ module _ {P L S X : List ℕ} {node pc e m q : ℕ} (z : Given P L S X) (i : InF
   pub follow_in : q < length P
   follow_in = segments_in P L q i.reach.query.k i.reach.query.f i.reach.query.at
 
-  pub follow_end : e ≤ q → DoneFollow P L S X node pc e (record { node = Some m; pc = q })
+  pub follow_end : e ≤ q → DoneFollow P L S X node pc e (record { node = Ok m; pc = q })
   follow_end h =
       let l = leads_low i.leads in
       record { reach = done_found i.reach; ends = λ n u. omega arith }
@@ -121,8 +121,8 @@ module _ {P L S X : List ℕ} {node pc e m q : ℕ} (z : Given P L S X) (i : InF
     pub follow_next : AskNext P (q + 3)
     follow_next = record { few = z.few_p; s = alone.x; k = i.reach.query.k; holds = alone.here.holds }
 
-    pub follow_lost : (r : Option ℕ) → DoneOne P L S X (q + 3) m r → r ≡ None → DoneFollow P L S X node pc e (record { node = None; pc = q })
-    follow_lost r o a = record { reach = done_lost z i.reach here.head r o a; ends = λ n u. absurd (none-some n u) }
+    pub follow_lost : (r : Option ℕ) → DoneOne P L S X (q + 3) m r → r ≡ None → DoneFollow P L S X node pc e (record { node = Err m; pc = q })
+    follow_lost r o a = record { reach = done_lost z i.reach here.head r o a; ends = λ n u. absurd (never (ap is_ok u)) }
 
     -- both say where the next segment stands
     same_next : (q' : ℕ) → DoneNext P (q + 3) q' → q' ≡ here.next

@@ -1,9 +1,12 @@
 -- The nodes of a range with a filter: the answer for a node, and the loop over all of them. P is the plan, L the pool, S the table, X the text. Assumes nothing.
-use Rattle.std.specs.Prelude.{Some, None, ℕ, ◌+◌, ◌≤◌, ◌<◌, ◌≡◌, refl, List, Bool as Bits, true, length}
+use Rattle.std.specs.Prelude.{Some, None, ℕ, ◌+◌, ◌≤◌, ◌<◌, ◌≡◌, refl, List, Bool as Bits, true, length, max}
 use Rattle.std.proofs.lemmas.Option.{none-some, same_Some}
 use Rattle.std.proofs.Common.{sym, ◌∙◌, subst, arith}
 use Rattle.definition.specs.Tables.{node_at}
 use Rattle.eval_laws.specs.Todos.{todo_to}
+use Rattle.eval_laws.specs.States.{st}
+use Rattle.eval_laws.specs.Steps.{kept}
+use Rattle.eval_front.specs.Overs.{over_end}
 use Rattle.eval_asks.specs.Cells.{answer_of, place_of, left_ended}
 use Rattle.eval_filters.specs.Queries.{Within}
 use Rattle.eval_filters.specs.Kept.{AskTest, AskKept, InKept, kept_full, kept_end}
@@ -14,7 +17,6 @@ use Rattle.eval_filters.specs.Values.{AskLeft}
 use Rattle.eval_filters.specs.declared.Told.{Told}
 use Rattle.eval_rows.specs.declared.rows.Filter.{Filter}
 use Rattle.eval_rows.specs.declared.rows.Answer.{Answer}
-use Rattle.eval_rows.specs.declared.rows.Left.{Left as LeftAt}
 use Rattle.eval_rows.specs.declared.rows.Passed.{Passed}
 
 -- ---- how far the filter is told of a node with a cell
@@ -58,32 +60,43 @@ pub record AskRows (P L S X : List ℕ) (f : Filter) (i len at : ℕ) : Type 0 w
   pub tail : TailAt P f.rest f.tail
   pub low : f.tail ≤ 1
 
--- those before the one that is left are done
-pub record LeftRows (P L S X : List ℕ) (f : Filter) (i : ℕ) (l : List ℕ) (at : ℕ) (l' : List ℕ) (a : ℕ) (r : LeftAt) : Type 0 where
-  pub going : InKept P L S X f.root i f.e f.p f.z f.rest f.cap l at l' a r.i
-  pub inside : r.i < f.e
-  pub stuck : AskLeft P L S X f.root r.i r.q f.z
-
--- and all of them where none is left
+-- those before r.i are done, and all of them where none is left
 pub record DoneRows (P L S X : List ℕ) (f : Filter) (i : ℕ) (l : List ℕ) (at : ℕ) (l' : List ℕ) (r : Passed) : Type 0 where
-  pub left : (k : LeftAt) → r.left ≡ Some k → LeftRows P L S X f i l at l' r.at k
-  pub whole : r.left ≡ None → DoneRange P L S X f.root i f.e f.p f.z f.rest f.cap l at l' r.at
+  pub going : InKept P L S X f.root i f.e f.p f.z f.rest f.cap l at l' r.at r.i
+  pub whole : r.q ≡ None → DoneRange P L S X f.root i f.e f.p f.z f.rest f.cap l at l' r.at
+  pub inside : (q : ℕ) → r.q ≡ Some q → r.i < f.e
+  pub stuck : (q : ℕ) → r.q ≡ Some q → AskLeft P L S X f.root r.i q f.z
+
+-- where the nodes end, nothing is left to do from any later number on
+pub past_end : {P L S X : List ℕ} {root i e p z rest cap : ℕ} {l₀ : List ℕ} {a₀ : ℕ} {l : List ℕ} {a j : ℕ} → InKept P L S X root i e p z rest cap l₀ a₀ l a j → e ≤ j → (n : ℕ) → n ≡ max i e → InKept P L S X root i e p z rest cap l₀ a₀ l a n
+past_end {S = S} {X = X} {root = root} {e = e} {cap = cap} {l = l} {a = a} {j = j} t h n m =
+    record {
+      low = omega arith;
+      same = t.same;
+      room = t.room;
+      again = λ x k f k' b c.
+          over_end f (node_at S X root) (kept x (node_at S X root)) S X n e (st cap l a) (omega arith)
+          ∙ sym (over_end f (node_at S X root) (kept x (node_at S X root)) S X j e (st cap l a) h)
+          ∙ t.again x k f k' b c;
+    }
 
 module _ {P L S X : List ℕ} {f : Filter} {i : ℕ} {l₀ : List ℕ} {a₀ : ℕ} {l : List ℕ} {a j : ℕ} (t : InKept P L S X f.root i f.e f.p f.z f.rest f.cap l₀ a₀ l a j) where
-  rows_done : DoneRange P L S X f.root i f.e f.p f.z f.rest f.cap l₀ a₀ l a → DoneRows P L S X f i l₀ a₀ l (record { at = a; left = None })
-  rows_done d = record { left = λ k u. absurd (none-some k u); whole = λ u. d }
+  rows_done : {n : ℕ} → InKept P L S X f.root i f.e f.p f.z f.rest f.cap l₀ a₀ l a n → DoneRange P L S X f.root i f.e f.p f.z f.rest f.cap l₀ a₀ l a → DoneRows P L S X f i l₀ a₀ l (record { i = n; at = a; q = None })
+  rows_done g d = record { going = g; whole = λ u. d; inside = λ q u. absurd (none-some q u); stuck = λ q u. absurd (none-some q u) }
 
-  pub rows_full : f.cap < a → length l₀ ≤ f.cap + 1 → DoneRows P L S X f i l₀ a₀ l (record { at = a; left = None })
-  rows_full h w = rows_done (kept_full t h w)
+  pub rows_full : f.cap < a → length l₀ ≤ f.cap + 1 → DoneRows P L S X f i l₀ a₀ l (record { i = j; at = a; q = None })
+  rows_full h w = rows_done t (kept_full t h w)
 
-  pub rows_end : f.e ≤ j → DoneRows P L S X f i l₀ a₀ l (record { at = a; left = None })
-  rows_end h = rows_done (kept_end t h)
+  pub rows_end : f.e ≤ j → {n : ℕ} → n ≡ max i f.e → DoneRows P L S X f i l₀ a₀ l (record { i = n; at = a; q = None })
+  rows_end h {n} m = rows_done (past_end t h n m) (kept_end t h)
 
-  pub rows_stuck : (q : ℕ) → j < f.e → AskLeft P L S X f.root j q f.z → DoneRows P L S X f i l₀ a₀ l (record { at = a; left = Some (record { i = j; q = q }) })
+  pub rows_stuck : (q : ℕ) → j < f.e → AskLeft P L S X f.root j q f.z → DoneRows P L S X f i l₀ a₀ l (record { i = j; at = a; q = Some q })
   rows_stuck q h s =
       record {
-        left = λ k u. subst (LeftRows P L S X f i l₀ a₀ l a) (same_Some _ k u) (record { going = t; inside = h; stuck = s });
-        whole = λ u. absurd (none-some _ (sym u));
+        going = t;
+        whole = λ u. absurd (none-some q (sym u));
+        inside = λ n u. h;
+        stuck = λ n u. subst (λ (x : ℕ). AskLeft P L S X f.root j x f.z) (same_Some q n u) s;
       }
 
   -- one of them
@@ -107,14 +120,10 @@ module _ {P L S X : List ℕ} {f : Filter} {i : ℕ} {l₀ : List ℕ} {a₀ : �
 
   pub rows_then : {l' : List ℕ} {r : Passed} → DoneRows P L S X f j l a l' r → DoneRows P L S X f i l₀ a₀ l' r
   rows_then d =
+      let g = d.going in
       record {
-        left = λ n u.
-            let h = d.left n u in
-            let g = h.going in
-            record {
-              going = record { low = omega (arith, t.low, g.low); same = g.same ∙ t.same; room = g.room; again = λ x k s k' b c. g.again x k s k' b c ∙ t.again x k s k' b c };
-              inside = h.inside;
-              stuck = h.stuck;
-            };
+        going = record { low = omega (arith, t.low, g.low); same = g.same ∙ t.same; room = g.room; again = λ x k s k' b c. g.again x k s k' b c ∙ t.again x k s k' b c };
         whole = λ u. let w = d.whole u in record { room = w.room; ended = λ x k s k' b c. w.ended x k s k' b c ∙ t.again x k s k' b c };
+        inside = d.inside;
+        stuck = d.stuck;
       }

@@ -1,6 +1,6 @@
 -- A call of match or search on a node: the text that its query finds, what the call says by it, and what is left of the code behind it.
 -- P is the plan, L the pool, S the table, X the text. Assumes nothing.
-use Rattle.std.specs.Prelude.{Option, Some, None, ℕ, ◌+◌, ◌-◌, ◌≤◌, ◌<◌, ◌≡◌, refl, List, [], ◌∷◌, Bool as Bits, true, false, length, get_or, take, drop}
+use Rattle.std.specs.Prelude.{Option, Some, None, ℕ, ◌+◌, ◌-◌, ◌≤◌, ◌<◌, ◌≡◌, refl, List, [], ◌∷◌, Bool as Bits, true, false, length, get_or, take, drop, Ok, Err}
 use Rattle.std.proofs.lemmas.Option.{none-some, same_Some}
 use Rattle.std.proofs.Common.{sym, ◌∙◌, subst, arith}
 use Rattle.std.proofs.Math.Path.{ap}
@@ -21,6 +21,7 @@ use Rattle.eval_laws.specs.Founds.{found_first, found_none}
 use Rattle.eval_values.specs.Values.{of_null, of_false, of_true, of_integer_lem, of_float_lem, of_text_lem, value_list, value_map}
 use Rattle.eval_items.specs.Leaves.{begins_at}
 use Rattle.eval_items.specs.Regexes.{cut}
+use Rattle.eval_front.specs.Turns.{leads_in}
 use Rattle.eval_front.specs.declared.Reached.{Reached}
 use Rattle.eval_filters.specs.Queries.{found_lost, found_one}
 use Rattle.eval_filters.specs.Tests.{Left}
@@ -64,7 +65,7 @@ other_node S X tab m h n c w = go (kind_of S X tab m h)
     go (Kind.map e) = ap to (sym (value_map S X tab m h e))
 
 module _ {P L S X : List ℕ} {from : ℕ} {g : Call} (a : AskText P L S X from g) {r : Reached} (d : DoneFollow P L S X from (g.at + 1) g.end r) where
-  pub text_lost : r.node ≡ None → TextOf P L S X from g.at None
+  pub text_lost : {m : ℕ} → r.node ≡ Err m → TextOf P L S X from g.at None
   unfolding regex_values
   text_lost e =
       record {
@@ -75,7 +76,7 @@ module _ {P L S X : List ℕ} {from : ℕ} {g : Call} (a : AskText P L S X from 
         no_text = λ u c v. refl;
       }
 
-  module _ {m : ℕ} (e : r.node ≡ Some m) where
+  module _ {m : ℕ} (e : r.node ≡ Ok m) where
     ended : get_or P r.pc 0 ≡ 0x0A
     ended = ap (λ (x : ℕ). get_or P x 0) (d.ends m e) ∙ leads_end a.path
 
@@ -89,16 +90,16 @@ module _ {P L S X : List ℕ} {from : ℕ} {g : Call} (a : AskText P L S X from 
           first = first_is;
           is_text_lem = λ t u. absurd (none-some t u);
           inside = λ t u. absurd (none-some t u);
-          no_text = λ u c v. other_node S X a.reach.given.tab m (d.reach.node_in m e) n c v;
+          no_text = λ u c v. other_node S X a.reach.given.tab m (leads_in d.reach e) n c v;
         }
 
     -- its text lies in that of the table
     pub text_spot : kind_at S m ≡ 5 → (x n : ℕ) → x ≡ low_word S m → n ≡ high_word S m → x + n ≤ length X
-    text_spot k x n i j = ((of_text_lem S X a.reach.given.tab m (d.reach.node_in m e) k x n i j).fine []).0
+    text_spot k x n i j = ((of_text_lem S X a.reach.given.tab m (leads_in d.reach e) k x n i j).fine []).0
 
     pub text_found : kind_at S m ≡ 5 → (x n : ℕ) → x ≡ low_word S m → n ≡ high_word S m → (y : Bor (List ℕ)) → y.now ≡ take (x + n - x) (drop x X) → TextOf P L S X from g.at (Some y)
     text_found k x n i j y h =
-        let t = of_text_lem S X a.reach.given.tab m (d.reach.node_in m e) k x n i j in
+        let t = of_text_lem S X a.reach.given.tab m (leads_in d.reach e) k x n i j in
         let same : part X x n ≡ y.now = sym (cut X x n) ∙ sym h in
         record {
           value = node_value (node_at S X m);

@@ -209,16 +209,16 @@ pub fn keep_rows(
     ensures { DonePass plan.now pool.now table.now text.now f i list.old at list.new result }
 {
     let v = unread(plan, pool, table, text, f, i, list, at);
-    let Some(left) = v.left else {
+    let Some(q) = v.q else {
         return v;
     };
-    let Some(g) = calls::read_call(plan, left.q, f.z) else {
+    let Some(g) = calls::read_call(plan, q, f.z) else {
         return v;
     };
     if calls::mentions(plan, g.end + 7, f.z) {
         return v;
     }
-    by_size(plan, pool, table, text, f, left.i, g, list, v.at)
+    by_size(plan, pool, table, text, f, v.i, g, list, v.at)
 }
 
 // The cells of the nodes from i up to e with the filter from p up to z: from the place `from` of the code on, each call of match or search with a text of the plan is asked

@@ -50,13 +50,13 @@ pub fn follow(
     while q < e {
         let found = leaves::select_one(plan, pool, table, text, q + 3, m);
         let Some(k) = found else {
-            return Reached { node: None, pc: q };
+            return Reached {
+                node: Err(m),
+                pc: q,
+            };
         };
         m = k;
         q = plans::next_selector(plan, q + 3);
     }
-    Reached {
-        node: Some(m),
-        pc: q,
-    }
+    Reached { node: Ok(m), pc: q }
 }

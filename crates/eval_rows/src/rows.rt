@@ -34,18 +34,13 @@ pub struct Answer {
     pub q: usize,
 }
 
-// The node that is left with those behind it, since the test at q is not told of it.
-#[derive(Clone, Copy)]
-pub struct Left {
-    pub i: usize,
-    pub q: usize,
-}
-
-// The next place of the list of nodes, and the first of them that is left.
+// How far the nodes in turn came: those before i are done, and `at` is the next place of the list. Where the test at q is not told of node i, it is left with those
+// behind it; where there is no such test, none is left.
 #[derive(Clone, Copy)]
 pub struct Passed {
+    pub i: usize,
     pub at: usize,
-    pub left: Option<Left>,
+    pub q: Option<usize>,
 }
 
 // How far the filter, whose code ends at z, is told of a node with a cell, by what is known of the expression of the call. A cell that is not at the place `first` is
@@ -142,7 +137,11 @@ pub fn keep(
     let mut near = 0;
     for j in i..e {
         if cap < a {
-            return Passed { at: a, left: None };
+            return Passed {
+                i: j,
+                at: a,
+                q: None,
+            };
         }
         let c = stands(in_cells, p, list, j - i);
         let b = asked(
@@ -154,8 +153,9 @@ pub fn keep(
         }
         if b.q < z {
             return Passed {
+                i: j,
                 at: a,
-                left: Some(Left { i: j, q: b.q }),
+                q: Some(b.q),
             };
         }
         if !b.acc {
@@ -165,5 +165,9 @@ pub fn keep(
         a = v.at;
         near = v.near;
     }
-    Passed { at: a, left: None }
+    Passed {
+        i: i.max(e),
+        at: a,
+        q: None,
+    }
 }

@@ -39,7 +39,7 @@ fn text_of<'a>(
     ensures { TextOf plan.now pool.now table.now text.now from g.at result }
 {
     let r = paths::follow(plan, pool, table, text, from, g.at + 1, g.end);
-    let Some(m) = r.node else {
+    let Ok(m) = r.node else {
         return None;
     };
     if records::kind(table, m) != KIND_TEXT {

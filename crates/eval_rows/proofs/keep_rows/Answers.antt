@@ -14,7 +14,7 @@ pub mentions-requires : goal.mentions-requires
 mentions-requires c = ((left_asked (pass_left {f = c.args.f} c.requires.0 c.requires.1 c.unread-v.ensures c.in-Some.is)).inside, (pass_code c.requires.0).1)
 
 pub by_size-requires : goal.by_size-requires
-by_size-requires c = let r = c.in-Some-read_call.ensures in record { ask_pass = pass_later {f = c.args.f} c.requires.0 c.requires.1 c.unread-v.ensures c.in-Some.is; call_at = (r.call, read_spelled (pass_left {f = c.args.f} c.requires.0 c.requires.1 c.unread-v.ensures c.in-Some.is) r) }
+by_size-requires c = let r = c.in-Some-read_call.ensures in record { ask_pass = pass_later {f = c.args.f} c.requires.0 c.requires.1 c.unread-v.ensures; call_at = (r.call, read_spelled (pass_left {f = c.args.f} c.requires.0 c.requires.1 c.unread-v.ensures c.in-Some.is) r) }
 
 pub returns : goal.returns
-returns c = pass_then {f = c.args.f} c.requires.0 c.requires.1 c.unread-v.ensures c.in-Some.is c.by_size.ensures
+returns c = pass_then {f = c.args.f} c.requires.0 c.requires.1 c.unread-v.ensures c.by_size.ensures

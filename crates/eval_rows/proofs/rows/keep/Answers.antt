@@ -86,4 +86,4 @@ pub shape_of-list : goal.shape_of-list
 shape_of-list c = c.loop-j.invariant.0.same
 
 pub returns : goal.returns
-returns c = pass_end {f = c.args.f} c.requires.ask_pass c.loop-j.invariant.0 c.loop-j-test.false
+returns c = pass_end {f = c.args.f} c.requires.ask_pass c.loop-j.invariant.0 c.loop-j-test.false c.max.ensures

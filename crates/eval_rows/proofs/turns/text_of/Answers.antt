@@ -15,13 +15,13 @@ pub returns-in_default : goal.returns-in_default
 returns-in_default c = text_lost c.requires c.follow-r.ensures c.in_default.is
 
 pub returns-then-kind-ne-KIND_TEXT : goal.returns-then-kind-ne-KIND_TEXT
-returns-then-kind-ne-KIND_TEXT c = text_other c.requires c.follow-r.ensures c.in-Some.is (λ e. c.if-kind-ne-KIND_TEXT.true (omega arith))
+returns-then-kind-ne-KIND_TEXT c = text_other c.requires c.follow-r.ensures c.in-Ok.is (λ e. c.if-kind-ne-KIND_TEXT.true (omega arith))
 
 pub overflow_add-result : goal.overflow_add-result
-overflow_add-result c = omega (arith, text_spot c.requires c.follow-r.ensures c.in-Some.is (omega arith) _ _ c.text_start-start.ensures c.text_length-size.ensures, c.requires.reach.given.tab.size.short)
+overflow_add-result c = omega (arith, text_spot c.requires c.follow-r.ensures c.in-Ok.is (omega arith) _ _ c.text_start-start.ensures c.text_length-size.ensures, c.requires.reach.given.tab.size.short)
 
 pub slice_bounds-result-end : goal.slice_bounds-result-end
-slice_bounds-result-end c = omega (arith, text_spot c.requires c.follow-r.ensures c.in-Some.is (omega arith) _ _ c.text_start-start.ensures c.text_length-size.ensures)
+slice_bounds-result-end c = omega (arith, text_spot c.requires c.follow-r.ensures c.in-Ok.is (omega arith) _ _ c.text_start-start.ensures c.text_length-size.ensures)
 
 pub returns : goal.returns
-returns c = text_found c.requires c.follow-r.ensures c.in-Some.is (omega arith) _ _ c.text_start-start.ensures c.text_length-size.ensures _ refl
+returns c = text_found c.requires c.follow-r.ensures c.in-Ok.is (omega arith) _ _ c.text_start-start.ensures c.text_length-size.ensures _ refl
