@@ -1,6 +1,6 @@
 -- A child segment of several names and indices, selector by selector on a node and node by node of a range: what is left to do gives the whole. P is the plan, L the pool,
 -- S the table, X the text. Assumes nothing.
-use Rattle.std.specs.Prelude.{ℕ, ◌+◌, ◌*◌, ◌-◌, ◌≤◌, ◌<◌, ◌≡◌, refl, List, [], ◌∷◌, Bool as Bits, true, false, leb, length, get_or, Option, Some, None}
+use Rattle.std.specs.Prelude.{ℕ, ◌+◌, ◌*◌, ◌-◌, ◌≤◌, ◌<◌, ◌≡◌, refl, List, [], ◌∷◌, Bool as Bits, true, false, leb, length, get_or, Option, Some, None, Ok, Err}
 use Rattle.std.proofs.Math.Path.{sym, ap}
 use Rattle.std.proofs.Common.{◌∙◌, subst, arith, leb-true, leb-false}
 use Rattle.definition.specs.Bytes.{number, part}
@@ -18,6 +18,7 @@ use Rattle.eval_laws.specs.Items.{SegmentsAt, SelectorsAt, SelectorAt, Parts, pa
 use Rattle.eval_items.specs.Leaves.{AskOne, DoneOne}
 use Rattle.eval_items.specs.LeafLaws.{name_else, index_else}
 use Rattle.eval_front.specs.Visits.{AskReach, DoneReach}
+use Rattle.eval_front.specs.Turns.{leads_in}
 use Rattle.eval_front.specs.Stands.{one_found, one_absent, segments_at}
 use Rattle.eval_front.specs.Overs.{over_step}
 use Rattle.eval_front.specs.Spans.{Room}
@@ -168,10 +169,10 @@ module _ {P L S X : List ℕ} {i e rest cap : ℕ} {l₀ : List ℕ} {a₀ : ℕ
 
   module _ {r : Reached} (d : DoneReach P L S X j rest r) where
     -- there is no such node
-    pub picked_lost : r.node ≡ None → InAlong P L S X i e rest cap l₀ a₀ l a (j + 1)
-    picked_lost o = picked_step refl t.room (λ f k q R. (d.front f k q).lost o R (st cap l a))
+    pub picked_lost : {m : ℕ} → r.node ≡ Err m → InAlong P L S X i e rest cap l₀ a₀ l a (j + 1)
+    picked_lost {m} o = picked_step refl t.room (λ f k q R. (d.front f k q).lost m o R (st cap l a))
 
-    module _ {m : ℕ} (o : r.node ≡ Some m) (v : r.pc ≡ pc) {n : ℕ} (c : n ≡ number (part P (pc + 1) 2)) where
+    module _ {m : ℕ} (o : r.node ≡ Ok m) (v : r.pc ≡ pc) {n : ℕ} (c : n ≡ number (part P (pc + 1) 2)) where
       segment : (f : Segments) (k : ℕ) (q : SegmentsAt P L rest k f) → Parts P L pc (d.front f k q).j (d.front f k q).g
       segment f k q = parts P L s.given.few_p pc (d.front f k q).j (d.front f k q).g (segments_at pc (sym v) (d.front f k q).at) (λ z. omega (arith, z, y.child))
 
@@ -186,7 +187,7 @@ module _ {P L S X : List ℕ} {i e rest cap : ℕ} {l₀ : List ℕ} {a₀ : ℕ
           let w = t.same in
           record {
             given = s.given;
-            node_in = d.node_in m o;
+            node_in = leads_in d o;
             many = several s.query.f s.query.k s.query.at;
             ends = ending;
             list = record { room = t.room; wide = omega (arith, s.list.wide); small = s.list.small };

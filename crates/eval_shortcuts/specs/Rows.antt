@@ -12,7 +12,6 @@ use Rattle.eval_filters.specs.Turns.{turn_left}
 use Rattle.eval_rows.specs.Rows.{AskRows as AskFilter, DoneRows as DoneFilter}
 use Rattle.eval_rows.specs.Columns.{AskPass, AskFill}
 use Rattle.eval_shortcuts.specs.Joined.{joined_start, joined_turn}
-use Rattle.eval_rows.specs.declared.rows.Left.{Left as LeftAt}
 use Rattle.eval_rows.specs.declared.rows.Passed.{Passed}
 use Rattle.eval_asks.specs.declared.Lent.{Lent}
 use Rattle.eval_asks.specs.declared.State.{State as Numbers}
@@ -56,17 +55,16 @@ module _ {v : Lent} {i e p z rest : ℕ} {s : Numbers} {l : List ℕ} (a : Asked
           (subst (λ (C : ℕ). keeping v p z rest k e x (root_of s) (st C l' r.at) ≡ keeping v p z rest i e x (root_of s) (st C l (at_of s))) c
           (g x))
 
-      pub rows_left : {n : LeftAt} → r.left ≡ Some n → DoneRows v i e p z rest s l (with_at s r.at) l' n.i
+      pub rows_left : {n : ℕ} → r.q ≡ Some n → DoneRows v i e p z rest s l (with_at s r.at) l' r.i
       rows_left {n} m =
-          let h = d.left n m in
           record {
-            low = h.going.low;
-            high = λ u. omega (arith, h.inside);
-            room = omega (arith, h.going.room);
-            goes = at_root n.i (λ x. h.going.again x.t x.k x.q x.k' x.tested x.after);
+            low = d.going.low;
+            high = λ u. omega (arith, d.inside n m);
+            room = omega (arith, d.going.room);
+            goes = at_root r.i (λ x. d.going.again x.t x.k x.q x.k' x.tested x.after);
           }
 
-      pub rows_all : i ≤ e → r.left ≡ None → DoneRows v i e p z rest s l (with_at s r.at) l' e
+      pub rows_all : i ≤ e → r.q ≡ None → DoneRows v i e p z rest s l (with_at s r.at) l' e
       rows_all h m =
           record {
             low = h;

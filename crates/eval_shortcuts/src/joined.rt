@@ -13,7 +13,7 @@ ghost use Rattle.eval_shortcuts.specs.Joined.{DoneJoined};
 
 use eval_filters::{Told, atoms, kept, values};
 use eval_rows::paths;
-use eval_rows::rows::{Answer, Filter, Left, Passed};
+use eval_rows::rows::{Answer, Filter, Passed};
 use plan_format::kinds::{COUNT, CURRENT, VALUE};
 
 // The ways of a filter: several tests of which the first is one of a member, and one comparison of such values.
@@ -193,13 +193,18 @@ pub fn keep(
     let mut near = 0;
     for j in i..e {
         if cap < a {
-            return Passed { at: a, left: None };
+            return Passed {
+                i: j,
+                at: a,
+                q: None,
+            };
         }
         let b = told(plan, pool, table, text, root, j, p, z, way);
         if b.q < z {
             return Passed {
+                i: j,
                 at: a,
-                left: Some(Left { i: j, q: b.q }),
+                q: Some(b.q),
             };
         }
         if !b.acc {
@@ -209,5 +214,9 @@ pub fn keep(
         a = v.at;
         near = v.near;
     }
-    Passed { at: a, left: None }
+    Passed {
+        i: i.max(e),
+        at: a,
+        q: None,
+    }
 }

@@ -212,8 +212,8 @@ pub fn keep_joined(
     };
     let v = joined::keep(plan, lent.pool, lent.table, lent.text, f, i, way, *list, at);
     state.at = v.at;
-    match v.left {
-        Some(left) => left.i,
+    match v.q {
+        Some(_) => v.i,
         None => e,
     }
 }
@@ -265,8 +265,8 @@ pub fn keep_rows(
     };
     let v = eval_rows::keep_rows(plan, lent.pool, lent.table, lent.text, f, i, *list, at);
     state.at = v.at;
-    match v.left {
-        Some(left) => left.i,
+    match v.q {
+        Some(_) => v.i,
         None => e,
     }
 }

@@ -296,7 +296,7 @@ pub fn push_picked(
             return Passed { i: j, at: a };
         }
         let r = eval_front::reach(plan, pool, table, text, j, rest);
-        let Some(m) = r.node else {
+        let Ok(m) = r.node else {
             j += 1;
             continue;
         };

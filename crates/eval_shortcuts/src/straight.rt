@@ -14,7 +14,7 @@ pub struct Passed {
 }
 
 // The place of the first segment from rest on that has not one name or index alone. It only says where to look.
-pub fn behind(plan: &[u8], rest: usize) -> usize
+pub(crate) fn behind(plan: &[u8], rest: usize) -> usize
     requires { (length plan.now ≤ max_plan) × (rest ≤ length plan.now) }
     ensures { result ≤ length plan.now + 4 }
 {

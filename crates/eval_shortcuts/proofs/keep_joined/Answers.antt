@@ -27,8 +27,8 @@ returns-then-tail-gt1 c = record { steady = steady_refl _ _; done_rows = rows_no
 pub keep-v-requires : goal.keep-v-requires
 keep-v-requires c = (rows_filter c.requires.asked c.requires.ask_rows c.tail_of-tail.ensures c.if-tail-gt1.false, c.in-Some.ensures)
 
-pub returns-in-Some-left : goal.returns-in-Some-left
-returns-in-Some-left c = record { steady = steady_wrote _ _ _ _ c.keep-v.auto.list refl; done_rows = rows_left c.requires.asked c.requires.ask_rows c.keep-v.ensures c.in-Some-left.is }
+pub returns-in-Some-q : goal.returns-in-Some-q
+returns-in-Some-q c = record { steady = steady_wrote _ _ _ _ c.keep-v.auto.list refl; done_rows = rows_left c.requires.asked c.requires.ask_rows c.keep-v.ensures c.in-Some-q.is }
 
 pub returns-in-None : goal.returns-in-None
 returns-in-None c = record { steady = steady_wrote _ _ _ _ c.keep-v.auto.list refl; done_rows = rows_all c.requires.asked c.requires.ask_rows c.keep-v.ensures (omega (arith, c.if-e-i.false)) c.in-None.is }

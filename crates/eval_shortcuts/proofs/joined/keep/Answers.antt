@@ -38,4 +38,4 @@ pub shape_of-list : goal.shape_of-list
 shape_of-list c = c.loop-j.invariant.same
 
 pub returns : goal.returns
-returns c = rows_end {f = c.args.f} c.loop-j.invariant c.loop-j-test.false
+returns c = rows_end {f = c.args.f} c.loop-j.invariant c.loop-j-test.false c.max.ensures

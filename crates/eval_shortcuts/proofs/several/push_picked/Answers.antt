@@ -33,10 +33,10 @@ pub overflow_add-pc-in-loop-j : goal.overflow_add-pc-in-loop-j
 overflow_add-pc-in-loop-j c = omega (arith, c.requires.picks.bound, c.requires.ask_along.given.few_p)
 
 pub pick-a-requires : goal.pick-a-requires
-pick-a-requires c = record { ask_pick = picked_asked c.requires.ask_along c.requires.picks c.loop-j.invariant.1 c.loop-j-test.true c.reach-r.ensures c.in-Some.is c.if-r-pc.false c.word16-n.ensures.is; n_in_bounds = omega (arith, c.loop-j.invariant.0, c.requires.picks.few, c.word16-n.ensures.is) }
+pick-a-requires c = record { ask_pick = picked_asked c.requires.ask_along c.requires.picks c.loop-j.invariant.1 c.loop-j-test.true c.reach-r.ensures c.in-Ok.is c.if-r-pc.false c.word16-n.ensures.is; n_in_bounds = omega (arith, c.loop-j.invariant.0, c.requires.picks.few, c.word16-n.ensures.is) }
 
 pub loop-j-preserved : goal.loop-j-preserved
-loop-j-preserved c = (c.pick-a.auto.near ∙ c.loop-j.invariant.0, picked_next c.requires.ask_along c.requires.picks c.loop-j.invariant.1 c.loop-j-test.true c.reach-r.ensures c.in-Some.is c.if-r-pc.false c.word16-n.ensures.is c.pick-a.auto.list c.pick-a.ensures)
+loop-j-preserved c = (c.pick-a.auto.near ∙ c.loop-j.invariant.0, picked_next c.requires.ask_along c.requires.picks c.loop-j.invariant.1 c.loop-j-test.true c.reach-r.ensures c.in-Ok.is c.if-r-pc.false c.word16-n.ensures.is c.pick-a.auto.list c.pick-a.ensures)
 
 pub loop-j-preserved-in_default : goal.loop-j-preserved-in_default
 loop-j-preserved-in_default c = (c.loop-j.invariant.0, picked_lost c.requires.ask_along c.requires.picks c.loop-j.invariant.1 c.loop-j-test.true c.reach-r.ensures c.in_default.is)
