@@ -1,6 +1,6 @@
 -- From what a function of evaluation has at hand to what the next one asks, and from what that one gives to what was asked; the invariants of the loops, and their
 -- turns. P is the plan, L the pool, S the table, X the text; v is what is lent. Assumes nothing.
-use Rattle.std.specs.Prelude.{Some, None, ℕ, ◌+◌, ◌-◌, ◌≤◌, ◌<◌, ◌≡◌, refl, List, get_or}
+use Rattle.std.specs.Prelude.{Some, None, Ok, Err, ℕ, ◌+◌, ◌-◌, ◌≤◌, ◌<◌, ◌≡◌, refl, List, get_or}
 use Rattle.std.proofs.Common.{sym, ap, ◌∙◌, subst, arith}
 use Rattle.std.proofs.Math.ListN.{length}
 use Rattle.std.specs.Borrow.{MutBor}
@@ -19,7 +19,8 @@ use Rattle.eval_laws.specs.Steps.{below, done_bound, segment_child, segment_desc
 use Rattle.eval_laws.specs.Ranges.{Range, child_at}
 use Rattle.eval_laws.specs.Items.{SegmentsAt, parts, is_end, segments_in}
 use Rattle.eval_items.specs.Ends.{AskSkip, DoneSkip, AskNext as AskPlace, DoneNext as DonePlace}
-use Rattle.eval_front.specs.Visits.{Query, AskPush, AskReach, DoneReach, DoneContainer}
+use Rattle.eval_front.specs.Visits.{Query, node_of, AskPush, AskReach, DoneReach, DoneContainer}
+use Rattle.eval_front.specs.Turns.{leads_in}
 use Rattle.eval_front.specs.Overs.{over_step, over_end, over_full, over_passed}
 use Rattle.eval_front.specs.Stands.{Standing, descendant_byte, standing_of, fore, final, some_alone, standing_in}
 use Rattle.eval_front.specs.Spans.{below_all}
@@ -62,27 +63,44 @@ module _ {v : Lent} {s : Numbers} {l : List ℕ} {node pc : ℕ} (a : Asked v s 
     reached_in = let y = d.front q.query.f q.query.k q.query.at in segments_in (plan_of v) (pool_of v) r.pc y.j y.g y.at
 
     -- it leads nowhere
-    pub segment_lost : r.node ≡ None → DoneSegment v node pc s l s l
-    segment_lost e = gives_none _ s l (λ x R σ. (d.front x.f x.k x.at).lost e (node_at (table_of v) (text_of v) R) σ)
+    pub segment_lost : {m : ℕ} → r.node ≡ Err m → DoneSegment v node pc s l s l
+    segment_lost {m} e = gives_none _ s l (λ x R σ. (d.front x.f x.k x.at).lost m e (node_at (table_of v) (text_of v) R) σ)
 
     -- to another segment
     abbrev onward : Query (plan_of v) (pool_of v) pc → Query (plan_of v) (pool_of v) r.pc
     onward x = let y = d.front x.f x.k x.at in record { f = y.g; k = y.j; at = y.at }
 
-    module _ {m : ℕ} (e : r.node ≡ Some m) where
-      -- to the end of the query
-      pub push_asked : AskPush (length l) (at_of s) m (cap_of s)
-      push_asked = record { room = a.room; wide = a.wide; small = a.small; number = omega (arith, d.node_in m e, a.given.tab.size.few) }
+    -- the node to which it leads, or the last that was reached
+    pub push_asked : AskPush (length l) (at_of s) (node_of r.node) (cap_of s)
+    push_asked = record { room = a.room; wide = a.wide; small = a.small; number = omega (arith, d.node_in, a.given.tab.size.few) }
 
+    module _ (n : get_or (plan_of v) r.pc 0 ≡ 0x0A → ⊥) where
+      pub onward_selectors : AskSelectors v (node_of r.node) r.pc
+      onward_selectors = record { node_in = d.node_in; query = onward q.query; going = n }
+
+      abbrev descends_at : (get_or (plan_of v) r.pc 0 ≡ 3 → ⊥) → Query (plan_of v) (pool_of v) r.pc → Descends (plan_of v) (pool_of v) r.pc
+      descends_at k x =
+          let z = (parted_at a.given.few_p x n).parts in
+          record { ss = z.ss; q = z.q; k = x.k; at = subst (λ (f : Segments). SegmentsAt (plan_of v) (pool_of v) r.pc x.k f) (z.is_descendant k) x.at }
+
+      pub onward_descent : (get_or (plan_of v) r.pc 0 ≡ 3 → ⊥) → AskDescent v (node_of r.node) r.pc
+      onward_descent k = record { node_in = d.node_in; descends = descends_at k (onward q.query) }
+
+    -- to a node
+    module _ {m : ℕ} (e : r.node ≡ Ok m) where
+      pub push_found : AskPush (length l) (at_of s) m (cap_of s)
+      push_found = subst (λ (x : ℕ). AskPush (length l) (at_of s) x (cap_of s)) (ap node_of e) push_asked
+
+      -- at the end of the query
       pub segment_ends : get_or (plan_of v) r.pc 0 ≡ 0x0A → (l' : List ℕ) (n : ℕ) → st (cap_of s) l' n ≡ push m (st (cap_of s) l (at_of s)) → DoneSegment v node pc s l (with_at s n) l'
       segment_ends z l' n p =
           gives_of _ s l (with_at s n) l'
           (λ x. let y = d.front x.f x.k x.at in
-          p ∙ segment_end (table_of v) (text_of v) a.given.tab y.g _ m (d.node_in m e) _ (is_end (plan_of v) r.pc y.j y.g y.at.holds z) ∙ y.found m e _ _)
+          p ∙ segment_end (table_of v) (text_of v) a.given.tab y.g _ m (leads_in d e) _ (is_end (plan_of v) r.pc y.j y.g y.at.holds z) ∙ y.found m e _ _)
 
       module _ (n : get_or (plan_of v) r.pc 0 ≡ 0x0A → ⊥) where
-        pub onward_selectors : AskSelectors v m r.pc
-        onward_selectors = record { node_in = d.node_in m e; query = onward q.query; going = n }
+        pub selectors_found : AskSelectors v m r.pc
+        selectors_found = subst (λ (x : ℕ). AskSelectors v x r.pc) (ap node_of e) (onward_selectors n)
 
         pub segment_child_done : get_or (plan_of v) r.pc 0 ≡ 3 → (s' : Numbers) (l' : List ℕ) → DoneSelectors v m r.pc s l s' l' → DoneSegment v node pc s l s' l'
         segment_child_done k s' l' g =
@@ -91,17 +109,12 @@ module _ {v : Lent} {s : Numbers} {l : List ℕ} {node pc : ℕ} (a : Asked v s 
             let z = (parted_at a.given.few_p (onward x) n).parts in
             segment_child z.ss z.q y.g _ _ σ (z.is_child k) ∙ y.found m e _ σ)
 
-        abbrev descends_at : (get_or (plan_of v) r.pc 0 ≡ 3 → ⊥) → Query (plan_of v) (pool_of v) r.pc → Descends (plan_of v) (pool_of v) r.pc
-        descends_at k x =
-            let z = (parted_at a.given.few_p x n).parts in
-            record { ss = z.ss; q = z.q; k = x.k; at = subst (λ (f : Segments). SegmentsAt (plan_of v) (pool_of v) r.pc x.k f) (z.is_descendant k) x.at }
-
-        pub onward_descent : (get_or (plan_of v) r.pc 0 ≡ 3 → ⊥) → AskDescent v m r.pc
-        onward_descent k = record { node_in = d.node_in m e; descends = descends_at k (onward q.query) }
+        pub descent_found : (get_or (plan_of v) r.pc 0 ≡ 3 → ⊥) → AskDescent v m r.pc
+        descent_found k = subst (λ (x : ℕ). AskDescent v x r.pc) (ap node_of e) (onward_descent n k)
 
         pub segment_descent_done : (get_or (plan_of v) r.pc 0 ≡ 3 → ⊥) → (s' : Numbers) (l' : List ℕ) → DoneDescent v m r.pc s l s' l' → DoneSegment v node pc s l s' l'
         segment_descent_done k s' l' g =
-            gives_as _ g (λ x. descends_at k (onward x))
+            gives_as _ g (λ x. descends_at n k (onward x))
             (λ x R σ. let y = d.front x.f x.k x.at in
             let z = (parted_at a.given.few_p (onward x) n).parts in
             segment_descendant z.ss z.q y.g _ _ σ (z.is_descendant k) ∙ y.found m e _ σ)

@@ -1,5 +1,5 @@
 -- A query in a filter's code: where it begins, that evaluation from there is what is asked for, and what the registers hold behind it. Assumes nothing.
-use Rattle.std.specs.Prelude.{Some, ℕ, ◌+◌, ◌≤◌, ◌<◌, ◌≡◌, refl, List, [], ◌∷◌, Bool as Bits, length, get_or}
+use Rattle.std.specs.Prelude.{Ok, ℕ, ◌+◌, ◌≤◌, ◌<◌, ◌≡◌, refl, List, [], ◌∷◌, Bool as Bits, length, get_or}
 use Rattle.std.proofs.Common.{ap, ◌∙◌, subst, arith}
 use Rattle.definition.specs.Limits.{max_int}
 use Rattle.definition.specs.Values.{Json}
@@ -93,6 +93,6 @@ nested_head S X tab from cap h l n f e =
 
 module _ (P L S X : List ℕ) (tab : Accepted S X) (from q : ℕ) (h : from < node_count S) (r : Reached) (d : DoneReach P L S X from (q + 1) r) where
   -- to where evaluation begins
-  pub walk_found : {m : ℕ} → r.node ≡ Some m → (cap : ℕ) (l : List ℕ) (n : ℕ) → ((g : Segments) (j : ℕ) → SegmentsAt P L r.pc j g → st cap l n ≡ go g (node_at S X from) (node_at S X m ∷ []) (st cap (0 ∷ []) 0))
+  pub walk_found : {m : ℕ} → r.node ≡ Ok m → (cap : ℕ) (l : List ℕ) (n : ℕ) → ((g : Segments) (j : ℕ) → SegmentsAt P L r.pc j g → st cap l n ≡ go g (node_at S X from) (node_at S X m ∷ []) (st cap (0 ∷ []) 0))
       → (f : Segments) (k : ℕ) → SegmentsAt P L (q + 1) k f → st cap l n ≡ go f (node_at S X from) (node_at S X from ∷ []) (st cap (0 ∷ []) 0)
   walk_found {m} e cap l n w f k a = let y = d.front f k a in w y.g y.j y.at ∙ y.found m e (node_at S X from) _

@@ -28,7 +28,7 @@ pub fn evaluate<'a>(
     ensures { DoneSegments cap plan.now pool.now table.now text.now root node pc list.old at list.new result }
 {
     let r = eval_front::front(plan, pool, table, text, node, pc);
-    let Some(m) = r.node else {
+    let Ok(m) = r.node else {
         return at;
     };
     let q = r.pc;

@@ -62,7 +62,7 @@ fn evaluate_segment(lent: &Lent, state: &mut State, list: &mut &mut [u32], node:
 {
     let plan = lent.plan;
     let r = eval_front::reach(plan, lent.pool, lent.table, lent.text, node, pc);
-    let Some(m) = r.node else {
+    let Ok(m) = r.node else {
         return;
     };
     let q = r.pc;
@@ -324,7 +324,7 @@ fn eval_filter(
 // call is told to its end, so that nothing is evaluated twice, and those behind it go by cells.
 #[cycle(evaluation)]
 fn next_kept(lent: &Lent, root: usize, i: usize, e: usize, p: usize, z: usize) -> Next
-    requires { AskNext lent.now root i e p z × (i ≤ e) }
+    requires { AskNext lent.now root i e p z }
     ensures { DoneNext lent.now root i e p z result.node result.call }
 {
     for j in i..e {
@@ -360,7 +360,7 @@ fn next_kept(lent: &Lent, root: usize, i: usize, e: usize, p: usize, z: usize) -
         }
     }
     Next {
-        node: e,
+        node: i.max(e),
         call: false,
         seen: false,
     }
@@ -462,7 +462,7 @@ fn eval_query(lent: &Lent, root: usize, node: usize, s: Regs) -> Regs
     let pc = r.pc;
     let z = plans::past_query(plan, pc);
     let mode = plan[z];
-    let Some(m) = r.node else {
+    let Ok(m) = r.node else {
         return answers::to_registers(table, text, s, mode, z, 0, 0);
     };
     if plan[pc] == END {

@@ -7,9 +7,10 @@ use native.Mathlib.Omega.{arith}
 use borrow.Author.Tests.{not-true, not-false}
 use Rattle.eval_laws.specs.Ranges.{range_of_lem, range_in}
 use Rattle.eval_asks.specs.Steady.{steady_refl, steady_then, steady_wrote, asked_later, going_asked, going_start}
-use Rattle.eval.specs.Calls.{here_push, here_ends, selector_room, parts_bound, parts_skip, selectors_start, selectors_asked, selectors_in, selectors_passed, selectors_again, selectors_done, selectors_next, selectors_room, descent_room, descent_selectors, descent_again, descent_ended, descent_done, child_of, segment_room, reach_asked, reached_in, segment_lost, push_asked, segment_ends, onward_selectors, segment_child_done, onward_descent, segment_descent_done}
+use Rattle.eval.specs.Calls.{here_push, here_ends, selector_room, parts_bound, parts_skip, selectors_start, selectors_asked, selectors_in, selectors_passed, selectors_again, selectors_done, selectors_next, selectors_room, descent_room, descent_selectors, descent_again, descent_ended, descent_done, child_of, segment_room, reach_asked, reached_in, segment_lost, push_found, segment_ends, selectors_found, segment_child_done, descent_found, segment_descent_done}
 use Rattle.eval_asks.specs.Kinds.{one_asked, rest_in, selector_absent, found_asked, selector_found, each_asked, wildcard_done, kept_after, kept_room, kind_filter, each_none, each_ended, numbers_asked, each_again, each_full, each_end, each_enters, slice_walk, placed_asked, placed_in, walked_asked, slice_ended, slice_done_all, place_in, place_near, places_again, places_full, places_end, filter_bound, filter_inside, rest_asked, next_asked, test_asked, kept_in_table, filter_done, filter_start, filter_end_all, filter_left, filter_full, filter_again, next_later, next_found, next_end, next_again}
 use Rattle.eval_laws.specs.Items.{segments_in}
+use Rattle.eval_front.specs.Turns.{leads_in}
 use Rattle.eval.specs.Alone.{enter_head, enter_selector, enter_done, wildcard_ends, query_bound}
 use Rattle.eval_asks.specs.Rows.{rows_given, rows_next, rows_then}
 use Rattle.eval.specs.Columns.{none_passed, next_met, code_near, kept_none, rest_here, goes_here, cells_first, cells_next, cells_filled, cell_within, cell_here, cells_full, cells_end, cells_out, cells_in, tell_start, later_less, turn_within, turn_place, turn_asked, turn_set}
@@ -414,7 +415,7 @@ eval_filter-overflow_add-p-3 t c = omega (arith, filter_bound c.requires.asked c
 
 -- eval_filter
 pub eval_filter-next_kept-v-requires : goal.eval_filter-next_kept-v-requires
-eval_filter-next_kept-v-requires t c = (omega (arith, c.decreases), (rows_next (c.keep_joined-k.ensures.steady, c.keep_joined-k.ensures.done_rows) (next_asked c.requires.asked c.requires.ask_selector c.requires.ask_kind c.word16.ensures c.first_child-i.ensures c.child_count-n.ensures _ (omega arith)), c.keep_joined-k.ensures.done_rows.high (omega arith)))
+eval_filter-next_kept-v-requires t c = (omega (arith, c.decreases), rows_next (c.keep_joined-k.ensures.steady, c.keep_joined-k.ensures.done_rows) (next_asked c.requires.asked c.requires.ask_selector c.requires.ask_kind c.word16.ensures c.first_child-i.ensures c.child_count-n.ensures _ (omega arith)))
 
 -- eval_filter
 pub eval_filter-loop-v-init : goal.eval_filter-loop-v-init
@@ -462,7 +463,7 @@ eval_filter-overflow_add-p-else-v-2 t c = omega (arith, filter_bound c.requires.
 
 -- eval_filter
 pub eval_filter-next_kept-v-requires-else-v-2 : goal.eval_filter-next_kept-v-requires-else-v-2
-eval_filter-next_kept-v-requires-else-v-2 t c = (omega (arith, c.decreases), (next_later (steady_then c.keep_joined-k.ensures.steady (steady_then c.loop-v.invariant.going.kept c.evaluate_segment.ensures.steady)) (next_asked c.requires.asked c.requires.ask_selector c.requires.ask_kind c.word16.ensures c.first_child-i.ensures c.child_count-n.ensures _ (omega (arith, c.loop-v.invariant.low, c.keep_joined-k.ensures.done_rows.low))), omega (arith, c.loop-v-test.true)))
+eval_filter-next_kept-v-requires-else-v-2 t c = (omega (arith, c.decreases), next_later (steady_then c.keep_joined-k.ensures.steady (steady_then c.loop-v.invariant.going.kept c.evaluate_segment.ensures.steady)) (next_asked c.requires.asked c.requires.ask_selector c.requires.ask_kind c.word16.ensures c.first_child-i.ensures c.child_count-n.ensures _ (omega (arith, c.loop-v.invariant.low, c.keep_joined-k.ensures.done_rows.low))))
 
 -- eval_filter
 pub eval_filter-loop-v-smaller : goal.eval_filter-loop-v-smaller
@@ -568,13 +569,13 @@ pub eval_query-to_registers-requires-then-plan-pc-eq-END : goal.eval_query-to_re
 eval_query-to_registers-requires-then-plan-pc-eq-END t c =
     let i = begins_in _ (get_or (plan_of c.args.lent.now) c.args.s.q 0) _ _ _ c.begins-from.ensures c.requires.within.root_in c.requires.within.node_in in
     let e = (here c.requires.ask_query).ends _ (past_of _ _ _ _ c.requires.within.tab _ _ i _ c.reach-r.ensures _ c.past_query-z.ensures) in
-    record { nodes = record { tab = c.requires.within.tab; inside = λ v. c.reach-r.ensures.node_in _ c.in-Some.is; few = omega arith }; place = e.0; small = omega (arith, e.1, c.requires.within.few_p) }
+    record { nodes = record { tab = c.requires.within.tab; inside = λ v. leads_in c.reach-r.ensures c.in-Ok.is; few = omega arith }; place = e.0; small = omega (arith, e.1, c.requires.within.few_p) }
 
 -- eval_query
 pub eval_query-returns-then-plan-pc-eq-END : goal.eval_query-returns-then-plan-pc-eq-END
 eval_query-returns-then-plan-pc-eq-END t c =
     let i = begins_in _ (get_or (plan_of c.args.lent.now) c.args.s.q 0) _ _ _ c.begins-from.ensures c.requires.within.root_in c.requires.within.node_in in
-    query_done _ _ _ _ _ _ _ _ c.begins-from.ensures c.requires.ask_query _ _ _ _ _ (past_of _ _ _ _ c.requires.within.tab _ _ i _ c.reach-r.ensures _ c.past_query-z.ensures) refl c.to_registers-then-plan-pc-eq-END.ensures (found_one _ _ _ _ c.requires.within.tab _ _ i _ c.reach-r.ensures _ c.in-Some.is c.if-plan-pc-eq-END.true (get_or (plan_of c.args.lent.now) c.past_query-z.result 0))
+    query_done _ _ _ _ _ _ _ _ c.begins-from.ensures c.requires.ask_query _ _ _ _ _ (past_of _ _ _ _ c.requires.within.tab _ _ i _ c.reach-r.ensures _ c.past_query-z.ensures) refl c.to_registers-then-plan-pc-eq-END.ensures (found_one _ _ _ _ c.requires.within.tab _ _ i _ c.reach-r.ensures _ c.in-Ok.is c.if-plan-pc-eq-END.true (get_or (plan_of c.args.lent.now) c.past_query-z.result 0))
 
 -- eval_query
 pub eval_query-evaluate_segment-requires : goal.eval_query-evaluate_segment-requires
@@ -583,7 +584,7 @@ eval_query-evaluate_segment-requires t c =
     let y = c.reach-r.ensures.front h.f h.k h.at in
     let i = begins_in _ (get_or (plan_of c.args.lent.now) c.args.s.q 0) _ _ _ c.begins-from.ensures c.requires.within.root_in c.requires.within.node_in in
     let m = cap_small _ (get_or (plan_of c.args.lent.now) c.past_query-z.result 0) c.cap_of-cap.ensures in
-    (omega (arith, h.inside, c.reach-r.ensures.later), (record { given = record { few_p = c.requires.within.few_p; few_l = c.requires.within.few_l; tab = c.requires.within.tab }; root_in = i; room = omega arith; wide = omega arith; small = omega arith }, record { node_in = c.reach-r.ensures.node_in _ c.in-Some.is; query = record { f = y.g; k = y.j; at = y.at } }))
+    (omega (arith, h.inside, c.reach-r.ensures.later), (record { given = record { few_p = c.requires.within.few_p; few_l = c.requires.within.few_l; tab = c.requires.within.tab }; root_in = i; room = omega arith; wide = omega arith; small = omega arith }, record { node_in = leads_in c.reach-r.ensures c.in-Ok.is; query = record { f = y.g; k = y.j; at = y.at } }))
 
 -- eval_query
 pub eval_query-bounds-places-0 : goal.eval_query-bounds-places-0
@@ -594,7 +595,7 @@ pub eval_query-overflow_cast-head : goal.eval_query-overflow_cast-head
 eval_query-overflow_cast-head t c =
     let h = here c.requires.ask_query in
     let i = begins_in _ (get_or (plan_of c.args.lent.now) c.args.s.q 0) _ _ _ c.begins-from.ensures c.requires.within.root_in c.requires.within.node_in in
-    let f = walk_found _ _ _ _ c.requires.within.tab _ _ i _ c.reach-r.ensures c.in-Some.is _ _ _ (λ g j a. c.evaluate_segment.ensures.done_segment.emits (record { f = g; k = j; at = a }) _ _ refl refl) in
+    let f = walk_found _ _ _ _ c.requires.within.tab _ _ i _ c.reach-r.ensures c.in-Ok.is _ _ _ (λ g j a. c.evaluate_segment.ensures.done_segment.emits (record { f = g; k = j; at = a }) _ _ refl refl) in
     let y = nested_head _ _ c.requires.within.tab _ _ i _ _ h.f (f h.f h.k h.at) in
     omega (arith, y, c.requires.within.tab.size.few)
 
@@ -604,7 +605,7 @@ eval_query-to_registers-requires-2 t c =
     let h = here c.requires.ask_query in
     let i = begins_in _ (get_or (plan_of c.args.lent.now) c.args.s.q 0) _ _ _ c.begins-from.ensures c.requires.within.root_in c.requires.within.node_in in
     let e = h.ends _ (past_of _ _ _ _ c.requires.within.tab _ _ i _ c.reach-r.ensures _ c.past_query-z.ensures) in
-    let w = walk_found _ _ _ _ c.requires.within.tab _ _ i _ c.reach-r.ensures c.in-Some.is _ _ _ (λ g j a. c.evaluate_segment.ensures.done_segment.emits (record { f = g; k = j; at = a }) _ _ refl refl) in
+    let w = walk_found _ _ _ _ c.requires.within.tab _ _ i _ c.reach-r.ensures c.in-Ok.is _ _ _ (λ g j a. c.evaluate_segment.ensures.done_segment.emits (record { f = g; k = j; at = a }) _ _ refl refl) in
     let f = nested_found _ _ _ _ c.requires.within.tab _ _ (get_or (plan_of c.args.lent.now) c.past_query-z.result 0) _ i c.cap_of-cap.ensures _ _ w in
     let y = f h.f h.k h.at in
     let n = y.number in
@@ -615,7 +616,7 @@ eval_query-to_registers-requires-2 t c =
 pub eval_query-returns : goal.eval_query-returns
 eval_query-returns t c =
     let i = begins_in _ (get_or (plan_of c.args.lent.now) c.args.s.q 0) _ _ _ c.begins-from.ensures c.requires.within.root_in c.requires.within.node_in in
-    let w = walk_found _ _ _ _ c.requires.within.tab _ _ i _ c.reach-r.ensures c.in-Some.is _ _ _ (λ g j a. c.evaluate_segment.ensures.done_segment.emits (record { f = g; k = j; at = a }) _ _ refl refl) in
+    let w = walk_found _ _ _ _ c.requires.within.tab _ _ i _ c.reach-r.ensures c.in-Ok.is _ _ _ (λ g j a. c.evaluate_segment.ensures.done_segment.emits (record { f = g; k = j; at = a }) _ _ refl refl) in
     let f = nested_found _ _ _ _ c.requires.within.tab _ _ (get_or (plan_of c.args.lent.now) c.past_query-z.result 0) _ i c.cap_of-cap.ensures _ _ w in
     query_done _ _ _ _ _ _ _ _ c.begins-from.ensures c.requires.ask_query _ _ _ _ _ (past_of _ _ _ _ c.requires.within.tab _ _ i _ c.reach-r.ensures _ c.past_query-z.ensures) refl c.to_registers-2.ensures f
 
@@ -673,45 +674,45 @@ evaluate_segment-bounds-plan-q t c = reached_in c.requires.asked c.requires.ask_
 
 -- evaluate_segment
 pub evaluate_segment-push-next-requires : goal.evaluate_segment-push-next-requires
-evaluate_segment-push-next-requires t c = push_asked c.requires.asked c.requires.ask_segment c.reach-r.ensures c.in-Some.is
+evaluate_segment-push-next-requires t c = push_found c.requires.asked c.requires.ask_segment c.reach-r.ensures c.in-Ok.is
 
 -- evaluate_segment
 pub evaluate_segment-returns-then-k-eq-END : goal.evaluate_segment-returns-then-k-eq-END
-evaluate_segment-returns-then-k-eq-END t c = record { steady = steady_wrote _ _ _ _ c.push-next.auto.list refl; done_segment = segment_ends c.requires.asked c.requires.ask_segment c.reach-r.ensures c.in-Some.is c.if-k-eq-END.true _ _ c.push-next.ensures }
+evaluate_segment-returns-then-k-eq-END t c = record { steady = steady_wrote _ _ _ _ c.push-next.auto.list refl; done_segment = segment_ends c.requires.asked c.requires.ask_segment c.reach-r.ensures c.in-Ok.is c.if-k-eq-END.true _ _ c.push-next.ensures }
 
 -- evaluate_segment
 pub evaluate_segment-apply_selectors-requires : goal.evaluate_segment-apply_selectors-requires
-evaluate_segment-apply_selectors-requires t c = (omega (arith, c.reach-r.ensures.later), (c.requires.asked, onward_selectors c.requires.asked c.requires.ask_segment c.reach-r.ensures c.in-Some.is c.if-k-eq-END.false))
+evaluate_segment-apply_selectors-requires t c = (omega (arith, c.reach-r.ensures.later), (c.requires.asked, selectors_found c.requires.asked c.requires.ask_segment c.reach-r.ensures c.in-Ok.is c.if-k-eq-END.false))
 
 -- evaluate_segment
 pub evaluate_segment-returns-then-k-eq-CHILD : goal.evaluate_segment-returns-then-k-eq-CHILD
-evaluate_segment-returns-then-k-eq-CHILD t c = record { steady = c.apply_selectors.ensures.steady; done_segment = segment_child_done c.requires.asked c.requires.ask_segment c.reach-r.ensures c.in-Some.is c.if-k-eq-END.false c.if-k-eq-CHILD.true _ _ c.apply_selectors.ensures.done_selectors }
+evaluate_segment-returns-then-k-eq-CHILD t c = record { steady = c.apply_selectors.ensures.steady; done_segment = segment_child_done c.requires.asked c.requires.ask_segment c.reach-r.ensures c.in-Ok.is c.if-k-eq-END.false c.if-k-eq-CHILD.true _ _ c.apply_selectors.ensures.done_selectors }
 
 -- evaluate_segment
 pub evaluate_segment-has_flats-requires : goal.evaluate_segment-has_flats-requires
 evaluate_segment-has_flats-requires t c =
-    let d = onward_descent c.requires.asked c.requires.ask_segment c.reach-r.ensures c.in-Some.is c.if-k-eq-END.false c.if-k-eq-CHILD.false in
+    let d = descent_found c.requires.asked c.requires.ask_segment c.reach-r.ensures c.in-Ok.is c.if-k-eq-END.false c.if-k-eq-CHILD.false in
     record { given = c.requires.asked.given; descends = d.descends }
 
 -- evaluate_segment
 pub evaluate_segment-descend_flats-requires : goal.evaluate_segment-descend_flats-requires
 evaluate_segment-descend_flats-requires t c =
-    let d = onward_descent c.requires.asked c.requires.ask_segment c.reach-r.ensures c.in-Some.is c.if-k-eq-END.false c.if-k-eq-CHILD.false in
+    let d = descent_found c.requires.asked c.requires.ask_segment c.reach-r.ensures c.in-Ok.is c.if-k-eq-END.false c.if-k-eq-CHILD.false in
     (omega (arith, c.reach-r.ensures.later, c.requires.asked.given.tab.depths _ d.node_in), (c.requires.asked, d))
 
 -- evaluate_segment
 pub evaluate_segment-returns-then-has_flats : goal.evaluate_segment-returns-then-has_flats
-evaluate_segment-returns-then-has_flats t c = record { steady = c.descend_flats.ensures.steady; done_segment = segment_descent_done c.requires.asked c.requires.ask_segment c.reach-r.ensures c.in-Some.is c.if-k-eq-END.false c.if-k-eq-CHILD.false _ _ c.descend_flats.ensures.done_descent }
+evaluate_segment-returns-then-has_flats t c = record { steady = c.descend_flats.ensures.steady; done_segment = segment_descent_done c.requires.asked c.requires.ask_segment c.reach-r.ensures c.in-Ok.is c.if-k-eq-END.false c.if-k-eq-CHILD.false _ _ c.descend_flats.ensures.done_descent }
 
 -- evaluate_segment
 pub evaluate_segment-recursive_descent-requires : goal.evaluate_segment-recursive_descent-requires
 evaluate_segment-recursive_descent-requires t c =
-    let d = onward_descent c.requires.asked c.requires.ask_segment c.reach-r.ensures c.in-Some.is c.if-k-eq-END.false c.if-k-eq-CHILD.false in
+    let d = descent_found c.requires.asked c.requires.ask_segment c.reach-r.ensures c.in-Ok.is c.if-k-eq-END.false c.if-k-eq-CHILD.false in
     (omega (arith, c.reach-r.ensures.later, c.requires.asked.given.tab.depths _ d.node_in), (c.requires.asked, d))
 
 -- evaluate_segment
 pub evaluate_segment-returns : goal.evaluate_segment-returns
-evaluate_segment-returns t c = record { steady = c.recursive_descent.ensures.steady; done_segment = segment_descent_done c.requires.asked c.requires.ask_segment c.reach-r.ensures c.in-Some.is c.if-k-eq-END.false c.if-k-eq-CHILD.false _ _ c.recursive_descent.ensures.done_descent }
+evaluate_segment-returns t c = record { steady = c.recursive_descent.ensures.steady; done_segment = segment_descent_done c.requires.asked c.requires.ask_segment c.reach-r.ensures c.in-Ok.is c.if-k-eq-END.false c.if-k-eq-CHILD.false _ _ c.recursive_descent.ensures.done_descent }
 
 -- next_kept
 pub next_kept-loop-j-init : goal.next_kept-loop-j-init
@@ -719,7 +720,7 @@ next_kept-loop-j-init t c = record { low = omega arith; high = λ h. h; passed =
 
 -- next_kept
 pub next_kept-eval_filter_expr-s-requires : goal.next_kept-eval_filter_expr-s-requires
-next_kept-eval_filter_expr-s-requires t c = (omega (arith, c.decreases), (record { few_p = c.requires.0.given.few_p; few_l = c.requires.0.given.few_l; tab = c.requires.0.given.tab; root_in = c.requires.0.root_in; node_in = omega (arith, c.loop-j-test.true, c.requires.0.range (omega (arith, c.loop-j.invariant.low, c.loop-j-test.true))) }, rest_start c.requires.0.test))
+next_kept-eval_filter_expr-s-requires t c = (omega (arith, c.decreases), (record { few_p = c.requires.given.few_p; few_l = c.requires.given.few_l; tab = c.requires.given.tab; root_in = c.requires.root_in; node_in = omega (arith, c.loop-j-test.true, c.requires.range (omega (arith, c.loop-j.invariant.low, c.loop-j-test.true))) }, rest_start c.requires.test))
 
 -- next_kept
 pub next_kept-returns-then-not-s : goal.next_kept-returns-then-not-s
@@ -727,7 +728,7 @@ next_kept-returns-then-not-s t c = next_met c.loop-j.invariant
 
 -- next_kept
 pub next_kept-eval_filter_expr-r-requires : goal.next_kept-eval_filter_expr-r-requires
-next_kept-eval_filter_expr-r-requires t c = (omega (arith, c.eval_filter_expr-s.ensures.later (code_near c.requires.0).0, c.decreases), (record { few_p = c.requires.0.given.few_p; few_l = c.requires.0.given.few_l; tab = c.requires.0.given.tab; root_in = c.requires.0.root_in; node_in = omega (arith, c.loop-j-test.true, c.requires.0.range (omega (arith, c.loop-j.invariant.low, c.loop-j-test.true))) }, rest_later c.eval_filter_expr-s.ensures c.requires.0.test))
+next_kept-eval_filter_expr-r-requires t c = (omega (arith, c.eval_filter_expr-s.ensures.later (code_near c.requires).0, c.decreases), (record { few_p = c.requires.given.few_p; few_l = c.requires.given.few_l; tab = c.requires.given.tab; root_in = c.requires.root_in; node_in = omega (arith, c.loop-j-test.true, c.requires.range (omega (arith, c.loop-j.invariant.low, c.loop-j-test.true))) }, rest_later c.eval_filter_expr-s.ensures c.requires.test))
 
 -- next_kept
 pub next_kept-returns-then-r : goal.next_kept-returns-then-r
@@ -751,7 +752,7 @@ next_kept-loop-j-preserved t c = next_again c.loop-j.invariant c.loop-j-test.tru
 
 -- next_kept
 pub next_kept-returns : goal.next_kept-returns
-next_kept-returns t c = next_end c.loop-j.invariant c.loop-j-test.false (c.loop-j.auto.j-end c.requires.1)
+next_kept-returns t c = next_end c.loop-j.invariant c.loop-j-test.false c.max.ensures
 
 -- recursive_descent
 pub recursive_descent-apply_selectors-requires : goal.recursive_descent-apply_selectors-requires
