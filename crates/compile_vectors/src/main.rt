@@ -7,12 +7,11 @@
 #![tactic(auto)]
 
 use program_console::input::Lines;
-use program_console::{output, rooms};
+use program_console::{input, output, rooms};
 use program_lines::WordError;
 use program_lines::words::Words;
 use std::alloc::Global;
 use std::io;
-use std::io::Read;
 
 // How much of the input is read.
 const INPUT_ROOM: u32 = 131072;
@@ -68,15 +67,15 @@ fn verdict_of_line(
     }
 }
 
-// The verdict on each line, and the counts.
+// The verdict on each line, and the counts. The input is read before anything is written.
 fn main(rt: HostRuntime) -> io::Result<()> {
     let alloc = rt.alloc();
     let mut plan = rooms::large_buffer();
     let mut pool = rooms::large_buffer();
     let mut count = 0u64;
     let mut other = 0u64;
-    let input = rt.reader().take(u64::from(INPUT_ROOM));
-    for line in Lines::new(alloc, input, INPUT_ROOM)? {
+    let input = input::first(alloc, &mut rt.reader(), INPUT_ROOM)?;
+    for line in Lines::new(alloc, input.as_slice(), INPUT_ROOM)? {
         let same = verdict_of_line(&rt, alloc, &line?, &mut plan, &mut pool)?;
         other = other.saturating_add(u64::from(!same));
         count = count.saturating_add(1);

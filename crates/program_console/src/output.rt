@@ -14,6 +14,10 @@ pub fn newline(rt: &impl Print) -> io::Result<()> {
     text(rt, b"\n")
 }
 
+pub fn number(rt: &impl Print, n: usize) -> io::Result<()> {
+    print!(rt; "{n}")
+}
+
 // A number behind a blank.
 pub fn next_number(rt: &impl Print, n: usize) -> io::Result<()> {
     print!(rt; " {n}")

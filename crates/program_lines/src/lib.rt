@@ -9,7 +9,7 @@ pub mod words;
 ghost use Rattle.std.specs.Prelude.{◌≡◌, ◌*◌, ◌<◌, ◌≤◌, length, IfOk, vec_len};
 ghost use Rattle.program_lines.specs.Words.{HasDigit, Pair, glyph as glyphOf, DecodedAs, Encoded, NumberAs};
 
-use std::alloc::{AllocFailed, Global};
+use std::alloc::{AllocError, AllocFailed, Global};
 
 // A number is read on while it is below this.
 const NUMBER_LIMIT: usize = 1000000000000000000;
@@ -26,6 +26,12 @@ pub enum WordError {
 
 impl<T: Drop> From<AllocFailed<T>> for WordError {
     fn from(_e: AllocFailed<T>) -> WordError {
+        WordError::OutOfMemory
+    }
+}
+
+impl From<AllocError> for WordError {
+    fn from(_e: AllocError) -> WordError {
         WordError::OutOfMemory
     }
 }
@@ -57,9 +63,8 @@ pub fn decode(alloc: Global, word: &[u8], room: usize) -> Result<Vec<u8>, WordEr
     ensures word { IfOk result (λ bytes. DecodedAs word.now bytes.items) }
     ensures room { IfOk result (λ bytes. vec_len bytes ≤ room) }
 {
-    let mut bytes = Vec::new(alloc);
     if word == b"-".as_slice() {
-        return Ok(bytes);
+        return Ok(Vec::new(alloc));
     }
     if word.is_empty() || word.len() % 2 != 0 {
         return Err(WordError::Bad);
@@ -67,6 +72,7 @@ pub fn decode(alloc: Global, word: &[u8], room: usize) -> Result<Vec<u8>, WordEr
     if room < word.len() / 2 {
         return Err(WordError::TooLong);
     }
+    let mut bytes = Vec::with_capacity(alloc, word.len() / 2)?;
     for i in 0..word.len() / 2 {
         bytes.push(pair(word[2 * i], word[2 * i + 1])?)?;
     }
