@@ -47,7 +47,8 @@ pub fn both(s: &[u8], at: usize, x: u8, y: u8) -> bool
 pub fn is_blank(c: u8) -> bool
     ensures { result ≡ is_blank c }
 {
-    matches!(c, b' ' | b'\t' | b'\n' | b'\r')
+    // Not `matches!`: of that LLVM makes four comparisons for each byte, of this a test of one bit behind one comparison.
+    c == b' ' || c == b'\t' || c == b'\n' || c == b'\r'
 }
 
 // The end of the bytes that pass a test and stand from `at` on.
@@ -68,7 +69,11 @@ pub fn skip_blanks(s: &[u8], at: usize) -> usize
     requires { at ≤ length s.now }
     ensures { Skipped s.now at result }
 {
-    run_end(s, at, is_blank)
+    // Most places have no blank, so the first byte is looked at before there is a loop.
+    if at < s.len() && is_blank(s[at]) {
+        return run_end(s, at + 1, is_blank);
+    }
+    at
 }
 
 // Whether a byte lies between two bounds.
@@ -81,11 +86,11 @@ fn between(lo: u8, hi: u8, c: u8) -> bool
 pub fn is_name_byte(c: u8) -> bool
     ensures { result ≡ is_name_byte c }
 {
-    between(b'a', b'z', c)
-        || between(b'A', b'Z', c)
-        || between(b'0', b'9', c)
-        || c == b'_'
-        || 128 <= c
+    // Letters by themselves: in one chain with the others LLVM tests them last.
+    if between(b'a', b'z', c) || between(b'A', b'Z', c) {
+        return true;
+    }
+    between(b'0', b'9', c) || c == b'_' || 128 <= c
 }
 
 // The end of the name bytes that stand from `at` on.
@@ -117,7 +122,11 @@ pub fn read_name(s: &[u8], at: usize) -> Result<usize, usize>
 pub fn is_word_byte(c: u8) -> bool
     ensures { result ≡ is_function_char c }
 {
-    between(b'a', b'z', c) || c == b'_' || between(b'0', b'9', c)
+    // Letters by themselves, as in `is_name_byte`.
+    if between(b'a', b'z', c) {
+        return true;
+    }
+    c == b'_' || between(b'0', b'9', c)
 }
 
 // The end of the characters of a function-name that stand from `at` on.
