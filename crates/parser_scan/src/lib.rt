@@ -47,7 +47,7 @@ pub fn both(s: &[u8], at: usize, x: u8, y: u8) -> bool
 pub fn is_blank(c: u8) -> bool
     ensures { result ≡ is_blank c }
 {
-    // Not `matches!`: of that LLVM makes four comparisons for each byte, of this a test of one bit behind one comparison.
+    // Not `matches!`: of that LLVM makes up to three comparisons for each byte, of this one, and behind it a test of one bit.
     c == b' ' || c == b'\t' || c == b'\n' || c == b'\r'
 }
 
@@ -122,11 +122,7 @@ pub fn read_name(s: &[u8], at: usize) -> Result<usize, usize>
 pub fn is_word_byte(c: u8) -> bool
     ensures { result ≡ is_function_char c }
 {
-    // Letters by themselves, as in `is_name_byte`.
-    if between(b'a', b'z', c) {
-        return true;
-    }
-    c == b'_' || between(b'0', b'9', c)
+    between(b'a', b'z', c) || c == b'_' || between(b'0', b'9', c)
 }
 
 // The end of the characters of a function-name that stand from `at` on.
