@@ -29,8 +29,8 @@ pub fn copy_plain(s: &[u8], at: usize, out: &mut [u8], len: usize) -> usize
     requires { (at ≤ length s.now) × (len + (length s.now - at) ≤ length out.old) }
     ensures { Copied s.now at out.old len out.new result }
 {
-    // An escape may stand right behind another, so the first byte is looked at before there is a loop.
-    if at < s.len() && !is_plain(s[at]) {
+    // An escape may stand right behind another, so a backslash is looked for before there is a loop.
+    if at < s.len() && s[at] == b'\\' {
         return at;
     }
     for i in at..s.len() {
